@@ -1,0 +1,73 @@
+-- What stands at an element of a node's buffers ("Row i .. reads bitmap bit first bit + i (no bitmap: not null) and
+-- element offset + i").
+use mathlib.Core.Bool.{Bool, cond, not, _||_}
+use mathlib.Core.List.{List}
+use Prim.Native.Nat.{ℕ, suc, _+_, _*_}
+use lib.Dec.{eqb, leb, ltb}
+use Rattle.image.specs.Ranges.{first}
+use Rattle.image.specs.Bytes.{byteAt, numberAt, bitAt}
+use Rattle.image.specs.Record.{codeOf, idOf, p1Of, offsetOf, hasBitmap, bitmapPlace, firstBit, firstChild, childCount, firstBuffer, bufferCount, bufferPlace, bufferLength, lengthOf}
+use Rattle.image.specs.TypeCode.{widthOf}
+
+-- row i of node k is not null: its bitmap bit is 1, or there is no bitmap
+unfoldable pub valid : List ℕ → ℕ → ℕ → Bool
+valid s k i = not (hasBitmap s k) || bitAt s (bitmapPlace s k) (firstBit s k + i)
+
+-- the width of an element of node k's first buffer
+unfoldable pub elementWidth : List ℕ → ℕ → ℕ
+elementWidth s k = widthOf (codeOf s k) (p1Of s k)
+
+-- where element j of the first buffer of node k starts
+unfoldable pub elementPlace : List ℕ → ℕ → ℕ → ℕ
+elementPlace s k j = bufferPlace s k 0 + j * elementWidth s k
+
+-- element j of the first buffer, as a number: an offset of text, binary, List, LargeList, Map or a list view, a
+-- Dictionary's key, a run end
+unfoldable pub elementAt : List ℕ → ℕ → ℕ → ℕ
+elementAt s k j = numberAt (elementWidth s k) s (elementPlace s k j)
+
+-- a list view's size: element j of the second buffer, as wide as its offset
+unfoldable pub sizeAt : List ℕ → ℕ → ℕ → ℕ
+sizeAt s k j = numberAt (elementWidth s k) s (bufferPlace s k 1 + j * elementWidth s k)
+
+-- a union's type id: byte j of the first buffer
+unfoldable pub typeIdAt : List ℕ → ℕ → ℕ → ℕ
+typeIdAt s k j = byteAt s (bufferPlace s k 0 + j)
+
+-- a dense union's offset: the i32 numbered j of the second buffer
+unfoldable pub denseOffsetAt : List ℕ → ℕ → ℕ → ℕ
+denseOffsetAt s k j = numberAt 4 s (bufferPlace s k 1 + j * 4)
+
+-- where node k's children end, as a node number
+unfoldable pub childEnd : List ℕ → ℕ → ℕ
+childEnd s k = firstChild s k + childCount s k
+
+-- the child of union k that has the type id, or the children's end where none has
+unfoldable pub childWithId : List ℕ → ℕ → ℕ → ℕ
+childWithId s k id = first (λ c. eqb (idOf s c) id) (firstChild s k) (childCount s k)
+
+-- The parts of the 16-byte view at a place: its length; the place of its first four bytes of data, or of all of them
+-- where there are at most 12; the number of its data buffer; the offset in it.
+abbrev pub inlineLength : ℕ
+inlineLength = 12
+
+unfoldable pub viewLength : List ℕ → ℕ → ℕ
+viewLength s v = numberAt 4 s v
+
+unfoldable pub viewBuffer : List ℕ → ℕ → ℕ
+viewBuffer s v = numberAt 4 s (v + 8)
+
+unfoldable pub viewOffset : List ℕ → ℕ → ℕ
+viewOffset s v = numberAt 4 s (v + 12)
+
+-- where the bytes of the view at v stand: in the view itself, or in the data buffer, which comes after the views' own
+unfoldable pub viewData : List ℕ → ℕ → ℕ → ℕ
+viewData s k v = cond (leb (viewLength s v) inlineLength) (v + 4) (bufferPlace s k (1 + viewBuffer s v) + viewOffset s v)
+
+-- run end i, counted from 0 within the first child of run node k
+unfoldable pub runEndAt : List ℕ → ℕ → ℕ → ℕ
+runEndAt s k i = elementAt s (firstChild s k) (offsetOf s (firstChild s k) + i)
+
+-- "the values row numbered as the first run end above offset + i", for element j = offset + i
+unfoldable pub runAt : List ℕ → ℕ → ℕ → ℕ
+runAt s k j = first (λ r. ltb j (runEndAt s k r)) 0 (lengthOf s (firstChild s k))

@@ -1,0 +1,11 @@
+pub mod Ranges
+pub mod Bytes
+pub mod Record
+pub mod TypeCode
+pub mod Element
+pub mod Faults
+pub mod Types
+pub mod Row
+pub mod Equality
+pub mod RowBytes
+pub mod Answers

@@ -1,0 +1,4 @@
+// An image of Arrow columns: its numbers, records, buffers and type codes.
+// What an image means stands in specs/.
+pub mod answer;
+pub mod type_code;
