@@ -7,7 +7,7 @@ use lib.Dec.{eqb, leb, ltb}
 use Rattle.image.specs.Ranges.{first}
 use Rattle.image.specs.Bytes.{byteAt, numberAt, bitAt}
 use Rattle.image.specs.Record.{codeOf, idOf, p1Of, offsetOf, hasBitmap, bitmapPlace, firstBit, firstChild, childCount, firstBuffer, bufferCount, bufferPlace, bufferLength, lengthOf}
-use Rattle.image.specs.TypeCode.{widthOf}
+use Rattle.image.specs.TypeCode.{integerWidth, widthOf}
 
 -- row i of node k is not null: its bitmap bit is 1, or there is no bitmap
 unfoldable pub valid : List ℕ → ℕ → ℕ → Bool
@@ -21,8 +21,7 @@ elementWidth s k = widthOf (codeOf s k) (p1Of s k)
 unfoldable pub elementPlace : List ℕ → ℕ → ℕ → ℕ
 elementPlace s k j = bufferPlace s k 0 + j * elementWidth s k
 
--- element j of the first buffer, as a number: an offset of text, binary, List, LargeList, Map or a list view, a
--- Dictionary's key, a run end
+-- element j of the first buffer, as a number: an offset of text, binary, a list kind or Map, or a Dictionary's key
 unfoldable pub elementAt : List ℕ → ℕ → ℕ → ℕ
 elementAt s k j = numberAt (elementWidth s k) s (elementPlace s k j)
 
@@ -64,9 +63,13 @@ viewOffset s v = numberAt 4 s (v + 12)
 unfoldable pub viewData : List ℕ → ℕ → ℕ → ℕ
 viewData s k v = cond (leb (viewLength s v) inlineLength) (v + 4) (bufferPlace s k (1 + viewBuffer s v) + viewOffset s v)
 
+-- the width of the run ends of run node k, integers of the first child's code
+unfoldable pub runEndWidth : List ℕ → ℕ → ℕ
+runEndWidth s k = integerWidth (codeOf s (firstChild s k))
+
 -- run end i, counted from 0 within the first child of run node k
 unfoldable pub runEndAt : List ℕ → ℕ → ℕ → ℕ
-runEndAt s k i = elementAt s (firstChild s k) (offsetOf s (firstChild s k) + i)
+runEndAt s k i = numberAt (runEndWidth s k) s (bufferPlace s (firstChild s k) 0 + (offsetOf s (firstChild s k) + i) * runEndWidth s k)
 
 -- "the values row numbered as the first run end above offset + i", for element j = offset + i
 unfoldable pub runAt : List ℕ → ℕ → ℕ → ℕ

@@ -13,7 +13,7 @@ use Rattle.image.specs.Ranges.{any, every, first, rises}
 use Rattle.image.specs.Bytes.{byteAt, numberAt}
 use Rattle.image.specs.Record.{nodeCount, bufferTotal, tablesEnd, codeOf, flagsOf, idOf, nameLength, p1Of, p2Of, lengthOf, offsetOf, namePlace, bitmapPlace, bitmapLength, firstBit, firstChild, childCount, firstBuffer, bufferCount, hasBitmap, elementsOf, childStart, bufferStart, bufferPlace, bufferLength}
 use Rattle.image.specs.TypeCode.{layoutOf, p1Fits, p2Fits, isUnion, keySigned, signBit, takesBitmap, childRule, bufferRule, counts}
-use Rattle.image.specs.Element.{valid, elementWidth, elementPlace, elementAt, sizeAt, typeIdAt, denseOffsetAt, childEnd, childWithId, inlineLength, viewLength, viewBuffer, viewOffset, viewData, runEndAt}
+use Rattle.image.specs.Element.{valid, elementWidth, elementPlace, elementAt, sizeAt, typeIdAt, denseOffsetAt, childEnd, childWithId, inlineLength, viewLength, viewBuffer, viewOffset, viewData, runEndWidth, runEndAt}
 
 -- 10: "image shorter than header and tables, longer than the maximum, or n or m out of range"
 unfoldable pub fault10 : List ℕ → Bool
@@ -219,7 +219,7 @@ viewFault s k v = cond (leb (viewLength s v) inlineLength) (padded s v) (strayed
 
 -- "run ends, over all rows of their child, not positive and strictly rising", as signed numbers of their width
 unfoldable pub runEndsRise : List ℕ → ℕ → Bool
-runEndsRise s k = rises 1 (runEndAt s k) (signBit (elementWidth s (firstChild s k)) - 1) 1 0 (lengthOf s (firstChild s k))
+runEndsRise s k = rises 1 (runEndAt s k) (signBit (runEndWidth s k) - 1) 1 0 (lengthOf s (firstChild s k))
 
 -- "or last below e (none: e must be 0)"
 unfoldable pub runEndsShort : List ℕ → ℕ → Bool

@@ -120,10 +120,13 @@ entryOf code = getD entries code (entry Null 0 0 0)
 unfoldable pub layoutOf : ℕ → Layout
 layoutOf code = entryOf code .layout
 
--- the width of an element of the first buffer: FixedSizeBinary has p1 bytes, a Dictionary's key is as wide as the
--- integer of code p1
+-- the width of an integer of that code, where only integers stand: 1 for 2 and 6, 2 for 3 and 7, 4 for 4 and 8, else 8
+unfoldable pub integerWidth : ℕ → ℕ
+integerWidth code = cond (eqb code 2 || eqb code 6) 1 (cond (eqb code 3 || eqb code 7) 2 (cond (eqb code 4 || eqb code 8) 4 8))
+
+-- the width of an element of the first buffer: FixedSizeBinary has p1 bytes, a Dictionary's key is an integer of code p1
 unfoldable pub widthOf : ℕ → ℕ → ℕ
-widthOf code p1 = cond (eqb code 30) p1 (cond (eqb code 41) (entryOf p1 .width) (entryOf code .width))
+widthOf code p1 = cond (eqb code 30) p1 (cond (eqb code 41) (integerWidth p1) (entryOf code .width))
 
 -- "p1, p2 (i32), 0 where unused": p1 lies in its code's range
 unfoldable pub p1Fits : ℕ → ℕ → Bool
