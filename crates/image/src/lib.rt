@@ -2,5 +2,6 @@
 // What an image means stands in specs/.
 pub mod answer;
 pub mod bytes;
+pub mod element;
 pub mod record;
 pub mod type_code;
