@@ -2,7 +2,7 @@
 -- node has a fault of that number, and the answer of the image check.
 use mathlib.Core.Bool.{Bool, true, false, cond, not, _&&_, _||_}
 use mathlib.Core.List.{List}
-use Prim.Native.Nat.{ℕ, zero, suc, _+_, _*_, _-_, _%_, _^_}
+use Prim.Native.Nat.{ℕ, zero, suc, _+_, _*_, _-_, _%_, _^_, min}
 use lib.ListN.{length}
 use lib.Dec.{eqb, leb, ltb}
 use Rattle.image.specs.declared.answer.Checked.{Checked}
@@ -34,11 +34,12 @@ fault11 s k =
     || not (p2Fits (codeOf s k) (p2Of s k))
     || (hasBitmap s k && not (takesBitmap (layoutOf (codeOf s k))))
 
--- "Depth at most 16, the root being 1": the nodes of depth d and less are those numbered below levelEnd s d. Children
--- are numbered in the order of their parents, so these are the root and the children of all nodes of depth d - 1 and less.
+-- "Depth at most 16, the root being 1": of the n nodes those of depth d and less are numbered below levelEnd s d.
+-- Children are numbered in the order of their parents, so these are the root and the children of all nodes of depth
+-- d - 1 and less.
 unfoldable pub levelEnd : List ℕ → ℕ → ℕ
 levelEnd s zero = 0
-levelEnd s (suc d) = childStart s (levelEnd s d)
+levelEnd s (suc d) = min (childStart s (levelEnd s d)) (nodeCount s)
 
 abbrev pub maxDepth : ℕ
 maxDepth = 16

@@ -8,7 +8,7 @@ ghost use mathlib.Core.Path.{_≡_};
 ghost use Prim.Native.Nat.{_+_, _≤_};
 ghost use Rattle.image.specs.Bytes.{byteAt, numberAt};
 ghost use Rattle.image.specs.Reads.{Read};
-ghost use Rattle.image.specs.Record.{nodeCount, bufferTotal, recordPlace, entryPlace, codeOf, flagsOf, idOf, nameLength, p1Of, p2Of, lengthOf, offsetOf, namePlace, bitmapPlace, bitmapLength, firstBit, firstChild, childCount, firstBuffer, bufferCount, nullable, hasBitmap, elementsOf, bufferPlace, bufferLength};
+ghost use Rattle.image.specs.Record.{nodeCount, bufferTotal, recordPlace, entryPlace, codeOf, flagsOf, idOf, nameLength, p1Of, p2Of, lengthOf, offsetOf, namePlace, bitmapPlace, bitmapLength, firstBit, firstChild, childCount, firstBuffer, bufferCount, nullable, hasBitmap, elementsOf, bufferPlace, bufferLength, tablesEnd};
 
 // The sizes of the header, of a node's record and of a buffer's entry.
 const HEADER_SIZE: usize = 4;
@@ -225,4 +225,11 @@ pub fn buffer_length(image: &[u8], node: u32, j: u32) -> usize
     ensures { λ r. ⌜ Read (bufferLength (now (image .entry)) node j) 32 r ⌝ }
 {
     le32(image, node_entry(image, node, j) + 4)
+}
+
+// The length of header and tables.
+pub fn tables_end(image: &[u8]) -> usize
+    ensures { λ r. ⌜ Read (tablesEnd (now (image .entry))) 40 r ⌝ }
+{
+    entry_place(image, buffer_total(image) as usize)
 }
