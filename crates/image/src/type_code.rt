@@ -317,7 +317,7 @@ impl TypeCode {
         match code {
             TypeCode::DECIMAL32..=TypeCode::DECIMAL256 => 1,
             TypeCode::TIME64 => 2,
-            TypeCode::DICTIONARY => 2,
+            TypeCode::DICTIONARY => TypeCode::INT8 as u32,
             _ => 0,
         }
     }
@@ -335,7 +335,7 @@ impl TypeCode {
             TypeCode::TIME64..=TypeCode::DURATION => 3,
             TypeCode::FIXED_SIZE_BINARY => TypeCode::LARGEST_SIZE,
             TypeCode::FIXED_SIZE_LIST => TypeCode::LARGEST_SIZE,
-            TypeCode::DICTIONARY => 9,
+            TypeCode::DICTIONARY => TypeCode::UINT64 as u32,
             TypeCode::MAP => 1,
             _ => 0,
         }

@@ -3,8 +3,6 @@
 use borrow.Author.Needs.{needs}
 use Rattle.image.proofs.type_code.Count.allows.Statement.{statement}
 use Rattle.image.proofs.type_code.Count.allows.Tie as tie
-use Rattle.image.proofs.type_code.Count.allows.Reads as reads
-use Rattle.image.proofs.type_code.Count.allows.Lts as lts
 
 enum-known-self : tie.Need-enum-known-self
 enum-known-self c = search needs

@@ -8,9 +8,6 @@ use Rattle.image.specs.TypeCode.{bufferRule}
 use Rattle.image.proofs.CodeTable.{at-layouts}
 use Rattle.image.proofs.type_code.TypeCode.buffers.Statement.{statement}
 use Rattle.image.proofs.type_code.TypeCode.buffers.Tie as tie
-use Rattle.image.proofs.type_code.TypeCode.buffers.Reads as reads
-use Rattle.image.proofs.type_code.TypeCode.buffers.Lts as lts
-use Rattle.image.proofs.type_code.TypeCode.layout.Reads as layout-reads
 
 layout-requires : tie.Need-layout-requires
 layout-requires c κs = search needs

@@ -6,8 +6,6 @@ use mathlib.Core.Logic.{⊎-elim}
 use Rattle.image.specs.TypeCode.{integerWidth}
 use Rattle.image.proofs.type_code.TypeCode.integer_width.Statement.{statement}
 use Rattle.image.proofs.type_code.TypeCode.integer_width.Tie as tie
-use Rattle.image.proofs.type_code.TypeCode.integer_width.Reads as reads
-use Rattle.image.proofs.type_code.TypeCode.integer_width.Lts as lts
 
 cast-if1 : tie.Need-cast-if1
 cast-if1 c = search needs

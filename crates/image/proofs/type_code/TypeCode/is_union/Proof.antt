@@ -8,8 +8,6 @@ use mathlib.Core.Bool.{true, false}
 use Rattle.image.specs.TypeCode.{isUnion}
 use Rattle.image.proofs.type_code.TypeCode.is_union.Statement.{statement}
 use Rattle.image.proofs.type_code.TypeCode.is_union.Tie as tie
-use Rattle.image.proofs.type_code.TypeCode.is_union.Reads as reads
-use Rattle.image.proofs.type_code.TypeCode.is_union.Lts as lts
 
 returns : tie.Need-returns
 unfolding isUnion

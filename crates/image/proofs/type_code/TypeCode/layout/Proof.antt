@@ -10,8 +10,6 @@ use Rattle.image.specs.TypeCode.{entries, entryOf, layoutOf}
 use Rattle.image.specs.declared.type_code.Layout.the-variants.{Null, FixedWidth, VariableSize, View, List as Lists, ListView}
 use Rattle.image.proofs.type_code.TypeCode.layout.Statement.{statement}
 use Rattle.image.proofs.type_code.TypeCode.layout.Tie as tie
-use Rattle.image.proofs.type_code.TypeCode.layout.Reads as reads
-use Rattle.image.proofs.type_code.TypeCode.layout.Lts as lts
 
 -- the codes that have an arm of their own, the last arm first
 abbrev single : List ℕ

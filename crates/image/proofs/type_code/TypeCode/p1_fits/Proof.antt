@@ -5,10 +5,6 @@ use borrow.Author.Tests.{le-leb, lt-leb}
 use Rattle.image.specs.TypeCode.{p1Fits}
 use Rattle.image.proofs.type_code.TypeCode.p1_fits.Statement.{statement}
 use Rattle.image.proofs.type_code.TypeCode.p1_fits.Tie as tie
-use Rattle.image.proofs.type_code.TypeCode.p1_fits.Reads as reads
-use Rattle.image.proofs.type_code.TypeCode.p1_fits.Lts as lts
-use Rattle.image.proofs.type_code.TypeCode.p1_low.Reads as p1-low-reads
-use Rattle.image.proofs.type_code.TypeCode.p1_high.Reads as p1-high-reads
 
 p1-low-requires : tie.Need-p1-low-requires
 p1-low-requires c κs = search needs

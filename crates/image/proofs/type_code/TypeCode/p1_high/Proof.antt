@@ -9,12 +9,13 @@ use Rattle.image.proofs.CodeTable.{constant}
 use Rattle.image.specs.TypeCode.{entries, entryOf}
 use Rattle.image.proofs.type_code.TypeCode.p1_high.Statement.{statement}
 use Rattle.image.proofs.type_code.TypeCode.p1_high.Tie as tie
-use Rattle.image.proofs.type_code.TypeCode.p1_high.Reads as reads
-use Rattle.image.proofs.type_code.TypeCode.p1_high.Lts as lts
 
 -- the codes that have an arm of their own, the last arm first
 abbrev single : List ℕ
 single = 42 ∷ 41 ∷ 37 ∷ 30 ∷ 19 ∷ 18 ∷ 17 ∷ 16 ∷ 15 ∷ []
+
+cast-result : tie.Need-cast-result
+cast-result c = search needs
 
 returns : tie.Need-returns
 unfolding entryOf entries
@@ -65,4 +66,4 @@ unfolding entryOf entries
 returns-12 c = constant single 0 (λ (k : ℕ). entryOf k .high) 23 233 refl (c .before .before .before .args .code) (omega arith) (omega arith) (c .before .before .match .rest)
 
 pub p1-high-spec : {M : Type 1} → statement M
-p1-high-spec = tie.close (tie.spec returns returns-2 returns-3 returns-4 returns-5 returns-6 returns-7 returns-8 returns-9 returns-10 returns-11 returns-12)
+p1-high-spec = tie.close (tie.spec cast-result returns returns-2 returns-3 returns-4 returns-5 returns-6 returns-7 returns-8 returns-9 returns-10 returns-11 returns-12)

@@ -9,12 +9,13 @@ use Rattle.image.proofs.CodeTable.{constant}
 use Rattle.image.specs.TypeCode.{entries, entryOf}
 use Rattle.image.proofs.type_code.TypeCode.p1_low.Statement.{statement}
 use Rattle.image.proofs.type_code.TypeCode.p1_low.Tie as tie
-use Rattle.image.proofs.type_code.TypeCode.p1_low.Reads as reads
-use Rattle.image.proofs.type_code.TypeCode.p1_low.Lts as lts
 
 -- the codes that have an arm of their own, the last arm first
 abbrev single : List ℕ
 single = 41 ∷ 20 ∷ []
+
+cast-result : tie.Need-cast-result
+cast-result c = search needs
 
 returns : tie.Need-returns
 unfolding entryOf entries
@@ -37,4 +38,4 @@ unfolding entryOf entries
 returns-5 c = constant single 0 (λ (k : ℕ). entryOf k .low) 19 237 refl (c .before .before .before .args .code) (omega arith) (omega arith) (c .before .before .match .rest)
 
 pub p1-low-spec : {M : Type 1} → statement M
-p1-low-spec = tie.close (tie.spec returns returns-2 returns-3 returns-4 returns-5)
+p1-low-spec = tie.close (tie.spec cast-result returns returns-2 returns-3 returns-4 returns-5)

@@ -11,8 +11,6 @@ use Rattle.image.specs.TypeCode.{isDecimal, p2Fits}
 use Rattle.image.proofs.CodeTable.{constant}
 use Rattle.image.proofs.type_code.TypeCode.p2_fits.Statement.{statement}
 use Rattle.image.proofs.type_code.TypeCode.p2_fits.Tie as tie
-use Rattle.image.proofs.type_code.TypeCode.p2_fits.Reads as reads
-use Rattle.image.proofs.type_code.TypeCode.p2_fits.Lts as lts
 
 decimal : (code : ℕ) → 15 ≤ code → code < 19 → true ≡ isDecimal code
 unfolding isDecimal

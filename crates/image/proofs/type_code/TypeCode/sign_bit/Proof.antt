@@ -8,8 +8,6 @@ use Rattle.image.specs.TypeCode.{signBit}
 use Rattle.image.proofs.CodeTable.{agree}
 use Rattle.image.proofs.type_code.TypeCode.sign_bit.Statement.{statement}
 use Rattle.image.proofs.type_code.TypeCode.sign_bit.Tie as tie
-use Rattle.image.proofs.type_code.TypeCode.sign_bit.Reads as reads
-use Rattle.image.proofs.type_code.TypeCode.sign_bit.Lts as lts
 
 returns : tie.Need-returns
 unfolding signBit

@@ -8,9 +8,6 @@ use Rattle.image.specs.TypeCode.{takesBitmap}
 use Rattle.image.proofs.CodeTable.{at-layouts}
 use Rattle.image.proofs.type_code.TypeCode.takes_bitmap.Statement.{statement}
 use Rattle.image.proofs.type_code.TypeCode.takes_bitmap.Tie as tie
-use Rattle.image.proofs.type_code.TypeCode.takes_bitmap.Reads as reads
-use Rattle.image.proofs.type_code.TypeCode.takes_bitmap.Lts as lts
-use Rattle.image.proofs.type_code.TypeCode.layout.Reads as layout-reads
 
 layout-requires : tie.Need-layout-requires
 layout-requires c κs = search needs

@@ -11,9 +11,6 @@ use Rattle.image.specs.TypeCode.{entries, entryOf, widthOf}
 use Rattle.image.proofs.CodeTable.{agree, constant}
 use Rattle.image.proofs.type_code.TypeCode.width.Statement.{statement}
 use Rattle.image.proofs.type_code.TypeCode.width.Tie as tie
-use Rattle.image.proofs.type_code.TypeCode.width.Reads as reads
-use Rattle.image.proofs.type_code.TypeCode.width.Lts as lts
-use Rattle.image.proofs.type_code.TypeCode.integer_width.Reads as integer-width-reads
 
 abbrev widths : List ℕ
 widths =
