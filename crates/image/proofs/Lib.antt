@@ -1,1 +1,4 @@
 pub mod Bools
+pub mod Compare
+pub mod Loops
+pub mod Numbers
