@@ -59,7 +59,7 @@ u16 x = numberBytes 2 x
 abbrev pub u32 : ℕ → List ℕ
 u32 x = numberBytes 4 x
 
--- what stands in a field that is not read where the bytes are none
+-- a field that speaks of these bytes: 0 where there are none
 abbrev pub ifAny : List ℕ → ℕ → ℕ
 ifAny [] x = 0
 ifAny (b ∷ bs) x = x
@@ -90,7 +90,7 @@ recordBytes x child buffer place =
     ++ u16 buffer
     ++ u16 (length (x .stored .buffers))
 
--- the records, from the first child, the first buffer and the place of the first node's
+-- the records of nodes in turn, from the same three of the first
 unfoldable pub records : ℕ → ℕ → ℕ → List Node → List ℕ
 records child buffer place [] = []
 records child buffer place (x ∷ xs) =
@@ -102,6 +102,7 @@ unfoldable pub bufferEntries : ℕ → List (List ℕ) → List ℕ
 bufferEntries place [] = []
 bufferEntries place (b ∷ bs) = u32 place ++ u32 (length b) ++ bufferEntries (place + length b) bs
 
+-- the entries of nodes in turn
 unfoldable pub entries : ℕ → List Node → List ℕ
 entries place [] = []
 entries place (x ∷ xs) = bufferEntries place (x .stored .buffers) ++ entries (place + length (placed x)) xs
@@ -122,7 +123,7 @@ image c = imageOf (flatten c)
 
 -- Fields: a code, its p1 and a name.
 
--- a text's bytes
+-- a text of ASCII as bytes
 unfoldable pub text : String → List ℕ
 text noText = []
 text (c then cs) = codePoint c ∷ text cs

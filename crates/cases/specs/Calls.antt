@@ -1,5 +1,6 @@
 -- The library's calls on given images, and the answer of each, as a list of numbers.
 -- An answer is its number, side, node and value, as document 01 gives them, and for a write the whole buffer afterwards.
+use mathlib.Core.Path.{_≡_}
 use mathlib.Core.List.{List, [], _∷_}
 use Prim.Native.Nat.{ℕ}
 use Rattle.image.specs.Faults.{checkImage}
@@ -10,11 +11,12 @@ pub data Call : Type 0 where
   check : List ℕ → Call
   -- compare two images
   compare : List ℕ → List ℕ → Call
-  -- compare as many rows of two images, from a left start and a right start on
+  -- compare rows of two images: left start, right start, count
   compareRange : List ℕ → List ℕ → ℕ → ℕ → ℕ → Call
-  -- write so many rows of an image, from a start on, into a buffer that holds these bytes
+  -- write rows of an image: start, count, and what the buffer holds before
   write : List ℕ → ℕ → ℕ → List ℕ → Call
 
+-- an answer's four numbers, and the buffer
 unfoldable pub told : Numbers → List ℕ → List ℕ
 told n out = n .number ∷ n .side ∷ n .node ∷ n .value ∷ out
 
@@ -54,3 +56,7 @@ pub record Case : Type 0 where
 infixl 70 _answers_
 abbrev pub _answers_ : Call → List ℕ → Case
 c answers e = record { call = c; expected = e }
+
+-- the call has the expected answer
+abbrev pub Holds : Case → Type 0
+Holds c = answer (c .call) ≡ c .expected

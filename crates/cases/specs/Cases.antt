@@ -1,5 +1,5 @@
 -- Cases P1 to P10 of document 01 ("Pairs from the proof desk"): their images, their calls and the answers, one table.
--- Each image is a description of Arrow columns; those of the session are its bytes too.
+-- Each image is laid out from a description of its Arrow columns.
 use mathlib.Core.List.{List, [], _∷_, _++_}
 use Prim.Native.Nat.{ℕ, zero, suc, _-_, _^_}
 use Prim.Native.String.{String}
@@ -43,7 +43,7 @@ leaf f d = column f d []
 
 -- The session's tables: Int8, three rows, the middle one null. They differ in the byte under the null.
 unfoldable pub session : ℕ → List ℕ
-session under = image (leaf (field int8 0 "") (masked (1 ∷ 0 ∷ 1 ∷ []) (numbers 1 (5 ∷ under ∷ 7 ∷ []))))
+session middle = image (leaf (field int8 0 "") (masked (1 ∷ 0 ∷ 1 ∷ []) (numbers 1 (5 ∷ middle ∷ 7 ∷ []))))
 
 unfoldable pub sessionLeft : List ℕ
 sessionLeft = session 0
@@ -51,7 +51,7 @@ sessionLeft = session 0
 unfoldable pub sessionRight : List ℕ
 sessionRight = session 9
 
--- the session's image as its line has it, with the last four bytes left open
+-- the bytes of the session's first line after its frame byte; the second line differs in the last four only
 unfoldable pub sessionLine : List ℕ → List ℕ
 sessionLine end =
     (0x01 ∷ 0x00 ∷ 0x01 ∷ 0x00 ∷ [])
@@ -74,14 +74,14 @@ sessionLine end =
 unfoldable pub listOf : List ℕ → List ℕ → List ℕ
 listOf offsets rows = image (column (field list 0 "") (lists offsets) (leaf (field int8 0 "item") (numbers 1 rows) ∷ []))
 
--- n rows in runs of texts that end at the run ends
+-- n rows in runs: the run ends, and a text for each run
 unfoldable pub runsOf : ℕ → List ℕ → List String → List ℕ
 runsOf n ends values =
     image
     (column (field runEndEncoded 0 "") (stored n [])
     (leaf (field int16 0 "run_ends") (numbers 2 ends) ∷ leaf (field utf8 0 "values") (texts values) ∷ []))
 
--- Int8 keys into the texts "a" and a null one
+-- Int8 keys into two values: the text "a", and a null
 unfoldable pub dictionaryOf : Stored → List ℕ
 dictionaryOf keys =
     image
@@ -100,6 +100,7 @@ mapOf name key =
     (leaf (field utf8 0 key) (texts ("a" ∷ "b" ∷ [])) ∷ leaf (nullable (field int8 0 "value")) (numbers 1 (1 ∷ 2 ∷ [])) ∷ [])
     ∷ [])
 
+-- the Map as the root, and inside a List
 unfoldable pub mapAtRoot : String → List ℕ
 mapAtRoot key = image (mapOf "" key)
 
