@@ -1,0 +1,62 @@
+-- The library's calls on given images, and the answer of each, as a list of numbers.
+-- An answer is its number, side, node and value, as document 01 gives them, and for a write the whole buffer afterwards.
+use mathlib.Core.Path.{_≡_}
+use mathlib.Core.List.{List, [], _∷_}
+use Prim.Native.Nat.{ℕ}
+use Rattle.image.specs.Faults.{checkImage}
+use Rattle.image.specs.Answers.{Numbers, checkedNumbers, comparedNumbers, writtenNumbers, compareAnswer, compareRangeAnswer, writeAnswer, writeOutput}
+
+pub data Call : Type 0 where
+  -- check an image
+  check : List ℕ → Call
+  -- compare two images
+  compare : List ℕ → List ℕ → Call
+  -- compare rows of two images: left start, right start, count
+  compareRange : List ℕ → List ℕ → ℕ → ℕ → ℕ → Call
+  -- write rows of an image: start, count, and what the buffer holds before
+  write : List ℕ → ℕ → ℕ → List ℕ → Call
+
+-- an answer's four numbers, and the buffer
+unfoldable pub told : Numbers → List ℕ → List ℕ
+told n out = n .number ∷ n .side ∷ n .node ∷ n .value ∷ out
+
+unfoldable pub answer : Call → List ℕ
+answer (check s) = told (checkedNumbers (checkImage s)) []
+answer (compare s t) = told (comparedNumbers (compareAnswer s t)) []
+answer (compareRange s t i j n) = told (comparedNumbers (compareRangeAnswer s t i j n)) []
+answer (write s i n out) = told (writtenNumbers (writeAnswer s i n out)) (writeOutput s i n out)
+
+-- Answers by name.
+abbrev pub accepted : List ℕ
+accepted = 0 ∷ 0 ∷ 0 ∷ 0 ∷ []
+
+abbrev pub equal : List ℕ
+equal = 0 ∷ 0 ∷ 0 ∷ 1 ∷ []
+
+abbrev pub unequal : List ℕ
+unequal = 0 ∷ 0 ∷ 0 ∷ 0 ∷ []
+
+-- refused with that number, side and node
+abbrev pub refused : ℕ → ℕ → ℕ → List ℕ
+refused number side node = number ∷ side ∷ node ∷ 0 ∷ []
+
+-- so many bytes written, and the buffer afterwards
+abbrev pub written : ℕ → List ℕ → List ℕ
+written n out = 0 ∷ 0 ∷ 0 ∷ n ∷ out
+
+-- 43, and the buffer afterwards
+abbrev pub tooLong : List ℕ → List ℕ
+tooLong out = 43 ∷ 0 ∷ 0 ∷ 0 ∷ out
+
+-- a call and the answer that it must have
+pub record Case : Type 0 where
+  pub call : Call
+  pub expected : List ℕ
+
+infixl 70 _answers_
+abbrev pub _answers_ : Call → List ℕ → Case
+c answers e = record { call = c; expected = e }
+
+-- the call has the expected answer
+abbrev pub Holds : Case → Type 0
+Holds c = answer (c .call) ≡ c .expected

@@ -1,0 +1,186 @@
+-- Cases P1 to P10 of document 01 ("Pairs from the proof desk"): their images, their calls and the answers, one table.
+-- Each image is laid out from a description of its Arrow columns.
+use mathlib.Core.List.{List, [], _∷_, _++_}
+use Prim.Native.Nat.{ℕ, zero, suc, _-_, _^_}
+use Prim.Native.String.{String}
+use Rattle.cases.specs.Build.{Column, Field, Stored, column, image, field, nullable, stored, numbers, texts, lists, masked}
+use Rattle.cases.specs.Calls.{Call, check, compare, compareRange, write, accepted, equal, unequal, refused, written, tooLong, Case, _answers_}
+
+-- The type codes that the cases use.
+abbrev pub int8 : ℕ
+int8 = 2
+
+abbrev pub int16 : ℕ
+int16 = 3
+
+abbrev pub float32 : ℕ
+float32 = 11
+
+abbrev pub utf8 : ℕ
+utf8 = 26
+
+abbrev pub fixedSizeBinary : ℕ
+fixedSizeBinary = 30
+
+abbrev pub list : ℕ
+list = 33
+
+abbrev pub struct : ℕ
+struct = 38
+
+abbrev pub dictionary : ℕ
+dictionary = 41
+
+abbrev pub map : ℕ
+map = 42
+
+abbrev pub runEndEncoded : ℕ
+runEndEncoded = 43
+
+-- a column without children
+abbrev pub leaf : Field → Stored → Column
+leaf f d = column f d []
+
+-- The session's tables: Int8, three rows, the middle one null. They differ in the byte under the null.
+unfoldable pub session : ℕ → List ℕ
+session middle = image (leaf (field int8 0 "") (masked (1 ∷ 0 ∷ 1 ∷ []) (numbers 1 (5 ∷ middle ∷ 7 ∷ []))))
+
+unfoldable pub sessionLeft : List ℕ
+sessionLeft = session 0
+
+unfoldable pub sessionRight : List ℕ
+sessionRight = session 9
+
+-- the bytes of the session's first line after its frame byte; the second line differs in the last four only
+unfoldable pub sessionLine : List ℕ → List ℕ
+sessionLine end =
+    (0x01 ∷ 0x00 ∷ 0x01 ∷ 0x00 ∷ [])
+    ++ (0x02 ∷ 0x02 ∷ 0x00 ∷ 0x00 ∷ [])
+    ++ (0x00 ∷ 0x00 ∷ 0x00 ∷ 0x00 ∷ [])
+    ++ (0x00 ∷ 0x00 ∷ 0x00 ∷ 0x00 ∷ [])
+    ++ (0x03 ∷ 0x00 ∷ 0x00 ∷ 0x00 ∷ [])
+    ++ (0x00 ∷ 0x00 ∷ 0x00 ∷ 0x00 ∷ [])
+    ++ (0x00 ∷ 0x00 ∷ 0x00 ∷ 0x00 ∷ [])
+    ++ (0x3b ∷ 0x00 ∷ 0x00 ∷ 0x00 ∷ [])
+    ++ (0x01 ∷ 0x00 ∷ 0x00 ∷ 0x00 ∷ [])
+    ++ (0x00 ∷ 0x00 ∷ 0x00 ∷ 0x00 ∷ [])
+    ++ (0x01 ∷ 0x00 ∷ 0x00 ∷ 0x00 ∷ [])
+    ++ (0x00 ∷ 0x00 ∷ 0x01 ∷ 0x00 ∷ [])
+    ++ (0x38 ∷ 0x00 ∷ 0x00 ∷ 0x00 ∷ [])
+    ++ (0x03 ∷ 0x00 ∷ 0x00 ∷ 0x00 ∷ [])
+    ++ end
+
+-- a List of Int8
+unfoldable pub listOf : List ℕ → List ℕ → List ℕ
+listOf offsets rows = image (column (field list 0 "") (lists offsets) (leaf (field int8 0 "item") (numbers 1 rows) ∷ []))
+
+-- n rows in runs: the run ends, and a text for each run
+unfoldable pub runsOf : ℕ → List ℕ → List String → List ℕ
+runsOf n ends values =
+    image
+    (column (field runEndEncoded 0 "") (stored n [])
+    (leaf (field int16 0 "run_ends") (numbers 2 ends) ∷ leaf (field utf8 0 "values") (texts values) ∷ []))
+
+-- Int8 keys into two values: the text "a", and a null
+unfoldable pub dictionaryOf : Stored → List ℕ
+dictionaryOf keys =
+    image
+    (column (nullable (field dictionary int8 "")) keys
+    (leaf (nullable (field utf8 0 "")) (masked (1 ∷ 0 ∷ []) (texts ("a" ∷ "" ∷ []))) ∷ []))
+
+-- one Float32, by its bits
+unfoldable pub floatOf : ℕ → List ℕ
+floatOf pattern = image (leaf (field float32 0 "") (numbers 4 (pattern ∷ [])))
+
+-- one Map row of two entries, by the Map's name and the key's
+unfoldable pub mapOf : String → String → Column
+mapOf name key =
+    column (field map 0 name) (lists (0 ∷ 2 ∷ []))
+    (column (field struct 0 "entries") (stored 2 [])
+    (leaf (field utf8 0 key) (texts ("a" ∷ "b" ∷ [])) ∷ leaf (nullable (field int8 0 "value")) (numbers 1 (1 ∷ 2 ∷ [])) ∷ [])
+    ∷ [])
+
+-- the Map as the root, and inside a List
+unfoldable pub mapAtRoot : String → List ℕ
+mapAtRoot key = image (mapOf "" key)
+
+unfoldable pub mapInList : String → List ℕ
+mapInList key = image (column (field list 0 "") (lists (0 ∷ 1 ∷ [])) (mapOf "item" key ∷ []))
+
+-- three rows of FixedSizeBinary, no bytes stored
+unfoldable pub binaryOf : ℕ → List ℕ
+binaryOf width = image (leaf (field fixedSizeBinary width "") (stored 3 ([] ∷ [])))
+
+-- -1 as an i32
+abbrev pub minusOne : ℕ
+minusOne = 2 ^ 32 - 1
+
+-- one Int8 row under so many Structs
+unfoldable pub under : ℕ → Column
+under zero = leaf (field int8 0 "") (numbers 1 (7 ∷ []))
+under (suc n) = column (field struct 0 "") (stored 1 []) (under n ∷ [])
+
+-- a column of that depth, Structs all but the last
+unfoldable pub depthOf : ℕ → List ℕ
+depthOf depth = image (under (depth - 1))
+
+-- "P1 the session's tables: equal."
+unfoldable pub p1 : List Case
+p1 = compare sessionLeft sessionRight answers equal ∷ []
+
+-- "P2 offsets 0,2,4 against 4,6,8, same child rows: equal."
+unfoldable pub p2 : List Case
+p2 =
+    compare (listOf (0 ∷ 2 ∷ 4 ∷ []) (1 ∷ 2 ∷ 3 ∷ 4 ∷ [])) (listOf (4 ∷ 6 ∷ 8 ∷ []) (9 ∷ 9 ∷ 9 ∷ 9 ∷ 1 ∷ 2 ∷ 3 ∷ 4 ∷ []))
+    answers equal
+    ∷ []
+
+-- "P3 run ends 2,5 of a,b against 1,2,5 of a,a,b: equal."
+unfoldable pub p3 : List Case
+p3 =
+    compare (runsOf 5 (2 ∷ 5 ∷ []) ("a" ∷ "b" ∷ [])) (runsOf 5 (1 ∷ 2 ∷ 5 ∷ []) ("a" ∷ "a" ∷ "b" ∷ []))
+    answers equal
+    ∷ []
+
+-- "P4 null key against key to a null value: unequal."
+unfoldable pub p4 : List Case
+p4 = compare (dictionaryOf (masked (0 ∷ []) (numbers 1 (0 ∷ [])))) (dictionaryOf (numbers 1 (1 ∷ []))) answers unequal ∷ []
+
+-- "P5 Float32 bits 00000000 against 80000000 hexadecimal: unequal."
+unfoldable pub p5 : List Case
+p5 = compare (floatOf 0x00000000) (floatOf 0x80000000) answers unequal ∷ []
+
+-- "P6 root Maps differing in key name: equal; inside a List: unequal."
+unfoldable pub p6 : List Case
+p6 =
+    compare (mapAtRoot "key") (mapAtRoot "keys") answers equal
+    ∷ compare (mapInList "key") (mapInList "keys") answers unequal
+    ∷ []
+
+-- "P7 start 3 count 0 of 3 rows: equal; start 4: 21."
+unfoldable pub p7 : List Case
+p7 =
+    compareRange sessionLeft sessionRight 3 3 0 answers equal
+    ∷ compareRange sessionLeft sessionRight 4 3 0 answers refused 21 0 0
+    ∷ compareRange sessionLeft sessionRight 3 4 0 answers refused 21 1 0
+    ∷ []
+
+-- "P8 FixedSizeBinary width 0: accepted; -1: 11."
+unfoldable pub p8 : List Case
+p8 = check (binaryOf 0) answers accepted ∷ check (binaryOf minusOne) answers refused 11 0 0 ∷ []
+
+-- "P9 the session's five row bytes into 5: written; into 4: 43." Of a longer buffer the rest stays.
+unfoldable pub p9 : List Case
+p9 =
+    write sessionLeft 0 3 (9 ∷ 9 ∷ 9 ∷ 9 ∷ 9 ∷ []) answers written 5 (1 ∷ 5 ∷ 0 ∷ 1 ∷ 7 ∷ [])
+    ∷ write sessionLeft 0 3 (9 ∷ 9 ∷ 9 ∷ 9 ∷ []) answers tooLong (9 ∷ 9 ∷ 9 ∷ 9 ∷ [])
+    ∷ write sessionLeft 0 3 (9 ∷ 9 ∷ 9 ∷ 9 ∷ 9 ∷ 8 ∷ 7 ∷ []) answers written 5 (1 ∷ 5 ∷ 0 ∷ 1 ∷ 7 ∷ 8 ∷ 7 ∷ [])
+    ∷ []
+
+-- "P10 depth 16 accepted, 17: 12": the node of depth 17 has number 16.
+unfoldable pub p10 : List Case
+p10 = check (depthOf 16) answers accepted ∷ check (depthOf 17) answers refused 12 0 16 ∷ []
+
+-- the table
+unfoldable pub cases : List Case
+cases = p1 ++ p2 ++ p3 ++ p4 ++ p5 ++ p6 ++ p7 ++ p8 ++ p9 ++ p10
