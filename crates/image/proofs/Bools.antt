@@ -1,7 +1,7 @@
--- What a Boolean conjunction or disjunction says of its parts.
+-- What a Boolean conjunction or disjunction says of its parts, and the other way.
 -- Each is by cases.
-use mathlib.Core.Path.{_≡_, refl}
-use mathlib.Core.Bool.{Bool, true, false, _&&_, _||_}
+use mathlib.Core.Path.{_≡_, refl, sym}
+use mathlib.Core.Bool.{Bool, true, false, not, _&&_, _||_}
 
 pub and-left : (x y : Bool) → x && y ≡ true → x ≡ true
 and-left true y e = refl
@@ -20,3 +20,23 @@ pub or-right : (x y : Bool) → x || y ≡ false → y ≡ false
 or-right true true e = e
 or-right true false e = refl
 or-right false y e = e
+
+pub and-true : (x y : Bool) → x ≡ true → y ≡ true → x && y ≡ true
+and-true true y p q = q
+and-true false y p q = p
+
+-- a conjunction that fails, one part of which holds
+pub and-fails : (x y : Bool) → x && y ≡ false → x ≡ true → y ≡ false
+and-fails true y e p = e
+and-fails false true e p = sym p
+and-fails false false e p = refl
+
+-- "if c then x" as a test
+pub when-true : (c x : Bool) → not c || x ≡ true → c ≡ true → x ≡ true
+when-true true x e p = e
+when-true false true e p = refl
+when-true false false e p = p
+
+pub true-when : (c x : Bool) → (c ≡ true → x ≡ true) → not c || x ≡ true
+true-when true x h = h refl
+true-when false x h = refl

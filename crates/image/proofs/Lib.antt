@@ -1,1 +1,2 @@
 pub mod Bools
+pub mod Ranges
