@@ -41,9 +41,13 @@ denseOffsetAt s k j = numberAt 4 s (bufferPlace s k 1 + j * 4)
 unfoldable pub childEnd : List ℕ → ℕ → ℕ
 childEnd s k = firstChild s k + childCount s k
 
+-- node c has the type id
+unfoldable pub hasId : List ℕ → ℕ → ℕ → Bool
+hasId s id c = eqb (idOf s c) id
+
 -- the child of union k that has the type id, or the children's end where none has
 unfoldable pub childWithId : List ℕ → ℕ → ℕ → ℕ
-childWithId s k id = first (λ c. eqb (idOf s c) id) (firstChild s k) (childCount s k)
+childWithId s k id = first (hasId s id) (firstChild s k) (childCount s k)
 
 -- The parts of the 16-byte view at a place: its length; the place of its first four bytes of data, or of all of them
 -- where there are at most 12; the number of its data buffer; the offset in it.
@@ -71,6 +75,10 @@ runEndWidth s k = integerWidth (codeOf s (firstChild s k))
 unfoldable pub runEndAt : List ℕ → ℕ → ℕ → ℕ
 runEndAt s k i = numberAt (runEndWidth s k) s (bufferPlace s (firstChild s k) 0 + (offsetOf s (firstChild s k) + i) * runEndWidth s k)
 
+-- run end r of run node k lies above element j
+unfoldable pub endsAbove : List ℕ → ℕ → ℕ → ℕ → Bool
+endsAbove s k j r = ltb j (runEndAt s k r)
+
 -- "the values row numbered as the first run end above offset + i", for element j = offset + i
 unfoldable pub runAt : List ℕ → ℕ → ℕ → ℕ
-runAt s k j = first (λ r. ltb j (runEndAt s k r)) 0 (lengthOf s (firstChild s k))
+runAt s k j = first (endsAbove s k j) 0 (lengthOf s (firstChild s k))

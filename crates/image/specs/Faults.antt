@@ -47,9 +47,13 @@ maxDepth = 16
 unfoldable pub idsRise : List ℕ → ℕ → Bool
 idsRise s k = rises 1 (idOf s) 127 0 (firstChild s k) (childCount s k)
 
+-- node j is a union, and node k is one of its children
+unfoldable pub unionOver : List ℕ → ℕ → ℕ → Bool
+unionOver s k j = isUnion (codeOf s j) && leb (childStart s j) k && ltb k (childStart s (suc j))
+
 -- node k is a union's child
 unfoldable pub underUnion : List ℕ → ℕ → Bool
-underUnion s k = any (λ j. isUnion (codeOf s j) && leb (childStart s j) k && ltb k (childStart s (suc j))) 0 k
+underUnion s k = any (unionOver s k) 0 k
 
 -- "a Map's child not a Struct of two"
 unfoldable pub mapEntries : List ℕ → ℕ → Bool
@@ -75,6 +79,10 @@ fault12 s k =
 -- a part of the image that does not lie inside it
 unfoldable pub outside : List ℕ → ℕ → ℕ → Bool
 outside s place len = ltb (length s) (place + len)
+
+-- buffer j of node k does not lie inside the image
+unfoldable pub bufferOutside : List ℕ → ℕ → ℕ → Bool
+bufferOutside s k j = outside s (bufferPlace s k j) (bufferLength s k j)
 
 -- 13: "name too long or outside the image"; "Name place is not read at name length 0"
 unfoldable pub fault13 : List ℕ → ℕ → Bool
@@ -106,7 +114,7 @@ fault14 s k =
     not (counts (bufferRule (layoutOf (codeOf s k))) (bufferCount s k))
     || not (eqb (firstBuffer s k) (bufferStart s k))
     || (eqb k 0 && not (eqb (bufferStart s (nodeCount s)) (bufferTotal s)))
-    || any (λ j. outside s (bufferPlace s k j) (bufferLength s k j)) 0 (bufferCount s k)
+    || any (bufferOutside s k) 0 (bufferCount s k)
     || (hasBitmap s k && outside s (bitmapPlace s k) (bitmapLength s k))
     || ltb 1073741824 (elementsOf s k)
     || ragged (layoutOf (codeOf s k)) s k
@@ -137,9 +145,13 @@ fault15 s k =
     (hasBitmap s k && ltb (8 * bitmapLength s k) (firstBit s k + lengthOf s k))
     || short (layoutOf (codeOf s k)) s k (elementsOf s k)
 
+-- node c has under n rows
+unfoldable pub rowsUnder : List ℕ → ℕ → ℕ → Bool
+rowsUnder s n c = ltb (lengthOf s c) n
+
 -- a child of node k has under n rows
 unfoldable pub childUnder : List ℕ → ℕ → ℕ → Bool
-childUnder s k n = any (λ c. ltb (lengthOf s c) n) (firstChild s k) (childCount s k)
+childUnder s k n = any (rowsUnder s n) (firstChild s k) (childCount s k)
 
 -- 16: "child under e rows (Struct, sparse) or e × p1; run values and run ends of unequal length"
 abbrev pub childShort : Layout → List ℕ → ℕ → Bool
@@ -166,8 +178,8 @@ offsetsRise s k end = rises 0 (elementAt s k) end 0 0 (elementsOf s k + 1)
 
 -- "a list view outside its child (rows 0 to e - 1, nulls too)"; the sum is of whole numbers, and a negative offset or
 -- size reads as a number above every length
-unfoldable pub viewsOutside : List ℕ → ℕ → Bool
-viewsOutside s k = any (λ j. ltb (lengthOf s (firstChild s k)) (elementAt s k j + sizeAt s k j)) 0 (elementsOf s k)
+unfoldable pub listOutside : List ℕ → ℕ → ℕ → Bool
+listOutside s k j = ltb (lengthOf s (firstChild s k)) (elementAt s k j + sizeAt s k j)
 
 -- 17: "offsets .. past the end of the text or of the child's length; a list view outside its child"
 abbrev pub misplaced : Layout → List ℕ → ℕ → Bool
@@ -177,7 +189,7 @@ misplaced FixedWidth s k = false
 misplaced VariableSize s k = not (offsetsRise s k (bufferLength s k 1))
 misplaced View s k = false
 misplaced Lists s k = not (offsetsRise s k (lengthOf s (firstChild s k)))
-misplaced ListView s k = viewsOutside s k
+misplaced ListView s k = any (listOutside s k) 0 (elementsOf s k)
 misplaced FixedList s k = false
 misplaced Struct s k = false
 misplaced DenseUnion s k = false
@@ -202,9 +214,13 @@ keyOutside s k j =
     leb (lengthOf s (firstChild s k)) (elementAt s k j)
     || (keySigned (p1Of s k) && leb (signBit (elementWidth s k)) (elementAt s k j))
 
+-- the byte at a place is not 0
+unfoldable pub nonzero : List ℕ → ℕ → Bool
+nonzero s p = not (eqb (byteAt s p) 0)
+
 -- "inline padding not zero": of the 12 bytes after the length, those past it
 unfoldable pub padded : List ℕ → ℕ → Bool
-padded s v = any (λ p. not (eqb (byteAt s p) 0)) (v + 4 + viewLength s v) (inlineLength - viewLength s v)
+padded s v = any (nonzero s) (v + 4 + viewLength s v) (inlineLength - viewLength s v)
 
 -- "view outside its buffers .. stored prefix wrong", of a view longer than 12 bytes
 unfoldable pub strayed : List ℕ → ℕ → ℕ → Bool

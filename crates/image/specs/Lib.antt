@@ -1,5 +1,6 @@
 pub mod Ranges
 pub mod Bytes
+pub mod Reads
 pub mod Record
 pub mod TypeCode
 pub mod Element

@@ -7,10 +7,10 @@ use Rattle.image.specs.Bytes.{byteAt, numberAt}
 use Rattle.image.specs.Ranges.{sumTo}
 
 -- "A header of two u16: n nodes (1 to 256), m buffers (0 to 1,024)."
-unfoldable pub nodeCount : List ℕ → ℕ
+abbrev pub nodeCount : List ℕ → ℕ
 nodeCount s = numberAt 2 s 0
 
-unfoldable pub bufferTotal : List ℕ → ℕ
+abbrev pub bufferTotal : List ℕ → ℕ
 bufferTotal s = numberAt 2 s 2
 
 -- "Then n records of 44 bytes": where the record of node k starts
@@ -26,54 +26,54 @@ unfoldable pub tablesEnd : List ℕ → ℕ
 tablesEnd s = entryPlace s (bufferTotal s)
 
 -- The fields of node k's record, at the bytes that the table gives.
-unfoldable pub codeOf : List ℕ → ℕ → ℕ
+abbrev pub codeOf : List ℕ → ℕ → ℕ
 codeOf s k = byteAt s (recordPlace k)
 
-unfoldable pub flagsOf : List ℕ → ℕ → ℕ
+abbrev pub flagsOf : List ℕ → ℕ → ℕ
 flagsOf s k = byteAt s (recordPlace k + 1)
 
 -- "type id as a union's child, else 0"
-unfoldable pub idOf : List ℕ → ℕ → ℕ
+abbrev pub idOf : List ℕ → ℕ → ℕ
 idOf s k = byteAt s (recordPlace k + 2)
 
-unfoldable pub nameLength : List ℕ → ℕ → ℕ
+abbrev pub nameLength : List ℕ → ℕ → ℕ
 nameLength s k = byteAt s (recordPlace k + 3)
 
 -- p1 and p2 are i32: a negative number reads as 2 ^ 32 more
-unfoldable pub p1Of : List ℕ → ℕ → ℕ
+abbrev pub p1Of : List ℕ → ℕ → ℕ
 p1Of s k = numberAt 4 s (recordPlace k + 4)
 
-unfoldable pub p2Of : List ℕ → ℕ → ℕ
+abbrev pub p2Of : List ℕ → ℕ → ℕ
 p2Of s k = numberAt 4 s (recordPlace k + 8)
 
-unfoldable pub lengthOf : List ℕ → ℕ → ℕ
+abbrev pub lengthOf : List ℕ → ℕ → ℕ
 lengthOf s k = numberAt 4 s (recordPlace k + 12)
 
-unfoldable pub offsetOf : List ℕ → ℕ → ℕ
+abbrev pub offsetOf : List ℕ → ℕ → ℕ
 offsetOf s k = numberAt 4 s (recordPlace k + 16)
 
-unfoldable pub namePlace : List ℕ → ℕ → ℕ
+abbrev pub namePlace : List ℕ → ℕ → ℕ
 namePlace s k = numberAt 4 s (recordPlace k + 20)
 
-unfoldable pub bitmapPlace : List ℕ → ℕ → ℕ
+abbrev pub bitmapPlace : List ℕ → ℕ → ℕ
 bitmapPlace s k = numberAt 4 s (recordPlace k + 24)
 
-unfoldable pub bitmapLength : List ℕ → ℕ → ℕ
+abbrev pub bitmapLength : List ℕ → ℕ → ℕ
 bitmapLength s k = numberAt 4 s (recordPlace k + 28)
 
-unfoldable pub firstBit : List ℕ → ℕ → ℕ
+abbrev pub firstBit : List ℕ → ℕ → ℕ
 firstBit s k = numberAt 4 s (recordPlace k + 32)
 
-unfoldable pub firstChild : List ℕ → ℕ → ℕ
+abbrev pub firstChild : List ℕ → ℕ → ℕ
 firstChild s k = numberAt 2 s (recordPlace k + 36)
 
-unfoldable pub childCount : List ℕ → ℕ → ℕ
+abbrev pub childCount : List ℕ → ℕ → ℕ
 childCount s k = numberAt 2 s (recordPlace k + 38)
 
-unfoldable pub firstBuffer : List ℕ → ℕ → ℕ
+abbrev pub firstBuffer : List ℕ → ℕ → ℕ
 firstBuffer s k = numberAt 2 s (recordPlace k + 40)
 
-unfoldable pub bufferCount : List ℕ → ℕ → ℕ
+abbrev pub bufferCount : List ℕ → ℕ → ℕ
 bufferCount s k = numberAt 2 s (recordPlace k + 42)
 
 -- "flags: 1 nullable, 2 has bitmap"

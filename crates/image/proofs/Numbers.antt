@@ -1,0 +1,84 @@
+-- Laws of little-endian numbers: past the end they are 0, a byte more makes the next, and four and eight bytes written out.
+-- By induction over the width; the bounds by powers of 2.
+use mathlib.Core.Path.{_≡_, refl, sym, ap, _∙_}
+use mathlib.Core.Bool.{Bool, true, false}
+use mathlib.Core.List.{List}
+use Prim.Native.Nat.{ℕ, zero, suc, _+_, _*_, _-_, _/_, _%_, _<_, _≤_, _^_}
+use native.Mathlib.Omega.{arith}
+use native.Mathlib.Nat.{pow-le-pow-right, zero-div}
+use lib.Pow.{pow-add}
+use native.Mathlib.Numerals.{add-one, add-two, add-three}
+use lib.Dec.{eqb, lit<, lit≤}
+use lib.ListN.{length, getD, List·getD-eq-default}
+use Rattle.image.specs.Bytes.{byteAt, numberAt, bitAt}
+use Rattle.image.specs.Reads.{Read}
+
+pub byte-past : (s : List ℕ) (i : ℕ) → length s ≤ i → byteAt s i ≡ 0
+byte-past s i le = List·getD-eq-default s 0 {n = i} le
+
+-- a number read through another variable
+pub read-through : {x y r bits : ℕ} → Read x bits r → Read y bits x → Read y bits r
+read-through p q = record { value = p .value ∙ q .value; small = p .small }
+
+pub number-past : (w : ℕ) (s : List ℕ) (i : ℕ) → length s ≤ i → numberAt w s i ≡ 0
+unfolding numberAt
+number-past zero s i le = refl
+number-past (suc w) s i le = rw (byte-past s i le, number-past w s (suc i) (omega arith))
+
+pub read-past : (w : ℕ) (s : List ℕ) (i : ℕ) → length s ≤ i → Read (numberAt w s i) (8 * w) 0
+read-past w s i le = record { value = sym (number-past w s i le); small = pow-le-pow-right {n = 2} (lit< tt) {i = 0} {j = 8 * w} (omega arith) }
+
+pub read-none : (w : ℕ) (s : List ℕ) (i : ℕ) → Read (numberAt (w - w) s (i + w)) (8 * (w - w)) 0
+unfolding numberAt
+read-none w s i =
+    let e : w - w ≡ 0 = omega arith in
+    rw e (record { value = refl; small = lit< tt })
+
+byte-shift : (n : ℕ) → 2 ^ (8 + n) ≡ 256 * 2 ^ n
+byte-shift n = pow-add 2 8 n
+
+-- one byte more, below the bytes that were read
+pub read-more : (s : List ℕ) (w i k : ℕ) {x b : ℕ} → 0 < k → k ≤ w → Read (numberAt (w - k) s (i + k)) (8 * (w - k)) x → Read (byteAt s (i + (k - 1))) 8 b
+    → Read (numberAt (w - (k - 1)) s (i + (k - 1))) (8 * (w - (k - 1))) (b + 256 * x)
+unfolding numberAt
+read-more s w i k {x} {b} pos le rx rb =
+    let m : w - (k - 1) ≡ suc (w - k) = omega arith in
+    let j : suc (i + (k - 1)) ≡ i + k = omega arith in
+    let t : 8 * (w - (k - 1)) ≡ 8 + 8 * (w - k) = omega arith in
+    record {
+      value =
+          rw (rx .value, rb .value)
+          (sym (ap (λ (n : ℕ). numberAt n s (i + (k - 1))) m ∙ ap (λ (n : ℕ). byteAt s (i + (k - 1)) + 256 * numberAt (w - k) s n) j));
+      small = rw (t, byte-shift (8 * (w - k))) (omega (arith, rx .small, rb .small));
+    }
+
+-- all bytes are read
+pub read-all : (s : List ℕ) (w i k : ℕ) {x : ℕ} → k ≤ 0 → Read (numberAt (w - k) s (i + k)) (8 * (w - k)) x → Read (numberAt w s i) (8 * w) x
+read-all s w i k {x} le r =
+    let m : w - k ≡ w = omega arith in
+    let j : i + k ≡ i = omega arith in
+    rw (m, j) at r
+
+-- what so many bytes make fits a word
+pub fits-word : (w k x : ℕ) → w ≤ 8 → 0 < k → x < 2 ^ (8 * (w - k)) → x < 2 ^ 56
+fits-word w k x le pos lt =
+    let h : 2 ^ (8 * (w - k)) ≤ 2 ^ 56 = pow-le-pow-right {n = 2} (lit< tt) {i = 8 * (w - k)} {j = 56} (omega arith) in
+    omega arith
+
+pub number-two : (s : List ℕ) (i : ℕ) → numberAt 2 s i ≡ byteAt s i + 256 * byteAt s (i + 1)
+unfolding numberAt
+number-two s i = rw (add-one i) (omega arith)
+
+pub number-four : (s : List ℕ) (i : ℕ) → numberAt 4 s i ≡ byteAt s i + 256 * byteAt s (i + 1) + 65536 * byteAt s (i + 2) + 16777216 * byteAt s (i + 3)
+unfolding numberAt
+number-four s i = rw (add-one i, add-two i, add-three i) (omega arith)
+
+pub number-eight : (s : List ℕ) (i : ℕ) → numberAt 8 s i ≡ numberAt 4 s i + 4294967296 * numberAt 4 s (i + 4)
+unfolding numberAt
+number-eight s i =
+    let e : i + 4 ≡ suc (suc (suc (suc i))) = omega arith in
+    rw e (omega arith)
+
+pub bit-past : (s : List ℕ) (place j : ℕ) → length s ≤ place + j / 8 → false ≡ bitAt s place j
+unfolding bitAt
+bit-past s place j le = rw (byte-past s (place + j / 8) le, zero-div (2 ^ (j % 8)))

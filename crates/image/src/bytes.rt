@@ -1,0 +1,97 @@
+// Bytes, little-endian numbers and bits of a slice. Past the slice's end every byte reads as 0.
+ghost use mathlib.Core.Path.{_≡_};
+ghost use Prim.Native.Nat.{_*_, _≤_};
+ghost use Rattle.image.specs.Bytes.{byteAt, numberAt, bitAt};
+ghost use Rattle.image.specs.Reads.{Read};
+
+// The byte at a place.
+pub fn byte(s: &[u8], i: usize) -> u8
+    ensures { λ r. ⌜ Read (byteAt (now (s .entry)) i) 8 r ⌝ }
+{
+    if i < s.len() { s[i] } else { 0 }
+}
+
+pub fn wide(x: u8) -> usize
+    ensures { λ r. ⌜ Read x 8 r ⌝ }
+{
+    x as usize
+}
+
+// The number that the two bytes at a place make.
+pub fn le16(s: &[u8], i: usize) -> u32
+    ensures { λ r. ⌜ Read (numberAt 2 (now (s .entry)) i) 16 r ⌝ }
+{
+    if s.len() <= i {
+        return 0;
+    }
+    let low = byte(s, i) as u32;
+    let high = byte(s, i + 1) as u32;
+    low + 256 * high
+}
+
+// The number that the w bytes at a place make, a byte at a time.
+fn by_bytes(s: &[u8], i: usize, w: usize) -> usize
+    requires { ⌜ w ≤ 8 ⌝ }
+    ensures { λ r. ⌜ Read (numberAt w (now (s .entry)) i) (8 * w) r ⌝ }
+{
+    if s.len() <= i {
+        return 0;
+    }
+    let mut x: usize = 0;
+    let mut k = w;
+    while k > 0 {
+        k -= 1;
+        x = wide(byte(s, i + k)) + 256 * x;
+    }
+    x
+}
+
+// The number that the four bytes at a place make.
+pub fn le32(s: &[u8], i: usize) -> usize
+    ensures { λ r. ⌜ Read (numberAt 4 (now (s .entry)) i) 32 r ⌝ }
+{
+    if s.len() < 4 {
+        return by_bytes(s, i, 4);
+    }
+    if s.len() - 4 < i {
+        return by_bytes(s, i, 4);
+    }
+    wide(s[i]) + 256 * wide(s[i + 1]) + 65536 * wide(s[i + 2]) + 16777216 * wide(s[i + 3])
+}
+
+// The number that the eight bytes at a place make.
+pub fn le64(s: &[u8], i: usize) -> usize
+    ensures { λ r. ⌜ Read (numberAt 8 (now (s .entry)) i) 64 r ⌝ }
+{
+    if s.len() <= i {
+        return 0;
+    }
+    le32(s, i) + 4294967296 * le32(s, i + 4)
+}
+
+// The number that the w bytes at a place make.
+pub fn number(s: &[u8], i: usize, w: usize) -> usize
+    requires { ⌜ w ≤ 8 ⌝ }
+    ensures { λ r. ⌜ Read (numberAt w (now (s .entry)) i) (8 * w) r ⌝ }
+{
+    match w {
+        4 => le32(s, i),
+        8 => le64(s, i),
+        _ => by_bytes(s, i, w),
+    }
+}
+
+// Bit j of the bits that start at a place.
+pub fn bit(s: &[u8], place: usize, j: usize) -> bool
+    ensures { λ r. ⌜ r ≡ bitAt (now (s .entry)) place j ⌝ }
+{
+    let n = s.len();
+    if n <= place {
+        return false;
+    }
+    if n - place <= j / 8 {
+        return false;
+    }
+    let x = wide(s[place + j / 8]);
+    (x >> (j % 8)) % 2 == 1
+}
