@@ -1,19 +1,19 @@
 -- What the tests, searches and sums over a range of numbers say of each number in it.
 -- Each is by induction over the count: a number of the range is its first, or one of the rest.
-use mathlib.Core.Path.{_≡_, refl, sym, subst}
-use mathlib.Core.Bool.{Bool, true, false, cond, _&&_, _||_}
+use mathlib.Core.Path.{_≡_, refl, subst}
+use mathlib.Core.Bool.{Bool, true, false, cond, _&&_}
 use mathlib.Core.Logic.{_⊎_, inl, inr}
 use Prim.Native.Nat.{ℕ, zero, suc, _+_, _≤_, _<_}
-use native.Mathlib.Nat.{eq-or-lt-of-le, le-refl, zero-add}
+use native.Mathlib.Nat.{eq-or-lt-of-le, le-of-suc-le-suc, lt-of-not-le, le-refl}
 use native.Mathlib.Omega.{arith}
 use lib.Dec.{leb}
-use borrow.Author.Tests.{leb-true, le-leb}
+use borrow.Author.Tests.{leb-true}
 use Rattle.image.specs.Ranges.{any, every, first, sumTo, rises}
-use Rattle.image.specs.Row.{Row, Rows, range}
+use Rattle.image.specs.Row.{Row, range}
 use Rattle.image.proofs.Bools.{and-left, and-right, and-true, or-left, or-right}
 
 -- what holds at i and at every k with suc i ≤ k holds at every k with i ≤ k
-from-here : (P : ℕ → Type 0) (i : ℕ) → P i → (k : ℕ) → i ≤ k → (suc i ≤ k → P k) → P k
+pub from-here : (P : ℕ → Type 0) (i : ℕ) → P i → (k : ℕ) → i ≤ k → (suc i ≤ k → P k) → P k
 from-here P i here k le later = cases (eq-or-lt-of-le le)
   where
     cases : (i ≡ k) ⊎ (i < k) → P k
@@ -82,6 +82,14 @@ module _ (p : ℕ → Bool) where
   first-before i (suc n) k le lt =
       first-cases i n (p i) refl (λ x. k < x → p k ≡ false) (λ e l. absurd (omega arith))
       (λ e l. from-here (λ k. p k ≡ false) i e k le (λ later. first-before (suc i) n k later l)) lt
+
+  pub first-at-most : (i n k : ℕ) → i ≤ k → p k ≡ true → first p i n ≤ k
+  first-at-most i n k le passes = le-of-suc-le-suc (lt-of-not-le (λ past. differ (first-before i n k le past)))
+    where
+      differ : p k ≡ false → ⊥
+      differ fails =
+          let z : _≡_ {A = ℕ} 0 1 = cc in
+          omega arith
 
 -- sums grow
 pub sum-grows : (f : ℕ → ℕ) (a b : ℕ) → a ≤ b → sumTo f a ≤ sumTo f b

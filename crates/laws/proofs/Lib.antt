@@ -1,2 +1,5 @@
 pub mod Sound
 pub mod TypeLaws
+pub mod NoFault
+pub mod Codes
+pub mod Accepted

@@ -1,7 +1,7 @@
 -- The tests of bytes, rows and lists of rows are their equality.
 -- A true test gives the equation by induction over both sides, and each side passes the test with itself.
 use mathlib.Core.Path.{_≡_, refl, ap, subst}
-use mathlib.Core.Bool.{Bool, true, false}
+use mathlib.Core.Bool.{true}
 use mathlib.Core.List.{List, [], _∷_}
 use mathlib.Core.Logic.{_↔_}
 use Prim.Native.Nat.{ℕ}
