@@ -1,7 +1,7 @@
 -- What acceptance gives, from the image check.
 -- A test that says false is a fact; each number's tests give that number's record.
 use mathlib.Core.Path.{_≡_, refl}
-use mathlib.Core.Bool.{Bool, true, false}
+use mathlib.Core.Bool.{Bool, true, false, not, _||_}
 use mathlib.Core.List.{List}
 use mathlib.Core.Logic.{_≢_, _⊎_, inl, inr}
 use Prim.Native.Nat.{ℕ, suc, _+_, _*_, _-_, _≤_, _<_}
@@ -13,8 +13,8 @@ use borrow.Author.Tests.{eqb-true, leb-true, leb-false, ltb-true, ltb-false, lt-
 use Rattle.image.specs.declared.answer.Checked.the-variants.{Accepted}
 use Rattle.image.specs.declared.type_code.Count.{Count}
 use Rattle.image.specs.declared.type_code.Count.the-variants.{Exactly, AtLeast}
-use Rattle.image.specs.Bytes.{byteAt}
-use Rattle.image.specs.Record.{nodeCount, bufferTotal, codeOf, idOf, lengthOf, offsetOf, nameLength, namePlace, bitmapPlace, bitmapLength, firstBit, firstChild, childCount, firstBuffer, bufferCount, bufferLength, elementsOf, childStart, bufferStart}
+use Rattle.image.specs.Bytes.{byteAt, bitAt}
+use Rattle.image.specs.Record.{nodeCount, bufferTotal, codeOf, idOf, lengthOf, offsetOf, nameLength, namePlace, bitmapPlace, bitmapLength, firstBit, hasBitmap, firstChild, childCount, firstBuffer, bufferCount, bufferLength, elementsOf, childStart, bufferStart}
 use Rattle.image.specs.TypeCode.{counts, signBit}
 use Rattle.image.specs.Element.{childEnd, elementAt, elementWidth, runEndWidth, runEndAt, endsAbove, runAt, hasId, typeIdAt, childWithId, denseOffsetAt, inlineLength, viewLength, valid}
 use Rattle.image.specs.Ranges.{sumTo}
@@ -25,11 +25,22 @@ use Rattle.laws.specs.Accepted.{Known, Ids, RunEnds, Entries, Tree, Name
 use Rattle.laws.proofs.NoFault.{no-fault, no-fault10}
 use Rattle.laws.proofs.Codes.{runs-code, run-end-width}
 
+-- no bitmap, no null
+all-valid : (s : List ℕ) (k i : ℕ) (takes : Bool) → (hasBitmap s k ≡ true → takes ≡ true) → takes ≡ false → valid s k i ≡ true
+unfolding valid
+all-valid s k i takes h e = cases (hasBitmap s k) h
+  where
+    cases : (b : Bool) → (b ≡ true → takes ≡ true) → not b || bitAt s (bitmapPlace s k) (firstBit s k + i) ≡ true
+    cases true given =
+        let p : takes ≡ true = given refl in
+        cc
+    cases false given = refl
+
 known : (s : List ℕ) (k : ℕ) → fault11 s k ≡ false → Known s k
 unfolding fault11
 known s k e =
     let h = simp facts at e in
-    record { code = omega arith; flags = omega arith; p1 = h .0 .0 .1; p2 = h .0 .1; bitmap = h .1 }
+    record { code = omega arith; flags = omega arith; p1 = h .0 .0 .1; p2 = h .0 .1; bitmap = h .1; all-valid = λ none i. all-valid s k i _ (h .1) none }
 
 -- a count as its rule says
 exact : (rule : Count) (n x : ℕ) → counts rule x ≡ true → rule ≡ Exactly n → x ≡ n

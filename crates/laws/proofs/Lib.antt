@@ -3,3 +3,4 @@ pub mod TypeLaws
 pub mod NoFault
 pub mod Codes
 pub mod Accepted
+pub mod Fuel

@@ -20,6 +20,7 @@ pub record Known (s : List ℕ) (k : ℕ) : Type 0 where
   pub p1 : p1Fits (codeOf s k) (p1Of s k) ≡ true
   pub p2 : p2Fits (codeOf s k) (p2Of s k) ≡ true
   pub bitmap : hasBitmap s k ≡ true → takesBitmap (layoutOf (codeOf s k)) ≡ true
+  pub all-valid : takesBitmap (layoutOf (codeOf s k)) ≡ false → (i : ℕ) → valid s k i ≡ true
 
 -- 12, of a union: the ids of its children rise within 0 to 127
 pub record Ids (s : List ℕ) (k : ℕ) : Type 0 where
