@@ -105,6 +105,11 @@ sum-grows f a (suc b) le = cases (eq-or-lt-of-le le) (λ lt. sum-grows f a b (om
         let g : sumTo f a ≤ sumTo f b = h lt in
         omega arith
 
+-- a sum of more numbers holds the next one
+pub sum-next : (f : ℕ → ℕ) (k n : ℕ) → k < n → sumTo f k + f k ≤ sumTo f n
+unfolding sumTo
+sum-next f k n lt = sum-grows f (suc k) n lt
+
 -- Numbers that rise by a step within bounds.
 module _ (step : ℕ) (f : ℕ → ℕ) (top : ℕ) where
   -- each is at least the least

@@ -17,11 +17,10 @@ use Rattle.image.specs.Bytes.{byteAt, bitAt}
 use Rattle.image.specs.Record.{nodeCount, bufferTotal, codeOf, idOf, lengthOf, offsetOf, nameLength, namePlace, bitmapPlace, bitmapLength, firstBit, hasBitmap, firstChild, childCount, firstBuffer, bufferCount, bufferLength, elementsOf, childStart, bufferStart}
 use Rattle.image.specs.TypeCode.{counts, signBit}
 use Rattle.image.specs.Element.{childEnd, elementAt, elementWidth, runEndWidth, runEndAt, endsAbove, runAt, hasId, typeIdAt, childWithId, denseOffsetAt, inlineLength, viewLength, valid}
-use Rattle.image.specs.Ranges.{sumTo}
 use Rattle.image.specs.Faults.{fault, fault10, fault11, fault12, fault13, fault14, fault15, fault16, fault17, fault18, checkImage, outside, idsRise, mapEntries, runEnds, under, childUnder, offsetsRise, listOutside, bufferOutside, rowsUnder, nonzero, short, idUnknown, denseOutside, keyOutside, padded, viewFault, strayed, runEndsRise, runEndsShort, denseStray, sparseStray, keyStray, viewStray}
 use Rattle.image.proofs.Bools.{facts, or-left, or-right, and-fails}
-use Rattle.image.proofs.Ranges.{any-false, any-below, sum-grows, rises-least, rises-top, rises-apart, first-from, first-at-most, first-passes}
-use Rattle.laws.specs.Accepted.{Known, Ids, RunEnds, Entries, Tree, Named, Buffers, Enough, Children, Rising, Places, IdKnown, ViewInside, RunsCover, NodeRows, Node, AcceptedImage}
+use Rattle.image.proofs.Ranges.{any-false, any-below, sum-next, rises-least, rises-top, rises-apart, first-from, first-at-most, first-passes}
+use Rattle.laws.specs.Accepted.{Known, Ids, RunEnds, Entries, Tree, Named, Buffers, Enough, Children, OffsetsRise, Places, IdKnown, ViewInside, RunsCover, NodeRows, Node, AcceptedImage}
 use Rattle.laws.proofs.NoFault.{no-fault, no-fault10}
 use Rattle.laws.proofs.Codes.{runs-code, run-end-width}
 
@@ -81,16 +80,12 @@ entries s k e =
     record { struct = h .0; two = h .1 }
 
 children-end : (s : List ℕ) (k : ℕ) → firstChild s k ≡ childStart s k → k < nodeCount s → childStart s (nodeCount s) ≡ nodeCount s → childEnd s k ≤ nodeCount s
-unfolding childEnd childStart sumTo
-children-end s k first lt total =
-    let h : sumTo (childCount s) (suc k) ≤ sumTo (childCount s) (nodeCount s) = sum-grows (childCount s) (suc k) (nodeCount s) lt in
-    omega arith
+unfolding childEnd childStart
+children-end s k first lt total = omega (arith, sum-next (childCount s) k (nodeCount s) lt)
 
 buffers-end : (s : List ℕ) (k : ℕ) → firstBuffer s k ≡ bufferStart s k → k < nodeCount s → bufferStart s (nodeCount s) ≡ bufferTotal s → firstBuffer s k + bufferCount s k ≤ bufferTotal s
-unfolding bufferStart sumTo
-buffers-end s k first lt total =
-    let h : sumTo (bufferCount s) (suc k) ≤ sumTo (bufferCount s) (nodeCount s) = sum-grows (bufferCount s) (suc k) (nodeCount s) lt in
-    omega arith
+unfolding bufferStart
+buffers-end s k first lt total = omega (arith, sum-next (bufferCount s) k (nodeCount s) lt)
 
 child-total : (s : List ℕ) → fault12 s 0 ≡ false → childStart s (nodeCount s) ≡ nodeCount s
 unfolding fault12
@@ -183,9 +178,9 @@ children s k e = record {
   runs = λ l. simp (l, facts) at e;
 }
 
-rising : (s : List ℕ) (k end : ℕ) → offsetsRise s k end ≡ true → Rising s k end
+offsets-rise : (s : List ℕ) (k end : ℕ) → offsetsRise s k end ≡ true → OffsetsRise s k end
 unfolding offsetsRise
-rising s k end e = record {
+offsets-rise s k end e = record {
   rise = λ j lt.
       let h : elementAt s k j + 0 ≤ elementAt s k (suc j) = rises-apart 0 (elementAt s k) end 0 0 (elementsOf s k + 1) e j (suc j) (omega arith) (omega arith) (omega arith) in
       omega arith;
@@ -195,8 +190,8 @@ rising s k end e = record {
 places : (s : List ℕ) (k : ℕ) → fault17 s k ≡ false → Places s k
 unfolding fault17 listOutside
 places s k e = record {
-  variable-size = λ l. rising s k (bufferLength s k 1) (simp (l, facts) at e);
-  lists = λ l. rising s k (lengthOf s (firstChild s k)) (simp (l, facts) at e);
+  variable-size = λ l. offsets-rise s k (bufferLength s k 1) (simp (l, facts) at e);
+  lists = λ l. offsets-rise s k (lengthOf s (firstChild s k)) (simp (l, facts) at e);
   list-view = λ l j lt. ltb-false _ _ (any-below (listOutside s k) _ (rw l at e) j lt);
 }
 

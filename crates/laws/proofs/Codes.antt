@@ -1,64 +1,37 @@
 -- What a layout says of the code.
 -- Each is a test over the 44 codes, computed once.
-use mathlib.Core.Path.{_≡_, refl, _∙_}
-use mathlib.Core.Bool.{Bool, true, false, not, _&&_, _||_}
+use mathlib.Core.Path.{_≡_, refl, ap, _∙_}
+use mathlib.Core.Bool.{Bool, true, not, _&&_, _||_}
 use Prim.Native.Nat.{ℕ, _≤_}
 use native.Mathlib.Omega.{arith}
 use lib.Dec.{eqb, leb}
-use borrow.Author.Tests.{eqb-true, le-leb, ne-eqb}
-use Rattle.image.specs.declared.type_code.Layout.{Layout}
-use Rattle.image.specs.declared.type_code.Layout.the-variants.{Null, Boolean, FixedWidth, VariableSize, View, List as Lists, ListView, FixedList, Struct, DenseUnion, SparseUnion, Dictionary, Runs}
+use denote.Enum.Declared.{tagOf}
+use borrow.Author.Tests.{eqb-true, eq-eqb, le-leb, ne-eqb}
+use Rattle.image.specs.declared.type_code.Layout.the-variants.{DenseUnion, SparseUnion, Runs}
+use Rattle.image.proofs.type_code.Layout.{the-type}
 use Rattle.image.specs.Ranges.{every}
 use Rattle.image.specs.TypeCode.{entries, entryOf, layoutOf, isUnion, integerWidth, widthOf}
 use Rattle.image.proofs.Bools.{when-true, and-true}
 use Rattle.image.proofs.Ranges.{every-below}
 
-abbrev isRuns : Layout → Bool
-isRuns Null = false
-isRuns Boolean = false
-isRuns FixedWidth = false
-isRuns VariableSize = false
-isRuns View = false
-isRuns Lists = false
-isRuns ListView = false
-isRuns FixedList = false
-isRuns Struct = false
-isRuns DenseUnion = false
-isRuns SparseUnion = false
-isRuns Dictionary = false
-isRuns Runs = true
+-- each code whose layout is declared in that place passes the test
+abbrev codesOf : ℕ → (ℕ → Bool) → Bool
+codesOf place p = every (λ c. not (eqb (tagOf the-type (layoutOf c)) place) || p c) 0 44
 
-abbrev isUnionLayout : Layout → Bool
-isUnionLayout Null = false
-isUnionLayout Boolean = false
-isUnionLayout FixedWidth = false
-isUnionLayout VariableSize = false
-isUnionLayout View = false
-isUnionLayout Lists = false
-isUnionLayout ListView = false
-isUnionLayout FixedList = false
-isUnionLayout Struct = false
-isUnionLayout DenseUnion = true
-isUnionLayout SparseUnion = true
-isUnionLayout Dictionary = false
-isUnionLayout Runs = false
-
-runs-codes : every (λ c. not (isRuns (layoutOf c)) || eqb c 43) 0 44 ≡ true
-unfolding every layoutOf entryOf entries
-runs-codes = refl
-
-union-codes : every (λ c. not (isUnionLayout (layoutOf c)) || isUnion c) 0 44 ≡ true
-unfolding every layoutOf entryOf entries isUnion
-union-codes = refl
+code-passes : (place : ℕ) (p : ℕ → Bool) → codesOf place p ≡ true → (code : ℕ) → code ≤ 43 → tagOf the-type (layoutOf code) ≡ place → p code ≡ true
+code-passes place p all code le e = when-true (eqb (tagOf the-type (layoutOf code)) place) (p code) (every-below _ 44 all code (omega arith)) (eq-eqb _ _ e)
 
 pub runs-code : (code : ℕ) → code ≤ 43 → layoutOf code ≡ Runs → code ≡ 43
-runs-code code le e = eqb-true code 43 (when-true (isRuns (layoutOf code)) _ (every-below _ 44 runs-codes code (omega arith)) (rw e))
+unfolding every layoutOf entryOf entries
+runs-code code le e = eqb-true code 43 (code-passes 12 (λ c. eqb c 43) refl code le (ap (tagOf the-type) e))
 
 pub dense-code : (code : ℕ) → code ≤ 43 → layoutOf code ≡ DenseUnion → isUnion code ≡ true
-dense-code code le e = when-true (isUnionLayout (layoutOf code)) _ (every-below _ 44 union-codes code (omega arith)) (rw e)
+unfolding every layoutOf entryOf entries isUnion
+dense-code code le e = code-passes 9 isUnion refl code le (ap (tagOf the-type) e)
 
 pub sparse-code : (code : ℕ) → code ≤ 43 → layoutOf code ≡ SparseUnion → isUnion code ≡ true
-sparse-code code le e = when-true (isUnionLayout (layoutOf code)) _ (every-below _ 44 union-codes code (omega arith)) (rw e)
+unfolding every layoutOf entryOf entries isUnion
+sparse-code code le e = code-passes 10 isUnion refl code le (ap (tagOf the-type) e)
 
 run-end-codes : every (λ c. not (leb 3 c && leb c 5) || eqb (integerWidth c) (widthOf c 0)) 0 44 ≡ true
 unfolding every integerWidth widthOf entryOf entries

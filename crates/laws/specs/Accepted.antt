@@ -90,14 +90,14 @@ pub record Children (s : List ℕ) (k : ℕ) : Type 0 where
   pub runs : layoutOf (codeOf s k) ≡ Runs → lengthOf s (firstChild s k) ≡ lengthOf s (firstChild s k + 1)
 
 -- 17, of offsets: they do not fall, and none is past the end
-pub record Rising (s : List ℕ) (k end : ℕ) : Type 0 where
+pub record OffsetsRise (s : List ℕ) (k end : ℕ) : Type 0 where
   pub rise : (j : ℕ) → j < elementsOf s k → elementAt s k j ≤ elementAt s k (suc j)
   pub within : (j : ℕ) → j ≤ elementsOf s k → elementAt s k j ≤ end
 
 -- 17: the offsets and sizes stay within the text or the child
 pub record Places (s : List ℕ) (k : ℕ) : Type 0 where
-  pub variable-size : layoutOf (codeOf s k) ≡ VariableSize → Rising s k (bufferLength s k 1)
-  pub lists : layoutOf (codeOf s k) ≡ Lists → Rising s k (lengthOf s (firstChild s k))
+  pub variable-size : layoutOf (codeOf s k) ≡ VariableSize → OffsetsRise s k (bufferLength s k 1)
+  pub lists : layoutOf (codeOf s k) ≡ Lists → OffsetsRise s k (lengthOf s (firstChild s k))
   pub list-view : layoutOf (codeOf s k) ≡ ListView → (j : ℕ) → j < elementsOf s k → elementAt s k j + sizeAt s k j ≤ lengthOf s (firstChild s k)
 
 -- 18, of the type id at element j of a union: the child that has it
