@@ -20,9 +20,9 @@ use Rattle.image.specs.Element.{childEnd, elementAt, elementWidth, runEndWidth,
 use Rattle.image.specs.Faults.{fault, fault10, fault11, fault12, fault13, fault14, fault15, fault16, fault17, fault18, checkImage, outside, idsRise, mapEntries, runEnds, under, childUnder, offsetsRise, listOutside, bufferOutside, rowsUnder, nonzero, short, idUnknown, denseOutside, keyOutside, padded, viewFault, strayed, runEndsRise, runEndsShort, denseStray, sparseStray, keyStray, viewStray}
 use Rattle.image.proofs.Bools.{facts, or-left, or-right, and-fails}
 use Rattle.image.proofs.Ranges.{any-false, any-below, sum-next, rises-least, rises-top, rises-apart, first-from, first-at-most, first-passes}
-use Rattle.laws.specs.Accepted.{Known, Ids, RunEnds, Entries, Tree, Named, Buffers, Enough, Children, OffsetsRise, Places, IdKnown, ViewInside, RunsCover, NodeRows, Node, AcceptedImage}
+use Rattle.laws.specs.Accepted.{Known, Widths, Ids, RunEnds, Entries, Tree, Named, Buffers, Enough, Children, OffsetsRise, Places, IdKnown, ViewInside, RunsCover, NodeRows, Node, AcceptedImage}
 use Rattle.laws.proofs.NoFault.{no-fault, no-fault10}
-use Rattle.laws.proofs.Codes.{runs-code, run-end-width}
+use Rattle.laws.proofs.Codes.{runs-code, variable-width, view-width, list-width, list-view-width, key-width, run-end-width}
 
 -- no bitmap, no null
 all-valid : (s : List ℕ) (k i : ℕ) (takes : Bool) → (hasBitmap s k ≡ true → takes ≡ true) → takes ≡ false → valid s k i ≡ true
@@ -40,6 +40,16 @@ unfolding fault11
 known s k e =
     let h = simp facts at e in
     record { code = omega arith; flags = omega arith; p1 = h .0 .0 .1; p2 = h .0 .1; bitmap = h .1; all-valid = λ none i. all-valid s k i _ (h .1) none }
+
+widths : (s : List ℕ) (k : ℕ) → codeOf s k ≤ 43 → Widths s k
+unfolding elementWidth
+widths s k le = record {
+  variable-size = variable-width _ _ le;
+  view = view-width _ _ le;
+  lists = list-width _ _ le;
+  list-view = list-view-width _ _ le;
+  keys = key-width _ _ le;
+}
 
 -- a count as its rule says
 exact : (rule : Count) (n x : ℕ) → counts rule x ≡ true → rule ≡ Exactly n → x ≡ n
@@ -296,6 +306,7 @@ module _ (s : List ℕ) (accepts : checkImage s ≡ Accepted) where
       let lengths = children s k (no-fault s accepts 16 (omega arith) (omega arith) k lt) in
       record {
         known = codes;
+        widths = widths s k (codes .code);
         tree = tree s k (no-fault s accepts 12 (omega arith) (omega arith) k lt) lt children-total (codes .code);
         named = named s k (no-fault s accepts 13 (omega arith) (omega arith) k lt);
         buffers = buffers s k (no-fault s accepts 14 (omega arith) (omega arith) k lt) lt buffers-total;

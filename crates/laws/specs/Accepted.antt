@@ -22,6 +22,14 @@ pub record Known (s : List ℕ) (k : ℕ) : Type 0 where
   pub bitmap : hasBitmap s k ≡ true → takesBitmap (layoutOf (codeOf s k)) ≡ true
   pub all-valid : takesBitmap (layoutOf (codeOf s k)) ≡ false → (i : ℕ) → valid s k i ≡ true
 
+-- 11, of the code: how wide the elements of the first buffer are
+pub record Widths (s : List ℕ) (k : ℕ) : Type 0 where
+  pub variable-size : layoutOf (codeOf s k) ≡ VariableSize → elementWidth s k ≤ 8
+  pub view : layoutOf (codeOf s k) ≡ View → elementWidth s k ≡ 16
+  pub lists : layoutOf (codeOf s k) ≡ Lists → elementWidth s k ≤ 8
+  pub list-view : layoutOf (codeOf s k) ≡ ListView → elementWidth s k ≤ 8
+  pub keys : layoutOf (codeOf s k) ≡ Dictionary → elementWidth s k ≤ 8
+
 -- 12, of a union: the ids of its children rise within 0 to 127
 pub record Ids (s : List ℕ) (k : ℕ) : Type 0 where
   pub rise : (c d : ℕ) → firstChild s k ≤ c → c < d → d < childEnd s k → idOf s c < idOf s d
@@ -136,9 +144,10 @@ pub record NodeRows (s : List ℕ) (k : ℕ) : Type 0 where
       → ViewInside s k (elementPlace s k (offsetOf s k + i))
   pub runs : layoutOf (codeOf s k) ≡ Runs → RunsCover s k
 
--- an accepted image's node, a field for each number from 11 to 18
+-- an accepted image's node
 pub record Node (s : List ℕ) (k : ℕ) : Type 0 where
   pub known : Known s k
+  pub widths : Widths s k
   pub tree : Tree s k
   pub named : Named s k
   pub buffers : Buffers s k
