@@ -3,3 +3,4 @@ pub mod CodeTable
 pub mod Compare
 pub mod Loops
 pub mod Numbers
+pub mod Ranges
