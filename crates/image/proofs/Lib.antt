@@ -1,4 +1,5 @@
 pub mod Bools
+pub mod ById
 pub mod CodeTable
 pub mod Compare
 pub mod Loops

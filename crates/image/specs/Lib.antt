@@ -1,9 +1,9 @@
 pub mod Ranges
 pub mod Bytes
-pub mod Reads
 pub mod Record
 pub mod TypeCode
 pub mod Element
+pub mod Reads
 pub mod Faults
 pub mod Types
 pub mod Row

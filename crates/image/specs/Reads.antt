@@ -1,8 +1,17 @@
 -- What a reader's contract says of its result.
 use mathlib.Core.Path.{_≡_}
+use mathlib.Core.List.{List}
 use Prim.Native.Nat.{ℕ, _<_, _^_}
+use lib.ListN.{length, getD}
+use Rattle.image.specs.Element.{childWithId}
 
 -- the result is the number x, which fits so many bits
 pub record Read (x bits r : ℕ) : Type 0 where
   pub value : r ≡ x
   pub small : r < 2 ^ bits
+
+-- a table of the children of union k by their type ids: entry id is the child that has it, or the children's end
+pub record ById (s : List ℕ) (k : ℕ) (table : List ℕ) : Type 0 where
+  pub sized : length table ≡ 256
+  pub entry : (id : ℕ) → id < 256 → getD table id 0 ≡ childWithId s k id
+  pub small : (id : ℕ) → id < 256 → getD table id 0 < 2 ^ 17
