@@ -25,6 +25,10 @@ or-right true true e = e
 or-right true false e = refl
 or-right false y e = e
 
+pub or-none : (x : Bool) → x || false ≡ x
+or-none true = refl
+or-none false = refl
+
 pub and-true : (x y : Bool) → x ≡ true → y ≡ true → x && y ≡ true
 and-true true y p q = q
 and-true false y p q = p

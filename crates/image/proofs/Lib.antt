@@ -5,3 +5,4 @@ pub mod Compare
 pub mod Loops
 pub mod Numbers
 pub mod Ranges
+pub mod Widths

@@ -1,7 +1,7 @@
 -- What the tests, searches and sums over a range of numbers say of each number in it.
 -- Each is by induction over the count: a number of the range is its first, or one of the rest.
 use mathlib.Core.Path.{_≡_, refl, subst}
-use mathlib.Core.Bool.{Bool, true, false, cond, _&&_}
+use mathlib.Core.Bool.{Bool, true, false, cond, _&&_, _||_}
 use mathlib.Core.Logic.{_⊎_, inl, inr}
 use Prim.Native.Nat.{ℕ, zero, suc, _+_, _≤_, _<_}
 use native.Mathlib.Nat.{eq-or-lt-of-le, le-of-suc-le-suc, lt-of-not-le, le-refl}
@@ -10,7 +10,7 @@ use lib.Dec.{leb}
 use borrow.Author.Tests.{leb-true}
 use Rattle.image.specs.Ranges.{any, every, first, sumTo, rises}
 use Rattle.image.specs.Row.{Row, range}
-use Rattle.image.proofs.Bools.{and-left, and-right, and-true, or-left, or-right}
+use Rattle.image.proofs.Bools.{and-left, and-right, and-true, or-left, or-right, or-none}
 
 -- what holds at i and at every k with suc i ≤ k holds at every k with i ≤ k
 pub from-here : (P : ℕ → Type 0) (i : ℕ) → P i → (k : ℕ) → i ≤ k → (suc i ≤ k → P k) → P k
@@ -26,6 +26,24 @@ unfolding any
 any-false p i zero e k le lt = absurd (omega arith)
 any-false p i (suc n) e k le lt =
     from-here (λ k. p k ≡ false) i (or-left _ _ e) k le (λ later. any-false p (suc i) n (or-right (p i) _ e) k later (omega arith))
+
+-- each fails: none passes
+pub any-none : (p : ℕ → Bool) (i n : ℕ) → ((k : ℕ) → i ≤ k → k < i + n → p k ≡ false) → any p i n ≡ false
+unfolding any
+any-none p i zero h = refl
+any-none p i (suc n) h = rw (h i (omega arith) (omega arith), any-none p (suc i) n (λ k le lt. h k (omega arith) (omega arith)))
+
+-- each but one fails: that one says whether any passes
+pub any-only : (p : ℕ → Bool) (i n j : ℕ) → i ≤ j → j < i + n → ((k : ℕ) → i ≤ k → k < i + n → (k ≡ j → ⊥) → p k ≡ false) → any p i n ≡ p j
+unfolding any
+any-only p i zero j le lt h = absurd (omega arith)
+any-only p i (suc n) j le lt h =
+    cases (eq-or-lt-of-le le) (λ past. any-only p (suc i) n j past (omega arith) (λ k later end ne. h k (omega arith) (omega arith) ne))
+  where
+    cases : (i ≡ j) ⊎ (i < j) → (i < j → any p (suc i) n ≡ p j) → p i || any p (suc i) n ≡ p j
+    cases (inl e) f =
+        rw (any-none p (suc i) n (λ k later end. h k (omega arith) (omega arith) (λ q. omega arith)), ← e) (or-none (p i))
+    cases (inr past) f = rw (h i (omega arith) (omega arith) (λ q. omega arith)) (f past)
 
 -- all pass: each passes
 pub every-at : (p : ℕ → Bool) (i n : ℕ) → every p i n ≡ true → (k : ℕ) → i ≤ k → k < i + n → p k ≡ true

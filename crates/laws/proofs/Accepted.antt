@@ -20,9 +20,10 @@ use Rattle.image.specs.Element.{childEnd, elementAt, elementWidth, runEndWidth,
 use Rattle.image.specs.Faults.{fault, fault10, fault11, fault12, fault13, fault14, fault15, fault16, fault17, fault18, checkImage, outside, idsRise, mapEntries, runEnds, under, childUnder, offsetsRise, listOutside, bufferOutside, rowsUnder, nonzero, short, idUnknown, denseOutside, keyOutside, padded, viewFault, strayed, runEndsRise, runEndsShort, denseStray, sparseStray, keyStray, viewStray}
 use Rattle.image.proofs.Bools.{facts, or-left, or-right, and-fails}
 use Rattle.image.proofs.Ranges.{any-false, any-below, sum-next, rises-least, rises-top, rises-apart, first-from, first-at-most, first-passes}
+use Rattle.image.proofs.Widths.{variable-width, view-width, list-width, list-view-width, key-width}
 use Rattle.laws.specs.Accepted.{Known, Widths, Ids, RunEnds, Entries, Tree, Named, Buffers, Enough, Children, OffsetsRise, Places, IdKnown, ViewInside, RunsCover, NodeRows, Node, AcceptedImage}
 use Rattle.laws.proofs.NoFault.{no-fault, no-fault10}
-use Rattle.laws.proofs.Codes.{runs-code, variable-width, view-width, list-width, list-view-width, key-width, run-end-width}
+use Rattle.laws.proofs.Codes.{runs-code, run-end-width}
 
 -- no bitmap, no null
 all-valid : (s : List ℕ) (k i : ℕ) (takes : Bool) → (hasBitmap s k ≡ true → takes ≡ true) → takes ≡ false → valid s k i ≡ true
@@ -41,14 +42,14 @@ known s k e =
     let h = simp facts at e in
     record { code = omega arith; flags = omega arith; p1 = h .0 .0 .1; p2 = h .0 .1; bitmap = h .1; all-valid = λ none i. all-valid s k i _ (h .1) none }
 
-widths : (s : List ℕ) (k : ℕ) → codeOf s k ≤ 43 → Widths s k
+widths : (s : List ℕ) (k : ℕ) → Widths s k
 unfolding elementWidth
-widths s k le = record {
-  variable-size = variable-width _ _ le;
-  view = view-width _ _ le;
-  lists = list-width _ _ le;
-  list-view = list-view-width _ _ le;
-  keys = key-width _ _ le;
+widths s k = record {
+  variable-size = variable-width _ _;
+  view = view-width _ _;
+  lists = list-width _ _;
+  list-view = list-view-width _ _;
+  keys = key-width _ _;
 }
 
 -- a count as its rule says
@@ -103,9 +104,9 @@ child-total s e =
     let h = simp facts at e in
     h .0 .0 .0 .0 .0 .1 refl
 
-tree : (s : List ℕ) (k : ℕ) → fault12 s k ≡ false → k < nodeCount s → childStart s (nodeCount s) ≡ nodeCount s → codeOf s k ≤ 43 → Tree s k
+tree : (s : List ℕ) (k : ℕ) → fault12 s k ≡ false → k < nodeCount s → childStart s (nodeCount s) ≡ nodeCount s → Tree s k
 unfolding fault12
-tree s k e lt total code =
+tree s k e lt total =
     let h = simp facts at e in
     record {
       exactly = λ n rule. exact _ n _ (h .0 .0 .0 .0 .0 .0 .0 .0) rule;
@@ -116,7 +117,7 @@ tree s k e lt total code =
       ids = λ union. ids s k (h .0 .0 .0 .1 union);
       no-id = λ none. unless (idOf s k) 0 _ (h .0 .0 .1) none;
       entries = λ map. entries s k (h .0 .1 map);
-      run-ends = λ l. run-ends s k (h .1 (runs-code _ code l));
+      run-ends = λ l. run-ends s k (h .1 (runs-code _ l));
     }
 
 named : (s : List ℕ) (k : ℕ) → fault13 s k ≡ false → Named s k
@@ -306,8 +307,8 @@ module _ (s : List ℕ) (accepts : checkImage s ≡ Accepted) where
       let lengths = children s k (no-fault s accepts 16 (omega arith) (omega arith) k lt) in
       record {
         known = codes;
-        widths = widths s k (codes .code);
-        tree = tree s k (no-fault s accepts 12 (omega arith) (omega arith) k lt) lt children-total (codes .code);
+        widths = widths s k;
+        tree = tree s k (no-fault s accepts 12 (omega arith) (omega arith) k lt) lt children-total;
         named = named s k (no-fault s accepts 13 (omega arith) (omega arith) k lt);
         buffers = buffers s k (no-fault s accepts 14 (omega arith) (omega arith) k lt) lt buffers-total;
         enough = enough s k (no-fault s accepts 15 (omega arith) (omega arith) k lt);

@@ -1,0 +1,84 @@
+-- Each number has its test.
+-- Where an arm is taken the number is the arm's, and the definition computes to the arm's test.
+use borrow.Author.Tests.{ne-eqb}
+use Rattle.image.specs.Faults.{fault}
+use borrow.Author.Needs.{needs}
+use Rattle.validate.proofs.has_fault.Statement.{statement}
+use Rattle.validate.proofs.has_fault.Tie as tie
+
+fault-11-requires : tie.Need-fault-11-requires
+fault-11-requires c κs = search needs
+
+fault-12-requires : tie.Need-fault-12-requires
+fault-12-requires c κs = search needs
+
+fault-13-requires : tie.Need-fault-13-requires
+fault-13-requires c κs = search needs
+
+fault-14-requires : tie.Need-fault-14-requires
+fault-14-requires c κs = search needs
+
+fault-15-requires : tie.Need-fault-15-requires
+fault-15-requires c κs = search needs
+
+fault-16-requires : tie.Need-fault-16-requires
+fault-16-requires c κs = search needs
+
+fault-17-requires : tie.Need-fault-17-requires
+fault-17-requires c κs = search needs
+
+fault-18-requires : tie.Need-fault-18-requires
+fault-18-requires c κs = search needs
+
+returns : tie.Need-returns
+unfolding fault
+returns c = rw (c .before .match .keys1) (c .fault-11 .ensures)
+
+returns-2 : tie.Need-returns-2
+unfolding fault
+returns-2 c = rw (c .before .match .keys2) (c .fault-12 .ensures)
+
+returns-3 : tie.Need-returns-3
+unfolding fault
+returns-3 c = rw (c .before .match .keys3) (c .fault-13 .ensures)
+
+returns-4 : tie.Need-returns-4
+unfolding fault
+returns-4 c = rw (c .before .match .keys4) (c .fault-14 .ensures)
+
+returns-5 : tie.Need-returns-5
+unfolding fault
+returns-5 c = rw (c .before .match .keys5) (c .fault-15 .ensures)
+
+returns-6 : tie.Need-returns-6
+unfolding fault
+returns-6 c = rw (c .before .match .keys6) (c .fault-16 .ensures)
+
+returns-7 : tie.Need-returns-7
+unfolding fault
+returns-7 c = rw (c .before .match .keys7) (c .fault-17 .ensures)
+
+returns-8 : tie.Need-returns-8
+unfolding fault
+returns-8 c = rw (ne-eqb _ 11 (c .before .match .rest .0 .0 .0 .0 .0 .0 .1), ne-eqb _ 12 (c .before .match .rest .0 .0 .0 .0 .0 .1), ne-eqb _ 13 (c .before .match .rest .0 .0 .0 .0 .1), ne-eqb _ 14 (c .before .match .rest .0 .0 .0 .1), ne-eqb _ 15 (c .before .match .rest .0 .0 .1), ne-eqb _ 16 (c .before .match .rest .0 .1), ne-eqb _ 17 (c .before .match .rest .1)) (c .fault-18 .ensures)
+
+pub has-fault-spec : {M : Type 1} → statement M
+has-fault-spec =
+    tie.close
+    (tie.spec
+    fault-11-requires
+    fault-12-requires
+    fault-13-requires
+    fault-14-requires
+    fault-15-requires
+    fault-16-requires
+    fault-17-requires
+    fault-18-requires
+    returns
+    returns-2
+    returns-3
+    returns-4
+    returns-5
+    returns-6
+    returns-7
+    returns-8)

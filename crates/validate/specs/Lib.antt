@@ -1,0 +1,2 @@
+pub mod Strides
+pub mod Walks

@@ -1,0 +1,233 @@
+// 18: in its rows a node names a child, a key, a view or a dense offset that is not there, or its run ends are wrong.
+use crate::rise::rise;
+use image::bytes::byte;
+use image::bytes::le32;
+use image::bytes::number;
+use image::bytes::wide;
+use image::element::children_by_id;
+use image::element::element_width;
+use image::element::is_valid;
+use image::record::buffer_count;
+use image::record::buffer_length;
+use image::record::buffer_place;
+use image::record::child_count;
+use image::record::code;
+use image::record::elements;
+use image::record::first_child;
+use image::record::length;
+use image::record::offset;
+use image::record::p1;
+use image::type_code::Layout;
+use image::type_code::TypeCode;
+ghost use mathlib.Core.Path.{_≡_};
+ghost use mathlib.Core.Bool.{_||_, not};
+ghost use Prim.Native.Nat.{_+_, _*_, _<_, _≤_, _^_};
+ghost use Rattle.image.specs.Ranges.{any};
+ghost use Rattle.image.specs.Record.{lengthOf};
+ghost use Rattle.image.specs.Element.{elementWidth, viewLength};
+ghost use Rattle.validate.specs.Strides.{KeyLimit};
+ghost use Rattle.image.specs.Faults.{fault18, denseStray, sparseStray, keyStray, viewStray, viewFault, padded, strayed, runEndsRise, runEndsShort};
+
+const VIEW_SIZE: usize = 16;
+
+const INLINE_LENGTH: usize = 12;
+
+// A row of a dense union has a type id without a child, or an offset outside the child that its id names.
+fn dense_astray(image: &[u8], node: u32) -> bool
+    ensures { λ r. ⌜ r ≡ any (denseStray (now (image .entry)) node) 0 (lengthOf (now (image .entry)) node) ⌝ }
+{
+    let table = children_by_id(image, node);
+    let end = first_child(image, node) + child_count(image, node);
+    let ids = buffer_place(image, node, 0);
+    let offsets = buffer_place(image, node, 1);
+    let from = offset(image, node);
+    let rows = length(image, node);
+    let mut i: usize = 0;
+    while i < rows {
+        let j = from + i;
+        let id = wide(byte(image, ids + j));
+        let child = table[id];
+        if end <= child {
+            return true;
+        }
+        if length(image, child) <= le32(image, offsets + j * 4) {
+            return true;
+        }
+        i += 1;
+    }
+    false
+}
+
+// A row of a sparse union has a type id without a child.
+fn sparse_astray(image: &[u8], node: u32) -> bool
+    ensures { λ r. ⌜ r ≡ any (sparseStray (now (image .entry)) node) 0 (lengthOf (now (image .entry)) node) ⌝ }
+{
+    let table = children_by_id(image, node);
+    let end = first_child(image, node) + child_count(image, node);
+    let ids = buffer_place(image, node, 0);
+    let from = offset(image, node);
+    let rows = length(image, node);
+    let mut i: usize = 0;
+    while i < rows {
+        let id = wide(byte(image, ids + (from + i)));
+        let child = table[id];
+        if end <= child {
+            return true;
+        }
+        i += 1;
+    }
+    false
+}
+
+// The first key that lies outside `rows` rows: a key of so many bytes is read as an unsigned number, and where keys are
+// signed a negative one reads as at least the sign bit.
+fn key_limit(image: &[u8], node: u32, width: usize) -> usize
+    requires { ⌜ (width ≡ elementWidth (now image) node) × (width ≤ 8) ⌝ }
+    ensures { λ r. ⌜ KeyLimit (now (image .entry)) node r ⌝ }
+{
+    let rows = length(image, first_child(image, node));
+    if !TypeCode::key_signed(p1(image, node) as u32) {
+        return rows;
+    }
+    let sign = TypeCode::sign_bit(width) as usize;
+    if sign < rows { sign } else { rows }
+}
+
+// A row of a Dictionary that is not null has a key outside the values.
+fn keys_astray(image: &[u8], node: u32) -> bool
+    requires { ⌜ elementWidth (now image) node ≤ 8 ⌝ }
+    ensures { λ r. ⌜ r ≡ any (keyStray (now (image .entry)) node) 0 (lengthOf (now (image .entry)) node) ⌝ }
+{
+    let width = element_width(image, node);
+    let limit = key_limit(image, node, width);
+    let keys = buffer_place(image, node, 0);
+    let from = offset(image, node);
+    let rows = length(image, node);
+    let mut i: usize = 0;
+    while i < rows {
+        if is_valid(image, node, i) {
+            if limit <= number(image, keys + (from + i) * width, width) {
+                return true;
+            }
+        }
+        i += 1;
+    }
+    false
+}
+
+// Of the 12 bytes of an inline view one past its length is not zero.
+fn is_padded(image: &[u8], view: usize, len: usize) -> bool
+    requires { ⌜ (view < 2 ^ 40) × (len ≡ viewLength (now image) view) × (len ≤ 12) ⌝ }
+    ensures { λ r. ⌜ r ≡ padded (now (image .entry)) view ⌝ }
+{
+    let at = view + 4 + len;
+    let count = INLINE_LENGTH - len;
+    let mut k: usize = 0;
+    while k < count {
+        if byte(image, at + k) != 0 {
+            return true;
+        }
+        k += 1;
+    }
+    false
+}
+
+// A view of more than 12 bytes lies outside its buffers, or its stored prefix is wrong.
+fn is_strayed(image: &[u8], node: u32, view: usize, len: usize) -> bool
+    requires { ⌜ (view < 2 ^ 40) × (len ≡ viewLength (now image) view) × (12 < len) × (len < 2 ^ 32) ⌝ }
+    ensures { λ r. ⌜ r ≡ strayed (now (image .entry)) node view ⌝ }
+{
+    let buffer = 1 + le32(image, view + 8);
+    if buffer_count(image, node) as usize <= buffer {
+        return true;
+    }
+    let j = buffer as u32;
+    let at = le32(image, view + 12);
+    if buffer_length(image, node, j) < at + len {
+        return true;
+    }
+    le32(image, view + 4) != le32(image, buffer_place(image, node, j) + at)
+}
+
+// The view at a place breaks a rule.
+fn view_broken(image: &[u8], node: u32, view: usize) -> bool
+    requires { ⌜ view < 2 ^ 40 ⌝ }
+    ensures { λ r. ⌜ r ≡ viewFault (now (image .entry)) node view ⌝ }
+{
+    let len = le32(image, view);
+    if len <= INLINE_LENGTH {
+        return is_padded(image, view, len);
+    }
+    is_strayed(image, node, view, len)
+}
+
+// A row of views that is not null has a view that breaks a rule.
+fn views_astray(image: &[u8], node: u32) -> bool
+    requires { ⌜ elementWidth (now image) node ≡ 16 ⌝ }
+    ensures { λ r. ⌜ r ≡ any (viewStray (now (image .entry)) node) 0 (lengthOf (now (image .entry)) node) ⌝ }
+{
+    let views = buffer_place(image, node, 0);
+    let from = offset(image, node);
+    let rows = length(image, node);
+    let mut i: usize = 0;
+    while i < rows {
+        if is_valid(image, node, i) {
+            if view_broken(image, node, views + (from + i) * VIEW_SIZE) {
+                return true;
+            }
+        }
+        i += 1;
+    }
+    false
+}
+
+// The run ends, over all rows of their child, are not positive and strictly rising.
+fn run_ends_fall(image: &[u8], node: u32) -> bool
+    ensures { λ r. ⌜ r ≡ not (runEndsRise (now (image .entry)) node) ⌝ }
+{
+    let ends = first_child(image, node);
+    let width = TypeCode::integer_width(code(image, ends) as u32);
+    let place = buffer_place(image, ends, 0) + offset(image, ends) * width;
+    let top = TypeCode::sign_bit(width) as usize - 1;
+    !rise(image, place, width, width, 1, top, 1, length(image, ends))
+}
+
+// The last run end lies below e; without run ends e is not 0.
+fn run_ends_short(image: &[u8], node: u32) -> bool
+    ensures { λ r. ⌜ r ≡ runEndsShort (now (image .entry)) node ⌝ }
+{
+    let e = elements(image, node);
+    let ends = first_child(image, node);
+    let count = length(image, ends);
+    if count == 0 {
+        return e != 0;
+    }
+    let width = TypeCode::integer_width(code(image, ends) as u32);
+    let last = offset(image, ends) + (count - 1);
+    number(image, buffer_place(image, ends, 0) + last * width, width) < e
+}
+
+// Runs whose run ends break a rule.
+fn runs_astray(image: &[u8], node: u32) -> bool
+    ensures { λ r. ⌜ r ≡ (not (runEndsRise (now (image .entry)) node) || runEndsShort (now (image .entry)) node) ⌝ }
+{
+    if run_ends_fall(image, node) {
+        return true;
+    }
+    run_ends_short(image, node)
+}
+
+// The node has fault 18.
+pub fn fault_18(image: &[u8], node: u32) -> bool
+    ensures { λ r. ⌜ r ≡ fault18 (now (image .entry)) node ⌝ }
+{
+    let layout = TypeCode::layout(code(image, node));
+    match layout {
+        Layout::View => views_astray(image, node),
+        Layout::DenseUnion => dense_astray(image, node),
+        Layout::SparseUnion => sparse_astray(image, node),
+        Layout::Dictionary => keys_astray(image, node),
+        Layout::Runs => runs_astray(image, node),
+        _ => false,
+    }
+}
