@@ -72,7 +72,7 @@ unfolding passes
     Faults.childUnder Faults.fault16 Faults.offsetsRise Faults.fault17 Faults.keyOutside Faults.runEndsRise
     Faults.runEndsShort Faults.keyStray Faults.fault18 Faults.fault Faults.firstFaulty Faults.checkFrom
     Faults.checkImage
-    Types.sameBytes Types.nameOf Types.ordinary Types.labelsAgree Types.headsAgree Types.typesAgreeAt Types.typesAgree
+    Types.sameBytes Types.nameOf Types.ordinaryCounts Types.labelsAgree Types.headsAgree Types.typesAgreeAt Types.typesAgree
     Row.range Row.fixedRow Row.variableRow Row.listRow Row.structRow Row.dictionaryRow Row.runRow Row.rowAt
     Row.tableRows
     Equality.rangesEqual Equality.tablesEqual Equality.rowsEqual

@@ -5,7 +5,7 @@ use mathlib.Core.Bool.{Bool, true, false}
 use mathlib.Core.List.{List}
 use Prim.Native.Nat.{ℕ, zero, suc, _+_, _*_, _-_, _/_, _%_, _<_, _≤_, _^_}
 use native.Mathlib.Omega.{arith}
-use native.Mathlib.Nat.{pow-le-pow-right, zero-div}
+use native.Mathlib.Nat.{pow-le-pow-right, zero-div, mul-le-mul}
 use lib.Pow.{pow-add}
 use native.Mathlib.Numerals.{add-one, add-two, add-three}
 use lib.Dec.{eqb, lit<, lit≤}
@@ -82,3 +82,9 @@ number-eight s i =
 pub bit-past : (s : List ℕ) (place j : ℕ) → length s ≤ place + j / 8 → false ≡ bitAt s place j
 unfolding bitAt
 bit-past s place j le = rw (byte-past s (place + j / 8) le, zero-div (2 ^ (j % 8)))
+
+-- a place among elements of at most eight bytes
+pub times-small : (j w : ℕ) → j < 2 ^ 40 → w ≤ 8 → j * w ≤ 2 ^ 43
+times-small j w few narrow =
+    let le : j ≤ 2 ^ 40 = omega arith in
+    mul-le-mul le narrow

@@ -29,6 +29,11 @@ afterChecks (Refused f) r c = CompareRefused Left f
 afterChecks Accepted (Refused f) c = CompareRefused Right f
 afterChecks Accepted Accepted c = c
 
+-- the answer of a comparison that a refused check of one side ends
+abbrev pub refusedOf : Side → Checked → Compared
+refusedOf side (Refused f) = CompareRefused side f
+refusedOf side Accepted = No
+
 -- whole comparison: unequal types or lengths are a no
 unfoldable pub compareAnswer : List ℕ → List ℕ → Compared
 compareAnswer s t =

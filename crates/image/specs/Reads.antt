@@ -1,7 +1,7 @@
 -- What a reader's contract says of its result.
 use mathlib.Core.Path.{_≡_}
 use mathlib.Core.List.{List}
-use Prim.Native.Nat.{ℕ, _<_, _^_}
+use Prim.Native.Nat.{ℕ, _<_, _≤_, _^_}
 use lib.ListN.{length, getD}
 use Rattle.image.specs.Element.{childWithId}
 
@@ -9,6 +9,12 @@ use Rattle.image.specs.Element.{childWithId}
 pub record Read (x bits r : ℕ) : Type 0 where
   pub value : r ≡ x
   pub small : r < 2 ^ bits
+
+-- so small that the place of element j of w bytes does not wrap
+pub record Nth (place w j : ℕ) : Type 0 where
+  pub near : place < 2 ^ 40
+  pub narrow : w ≤ 8
+  pub few : j < 2 ^ 40
 
 -- a table of the children of union k by their type ids: entry id is the child that has it, or the children's end
 pub record ById (s : List ℕ) (k : ℕ) (table : List ℕ) : Type 0 where

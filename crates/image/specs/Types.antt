@@ -3,6 +3,9 @@ use mathlib.Core.Bool.{Bool, true, false, cond, not, Bool·beq, _&&_, _||_}
 use mathlib.Core.List.{List, [], _∷_}
 use Prim.Native.Nat.{ℕ, zero, suc, _+_}
 use lib.Dec.{eqb}
+use Rattle.image.specs.declared.place.Place.{Place}
+use Rattle.image.specs.declared.place.Place.the-variants.{Root, Entries, Deeper}
+use Rattle.image.specs.declared.place.Counted.{Counted}
 use Rattle.image.specs.Ranges.{every}
 use Rattle.image.specs.Bytes.{bytesAt}
 use Rattle.image.specs.Record.{codeOf, idOf, nameLength, p1Of, p2Of, namePlace, firstChild, childCount, nullable}
@@ -19,37 +22,26 @@ sameBytes (x ∷ xs) (y ∷ ys) = eqb x y && sameBytes xs ys
 unfoldable pub nameOf : List ℕ → ℕ → List ℕ
 nameOf s k = bytesAt s (namePlace s k) (nameLength s k)
 
--- Where a node stands: at the root, as the entries of a Map at the root, or anywhere else.
-pub data Place : Type 0 where
-  atRoot : Place
-  atEntries : Place
-  deeper : Place
-
--- Which of a child's name, nullable flag and type id count.
-pub record Counted : Type 0 where
-  pub name : Bool
-  pub flag : Bool
-  pub id : Bool
-
+-- which of a child's name, nullable flag and type id count
 abbrev pub counting : Bool → Bool → Bool → Counted
 counting n f i = record { name = n; flag = f; id = i }
 
 -- "A child's name and nullable flag count, a union child's id too. They do not count for .. a Dictionary's child."
-unfoldable pub ordinary : ℕ → Counted
-ordinary code = cond (eqb code 41) (counting false false false) (counting true true (isUnion code))
+unfoldable pub ordinaryCounts : ℕ → Counted
+ordinaryCounts code = cond (eqb code 41) (counting false false false) (counting true true (isUnion code))
 
 -- "Under a Map at the root, the entries' name and flag and the names of key and value do not count either; deeper Maps
--- compare them": what counts for the children of a node of that code and place
+-- compare them": what counts for the children of a node of that code at that place: the root, the entries of a Map at the root, or deeper
 abbrev pub countedFor : Place → ℕ → Counted
-countedFor atRoot code = cond (eqb code 42) (counting false false false) (ordinary code)
-countedFor atEntries code = counting false true false
-countedFor deeper code = ordinary code
+countedFor Root code = cond (eqb code 42) (counting false false false) (ordinaryCounts code)
+countedFor Entries code = counting false true false
+countedFor Deeper code = ordinaryCounts code
 
 -- where the children of a node of that code and place stand
 abbrev pub childPlace : Place → ℕ → Place
-childPlace atRoot code = cond (eqb code 42) atEntries deeper
-childPlace atEntries code = deeper
-childPlace deeper code = deeper
+childPlace Root code = cond (eqb code 42) Entries Deeper
+childPlace Entries code = Deeper
+childPlace Deeper code = Deeper
 
 -- what counts of two children agrees
 unfoldable pub labelsAgree : Counted → List ℕ → List ℕ → ℕ → ℕ → Bool
@@ -76,4 +68,4 @@ typesAgreeAt (suc depth) p s t i j =
 
 -- "They do not count for the root": the types of two images agree
 unfoldable pub typesAgree : List ℕ → List ℕ → Bool
-typesAgree s t = typesAgreeAt 16 atRoot s t 0 0
+typesAgree s t = typesAgreeAt 16 Root s t 0 0

@@ -1,8 +1,8 @@
 // Bytes, little-endian numbers and bits of a slice. Past the slice's end every byte reads as 0.
 ghost use mathlib.Core.Path.{_≡_};
-ghost use Prim.Native.Nat.{_*_, _≤_};
+ghost use Prim.Native.Nat.{_+_, _*_, _≤_};
 ghost use Rattle.image.specs.Bytes.{byteAt, numberAt, bitAt};
-ghost use Rattle.image.specs.Reads.{Read};
+ghost use Rattle.image.specs.Reads.{Read, Nth};
 
 // The byte at a place.
 pub fn byte(s: &[u8], i: usize) -> u8
@@ -79,6 +79,14 @@ pub fn number(s: &[u8], i: usize, w: usize) -> usize
         8 => le64(s, i),
         _ => by_bytes(s, i, w),
     }
+}
+
+// Number j of those of w bytes that stand one after the other from a place on.
+pub fn nth(s: &[u8], place: usize, w: usize, j: usize) -> usize
+    requires { ⌜ Nth place w j ⌝ }
+    ensures { λ r. ⌜ Read (numberAt w (now (s .entry)) (place + j * w)) (8 * w) r ⌝ }
+{
+    number(s, place + j * w, w)
 }
 
 // Bit j of the bits that start at a place.

@@ -1,7 +1,9 @@
 // What stands at a row of a node: its bitmap bit, the width of an element, and the union's child that a type id names.
 use crate::bytes::bit;
+use crate::bytes::nth;
 use crate::bytes::wide;
 use crate::record::bitmap_place;
+use crate::record::buffer_place;
 use crate::record::child_count;
 use crate::record::code;
 use crate::record::first_bit;
@@ -11,9 +13,9 @@ use crate::record::p1;
 use crate::record::type_id;
 use crate::type_code::TypeCode;
 ghost use mathlib.Core.Path.{_≡_};
-ghost use Prim.Native.Nat.{_<_, _^_};
-ghost use Rattle.image.specs.Reads.{ById};
-ghost use Rattle.image.specs.Element.{valid, elementWidth};
+ghost use Prim.Native.Nat.{_<_, _≤_, _^_};
+ghost use Rattle.image.specs.Reads.{Read, ById};
+ghost use Rattle.image.specs.Element.{valid, elementWidth, elementAt, childWithId};
 
 // Row i is not null: its bitmap bit is 1, or the node has no bitmap.
 pub fn is_valid(image: &[u8], node: u32, i: usize) -> bool
@@ -33,6 +35,19 @@ pub fn element_width(image: &[u8], node: u32) -> usize
     TypeCode::width(code(image, node), p1(image, node) as u32)
 }
 
+// Element j of the node's first buffer as a number: an offset or a key.
+pub fn offset_at(image: &[u8], node: u32, j: usize) -> usize
+    requires { ⌜ (elementWidth (now image) node ≤ 8) × (j < 2 ^ 40) ⌝ }
+    ensures { λ r. ⌜ r ≡ elementAt (now (image .entry)) node j ⌝ }
+{
+    nth(
+        image,
+        buffer_place(image, node, 0),
+        element_width(image, node),
+        j,
+    )
+}
+
 // The children of a union by their type ids: entry id is the child that has it, or the end of the children where none has.
 pub fn children_by_id(image: &[u8], node: u32) -> [u32; 256]
     ensures { λ r. ⌜ ById (now (image .entry)) node r ⌝ }
@@ -47,4 +62,20 @@ pub fn children_by_id(image: &[u8], node: u32) -> [u32; 256]
         table[id] = first + k;
     }
     table
+}
+
+// The child of a union that has the type id, or the end of its children where none has.
+pub fn child_with_id(image: &[u8], node: u32, id: u8) -> u32
+    ensures { λ r. ⌜ Read (childWithId (now (image .entry)) node id) 17 r ⌝ }
+{
+    let first = first_child(image, node);
+    let count = child_count(image, node);
+    let mut k: u32 = 0;
+    while k < count {
+        if type_id(image, first + k) == id {
+            return first + k;
+        }
+        k += 1;
+    }
+    first + count
 }

@@ -3,5 +3,6 @@
 pub mod answer;
 pub mod bytes;
 pub mod element;
+pub mod place;
 pub mod record;
 pub mod type_code;

@@ -1,0 +1,12 @@
+pub mod Child
+pub mod Dictionaries
+pub mod FixedLists
+pub mod ListViews
+pub mod Lists
+pub mod Nulls
+pub mod Rows
+pub mod Runs
+pub mod Structs
+pub mod Types
+pub mod Unions
+pub mod Values

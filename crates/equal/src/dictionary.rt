@@ -1,0 +1,46 @@
+// Dictionaries. Translated from src/equal/dictionary.rs of arrow-data 60.1.0 (Apache-2.0).
+use crate::equal_range;
+use image::bytes::nth;
+use image::element::element_width;
+use image::record::buffer_place;
+use image::record::first_child;
+ghost use mathlib.Core.Path.{_≡_};
+ghost use Prim.Native.Nat.{_+_, _<_, _≤_, _^_};
+ghost use Rattle.image.specs.declared.type_code.Layout.the-variants.{Dictionary};
+ghost use Rattle.image.specs.Record.{codeOf};
+ghost use Rattle.image.specs.TypeCode.{layoutOf};
+ghost use Rattle.image.specs.Row.{dictionaryRow, rowAt};
+ghost use Rattle.values.specs.Pairs.{rangeEqual};
+ghost use Rattle.values.specs.Parts.{Parts};
+
+// Dictionaries without null keys: the values that the keys name, row by row.
+pub fn dictionary_equal(
+    a: &[u8],
+    an: u32,
+    b: &[u8],
+    bn: u32,
+    s: usize,
+    t: usize,
+    n: usize,
+    depth: usize,
+) -> bool
+    requires { ⌜ Parts (now a) (now b) an bn s t n depth ⌝ }
+    requires { ⌜ layoutOf (codeOf (now a) an) ≡ Dictionary ⌝ }
+    ensures { λ r. ⌜ r ≡ rangeEqual (dictionaryRow (rowAt depth (now (a .entry))) (now (a .entry)) an) (dictionaryRow (rowAt depth (now (b .entry))) (now (b .entry)) bn) s t n ⌝ }
+{
+    let width = element_width(a, an);
+    let ka = buffer_place(a, an, 0);
+    let kb = buffer_place(b, bn, 0);
+    let ca = first_child(a, an);
+    let cb = first_child(b, bn);
+    let mut k: usize = 0;
+    while k < n {
+        let x = nth(a, ka, width, s + k);
+        let y = nth(b, kb, width, t + k);
+        if !equal_range(a, ca, b, cb, x, y, 1, depth) {
+            return false;
+        }
+        k += 1;
+    }
+    true
+}

@@ -1,0 +1,102 @@
+-- Fixed-width elements are equal exactly where their bytes are the same as one block, and the block lies inside the image.
+-- By the law of blocks, with the offsets 0, w, 2 * w, ..
+use mathlib.Core.Path.{_≡_, refl, sym, ap, _∙_}
+use mathlib.Core.Bool.{Bool, true, false}
+use mathlib.Core.List.{List}
+use Prim.Native.Nat.{ℕ, zero, suc, _+_, _*_, _-_, _<_, _≤_}
+use native.Mathlib.Omega.{arith}
+use native.Mathlib.Nat.{mul-le-mul-right, suc-mul, add-mul}
+use lib.ListN.{length}
+use Rattle.image.specs.declared.type_code.Layout.the-variants.{FixedWidth}
+use Rattle.image.specs.Bytes.{bytesAt}
+use Rattle.image.specs.Record.{nodeCount, codeOf, p1Of, offsetOf, lengthOf, bufferPlace, bufferLength, bufferCount, elementsOf}
+use Rattle.image.specs.TypeCode.{layoutOf, bufferRule}
+use Rattle.image.specs.Element.{elementWidth, elementPlace}
+use Rattle.image.specs.Types.{sameBytes}
+use Rattle.image.specs.Row.{fixedRow}
+use Rattle.image.specs.Equality.{rowEqual}
+use Rattle.laws.specs.Accepted.{AcceptedImage}
+use Rattle.values.specs.Pairs.{all, rangeEqual, sameByte}
+use Rattle.values.specs.Parts.{Side, Part, Parts, Masked, Elements, Spanned, Fixed}
+use Rattle.values.proofs.Steps.{sameRow, by-rows, by-bytes}
+use Rattle.values.proofs.Blocks.{blocks}
+
+-- element h of w bytes starts at h * w
+abbrev times : ℕ → ℕ → ℕ
+times w h = h * w
+
+next : (w h : ℕ) → suc h * w - h * w ≡ w
+next w h =
+    let e : suc h * w ≡ h * w + w = suc-mul h w in
+    omega arith
+
+whole : (w i n : ℕ) → (i + n) * w - i * w ≡ n * w
+whole w i n =
+    let e : (i + n) * w ≡ i * w + n * w = add-mul i n w in
+    omega arith
+
+module _ (a b : List ℕ) (k l : ℕ) (same : elementWidth a k ≡ elementWidth b l) where
+  row : (h g : ℕ) → sameRow (fixedRow a k) (fixedRow b l) h g ≡ all (sameByte a b) (bufferPlace a k 0 + h * elementWidth a k) (bufferPlace b l 0 + g * elementWidth a k) (elementWidth a k)
+  unfolding sameRow fixedRow rowEqual elementPlace
+  row h g = rw (← same) (sym (by-bytes a b _ _ (elementWidth a k)))
+
+  pub fixed-block : (i j n : ℕ) → sameBytes (bytesAt a (elementPlace a k i) (n * elementWidth a k)) (bytesAt b (elementPlace b l j) (n * elementWidth a k)) ≡ rangeEqual (fixedRow a k) (fixedRow b l) i j n
+  unfolding elementPlace
+  fixed-block i j n =
+      rw (← same)
+      (sym (by-bytes a b (bufferPlace a k 0 + i * elementWidth a k) (bufferPlace b l 0 + j * elementWidth a k) (n * elementWidth a k))
+      ∙ ap (all (sameByte a b) (bufferPlace a k 0 + i * elementWidth a k) (bufferPlace b l 0 + j * elementWidth a k)) (sym (whole (elementWidth a k) i n))
+      ∙ sym (blocks (sameByte a b) (sameRow (fixedRow a k) (fixedRow b l)) (times (elementWidth a k)) (times (elementWidth a k)) (bufferPlace a k 0) (bufferPlace b l 0) i j n
+      (λ h le lt. mul-le-mul-right (elementWidth a k) (omega arith)) (λ h le lt. mul-le-mul-right (elementWidth a k) (omega arith))
+      (λ h lt. next (elementWidth a k) (i + h) ∙ sym (next (elementWidth a k) (j + h)))
+      (λ h lt. row (i + h) (j + h) ∙ ap (all (sameByte a b) _ _) (sym (next (elementWidth a k) (i + h)))))
+      ∙ by-rows (fixedRow a k) (fixedRow b l) i j n)
+
+-- what was read of a span lies inside
+pub spanned : (s : List ℕ) (k j n w p : ℕ) → Elements s k j n → w ≡ elementWidth s k → p ≡ bufferPlace s k 0 → Spanned s k j n (p + j * w) (n * w)
+unfolding elementPlace
+spanned s k j n w p r ew ep =
+    let node = r .image .node k (r .node) in
+    let one : bufferCount s k ≡ 1 = node .buffers .exactly 1 (rw (r .fixed)) in
+    let inside : bufferPlace s k 0 + bufferLength s k 0 ≤ length s = node .buffers .inside 0 (omega arith) in
+    let enough : elementsOf s k * elementWidth s k ≤ bufferLength s k 0 = node .enough .fixed-width (r .fixed) in
+    let part : (j + n) * elementWidth s k ≤ elementsOf s k * elementWidth s k = mul-le-mul-right (elementWidth s k) (r .high) in
+    let e : (j + n) * elementWidth s k ≡ j * elementWidth s k + n * elementWidth s k = add-mul j n (elementWidth s k) in
+    record { place = rw (ew, ep); size = rw ew; inside = rw (ew, ep) (omega arith) }
+
+pub image-small : (s : List ℕ) (k j n : ℕ) → Elements s k j n → length s ≤ 16777216
+image-small s k j n r = r .image .size
+
+-- nodes of one code and p1 have elements of one width
+pub same-width : (a b : List ℕ) (k l : ℕ) → codeOf a k ≡ codeOf b l → p1Of a k ≡ p1Of b l → elementWidth a k ≡ elementWidth b l
+unfolding elementWidth
+same-width a b k l code p1 = rw (code, p1)
+
+-- parts of two fixed-width nodes that are alike
+pub parts-fixed : (a b : List ℕ) (k l i j n d : ℕ) → Parts a b k l i j n d → layoutOf (codeOf a k) ≡ FixedWidth → Fixed a b k l i j n
+parts-fixed a b k l i j n d r fixed = record {
+  left = record { image = r .left .image; node = r .left .node; fixed = fixed; high = r .left .high };
+  right = record { image = r .right .image; node = r .right .node; fixed = sym (ap layoutOf (r .alike .0 .code)) ∙ fixed; high = r .right .high };
+  width = same-width a b k l (r .alike .0 .code) (r .alike .0 .p1);
+}
+
+-- the elements that rows read
+pub masked-fixed : (a b : List ℕ) (k l i j n : ℕ) → Masked a b k l i j n → Fixed a b k l (offsetOf a k + i) (offsetOf b l + j) n
+unfolding elementsOf
+masked-fixed a b k l i j n r = record {
+  left = record { image = r .left .image; node = r .left .node; fixed = r .fixed; high = omega (arith, r .left .rows) };
+  right = record { image = r .right .image; node = r .right .node; fixed = sym (ap layoutOf (r .code)) ∙ r .fixed; high = omega (arith, r .right .rows) };
+  width = same-width a b k l (r .code) (r .p1);
+}
+
+-- rows of an accepted node are few
+pub side-small : (s : List ℕ) (k i n : ℕ) → Side s k i n → offsetOf s k + i + n ≤ 1073741824
+unfolding elementsOf
+side-small s k i n r = omega (arith, r .rows, r .image .node k (r .node) .buffers .small)
+
+pub spanned-small : (s : List ℕ) (k j n w p : ℕ) → Elements s k j n → w ≡ elementWidth s k → p ≡ bufferPlace s k 0 → p + j * w + n * w ≤ 16777216
+spanned-small s k j n w p r ew ep = omega (arith, spanned s k j n w p r ew ep .inside, r .image .size)
+
+-- spans of equally many elements of one width are equally long
+pub same-length : (a b : List ℕ) (k l n : ℕ) {i j at bt x y : ℕ} → Fixed a b k l i j n → Spanned a k i n at x → Spanned b l j n bt y → x ≡ y
+same-length a b k l n r u v = u .size ∙ ap (λ (w : ℕ). n * w) (r .width) ∙ sym (v .size)

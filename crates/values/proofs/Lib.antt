@@ -1,0 +1,12 @@
+pub mod Blocks
+pub mod Fixed
+pub mod Leads
+pub mod Levels
+pub mod MaskedRows
+pub mod Masks
+pub mod Names
+pub mod Spans
+pub mod Steps
+pub mod Texts
+pub mod Views
+pub mod Words

@@ -1,0 +1,136 @@
+-- A test of pairs in step: what the loops that compare keep.
+-- The test of all n pairs is that of those from pair k on; a turn takes one pair off, a jump several.
+use mathlib.Core.Path.{_≡_, refl, sym, ap, _∙_}
+use mathlib.Core.Bool.{Bool, true, false, _&&_}
+use mathlib.Core.List.{List}
+use Prim.Native.Nat.{ℕ, zero, suc, _+_, _*_, _-_, _<_, _≤_}
+use native.Mathlib.Omega.{arith}
+use native.Mathlib.Nat.{add-zero, sub-zero}
+use borrow.Author.Tests.{eq-eqb, ne-eqb}
+use Rattle.image.specs.Bytes.{byteAt, bytesAt}
+use Rattle.image.specs.Types.{sameBytes}
+use Rattle.image.specs.Row.{Row, range}
+use Rattle.image.specs.Equality.{rowEqual, rowsEqual}
+use Rattle.values.specs.Pairs.{all, rangeEqual, sameByte}
+
+-- the test of n pairs from i and j on is that of those from pair k on
+pub record Left (p : ℕ → ℕ → Bool) (i j n k : ℕ) : Type 0 where
+  pub within : k ≤ n
+  pub same : all p i j n ≡ all p (i + k) (j + k) (n - k)
+
+and-assoc : (x y z : Bool) → x && (y && z) ≡ x && y && z
+and-assoc true y z = refl
+and-assoc false y z = refl
+
+pub all-split : (p : ℕ → ℕ → Bool) (i j m n : ℕ) → all p i j (m + n) ≡ all p i j m && all p (i + m) (j + m) n
+unfolding all
+all-split p i j zero n =
+    let e : 0 + n ≡ n = omega arith in
+    let x : i + 0 ≡ i = omega arith in
+    let y : j + 0 ≡ j = omega arith in
+    rw (e, x, y)
+all-split p i j (suc m) n =
+    let e : suc m + n ≡ suc (m + n) = omega arith in
+    let x : i + suc m ≡ suc i + m = omega arith in
+    let y : j + suc m ≡ suc j + m = omega arith in
+    rw (e, x, y, all-split p (suc i) (suc j) m n) (and-assoc (p i j) _ _)
+
+module _ (p : ℕ → ℕ → Bool) (i j n : ℕ) where
+  pub left-none : Left p i j n 0
+  left-none = record { within = omega arith; same = simp (add-zero, sub-zero) }
+
+  step : (k : ℕ) → k < n → all p (i + k) (j + k) (n - k) ≡ p (i + k) (j + k) && all p (i + (k + 1)) (j + (k + 1)) (n - (k + 1))
+  unfolding all
+  step k lt =
+      let e : n - k ≡ suc (n - (k + 1)) = omega arith in
+      let x : i + (k + 1) ≡ suc (i + k) = omega arith in
+      let y : j + (k + 1) ≡ suc (j + k) = omega arith in
+      rw (e, x, y)
+
+  pub left-more : (k : ℕ) → k < n → Left p i j n k → p (i + k) (j + k) ≡ true → Left p i j n (k + 1)
+  left-more k lt r e = record { within = omega arith; same = r .same ∙ step k lt ∙ rw e }
+
+  pub left-fails : (k : ℕ) → k < n → Left p i j n k → p (i + k) (j + k) ≡ false → false ≡ all p i j n
+  left-fails k lt r e = sym (r .same ∙ step k lt ∙ rw e)
+
+  pub left-done : (k : ℕ) → n ≤ k → Left p i j n k → true ≡ all p i j n
+  unfolding all
+  left-done k le r =
+      let e : n - k ≡ 0 = omega arith in
+      sym (r .same ∙ rw e)
+
+  -- what is left is the answer
+  pub left-rest : (k : ℕ) → Left p i j n k → {x : Bool} → x ≡ all p (i + k) (j + k) (n - k) → x ≡ all p i j n
+  left-rest k r e = e ∙ sym (r .same)
+
+  -- m pairs at once
+  jump : (k m : ℕ) → m ≤ n - k → all p (i + k) (j + k) (n - k) ≡ all p (i + k) (j + k) m && all p (i + (k + m)) (j + (k + m)) (n - (k + m))
+  jump k m le =
+      let e : n - k ≡ m + (n - (k + m)) = omega arith in
+      let x : i + (k + m) ≡ i + k + m = omega arith in
+      let y : j + (k + m) ≡ j + k + m = omega arith in
+      rw (e, x, y) (all-split p (i + k) (j + k) m (n - (k + m)))
+
+  pub left-jump : (k m : ℕ) → k ≤ n → m ≤ n - k → Left p i j n k → all p (i + k) (j + k) m ≡ true → Left p i j n (k + m)
+  left-jump k m kn le r e = record { within = omega arith; same = r .same ∙ jump k m le ∙ rw e }
+
+  pub jump-fails : (k m : ℕ) → m ≤ n - k → Left p i j n k → all p (i + k) (j + k) m ≡ false → false ≡ all p i j n
+  jump-fails k m le r e = sym (r .same ∙ jump k m le ∙ rw e)
+
+-- a range of rows is equal where all its pairs are
+unfoldable pub sameRow : (ℕ → Row) → (ℕ → Row) → ℕ → ℕ → Bool
+sameRow g h i j = rowEqual (g i) (h j)
+
+pub by-rows : (g h : ℕ → Row) (i j n : ℕ) → all (sameRow g h) i j n ≡ rangeEqual g h i j n
+unfolding all range rowEqual sameRow
+by-rows g h i j zero = refl
+by-rows g h i j (suc n) = rw (by-rows g h (suc i) (suc j) n)
+
+-- bytes are the same where all pairs are
+pub by-bytes : (a b : List ℕ) (i j n : ℕ) → all (sameByte a b) i j n ≡ sameBytes (bytesAt a i n) (bytesAt b j n)
+unfolding all sameByte bytesAt sameBytes
+by-bytes a b i j zero = refl
+by-bytes a b i j (suc n) = rw (by-bytes a b (suc i) (suc j) n)
+
+-- tests that agree on the pairs of a range agree over it
+pub all-same : (p q : ℕ → ℕ → Bool) (i j n : ℕ) → ((k : ℕ) → k < n → p (i + k) (j + k) ≡ q (i + k) (j + k)) → all p i j n ≡ all q i j n
+unfolding all
+all-same p q i j zero e = refl
+all-same p q i j (suc n) e =
+    let x : i + 0 ≡ i = omega arith in
+    let y : j + 0 ≡ j = omega arith in
+    let here : p i j ≡ q i j = rw (x, y) at (e 0 (omega arith)) in
+    rw (
+      here,
+      all-same p q (suc i) (suc j) n (λ k lt.
+          let u : suc i + k ≡ i + suc k = omega arith in
+          let v : suc j + k ≡ j + suc k = omega arith in
+          rw (u, v) (e (suc k) (omega arith))),
+    )
+
+and-true : (x : Bool) → x && true ≡ x
+and-true true = refl
+and-true false = refl
+
+-- one pair more at the end
+pub all-snoc : (p : ℕ → ℕ → Bool) (i j k : ℕ) → all p i j (k + 1) ≡ all p i j k && p (i + k) (j + k)
+unfolding all
+all-snoc p i j k = all-split p i j k 1 ∙ ap (λ (x : Bool). all p i j k && x) (and-true (p (i + k) (j + k)))
+
+pub all-none : (p : ℕ → ℕ → Bool) (i j : ℕ) → true ≡ all p i j 0
+unfolding all
+all-none p i j = refl
+
+-- two bytes that are the same, or not
+pub same-byte : (a b : List ℕ) (i j : ℕ) → byteAt a i ≡ byteAt b j → sameByte a b i j ≡ true
+unfolding sameByte
+same-byte a b i j e = eq-eqb _ _ e
+
+pub other-byte : (a b : List ℕ) (i j : ℕ) → (byteAt a i ≡ byteAt b j → ⊥) → sameByte a b i j ≡ false
+unfolding sameByte
+other-byte a b i j e = ne-eqb _ _ e
+
+-- a row's test that was made
+pub row-test : (g h : ℕ → Row) (i j : ℕ) {x : Bool} → x ≡ rowEqual (g i) (h j) → sameRow g h i j ≡ x
+unfolding sameRow
+row-test g h i j e = sym e

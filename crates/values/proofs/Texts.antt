@@ -1,0 +1,89 @@
+-- Texts without nulls: what acceptance gives of their offsets, and that they are equal as one block of bytes.
+-- By the law of blocks, with the offsets as they are stored.
+use mathlib.Core.Path.{_≡_, refl, sym, ap, _∙_}
+use mathlib.Core.Bool.{Bool, true, false}
+use mathlib.Core.List.{List}
+use Prim.Native.Nat.{ℕ, zero, suc, _+_, _*_, _-_, _<_, _≤_, _^_}
+use native.Mathlib.Omega.{arith}
+use lib.ListN.{length}
+use borrow.Author.Tests.{eqb-true, eqb-false}
+use Rattle.image.specs.declared.type_code.Layout.the-variants.{VariableSize}
+use Rattle.image.specs.Bytes.{bytesAt}
+use Rattle.image.specs.Record.{codeOf, bufferPlace, bufferLength, bufferCount, elementsOf}
+use Rattle.image.specs.TypeCode.{layoutOf, bufferRule}
+use Rattle.image.specs.Element.{elementWidth, elementAt}
+use Rattle.image.specs.Types.{sameBytes}
+use Rattle.image.specs.Row.{variableRow}
+use Rattle.image.specs.Equality.{rowEqual}
+use Rattle.laws.specs.Accepted.{AcceptedImage, OffsetsRise}
+use Rattle.values.specs.Pairs.{all, rangeEqual, sameByte, sameSpan, spanAt}
+use Rattle.values.specs.Parts.{Part, Parts, Spans}
+use Rattle.values.proofs.Steps.{sameRow, by-rows, by-bytes}
+use Rattle.values.proofs.Blocks.{blocks, all-at, all-weaker, rise-far, equal-spans}
+use Rattle.values.proofs.Fixed.{same-width}
+use Rattle.values.proofs.Names.{other-length}
+
+pub part-small : (s : List ℕ) (k i n : ℕ) → Part s k i n → i + n ≤ 1073741824
+part-small s k i n r = omega (arith, r .high, r .image .node k (r .node) .buffers .small)
+
+-- offsets of parts that rise
+pub spans-of : (a b : List ℕ) (k l i j n d enda endb : ℕ) → Parts a b k l i j n d → elementWidth a k ≤ 8 → OffsetsRise a k enda → OffsetsRise b l endb → Spans a b k l i j n
+spans-of a b k l i j n d enda endb r narrow ra rb = record {
+  narrow = narrow;
+  same = same-width a b k l (r .alike .0 .code) (r .alike .0 .p1);
+  left = λ h lo hi. ra .rise h (omega (arith, r .left .high));
+  right = λ h lo hi. rb .rise h (omega (arith, r .right .high));
+  left-small = omega (arith, part-small a k i n (r .left));
+  right-small = omega (arith, part-small b l j n (r .right));
+}
+
+module _ (s : List ℕ) (k i n : ℕ) (r : Part s k i n) (text : layoutOf (codeOf s k) ≡ VariableSize) where
+  pub text-narrow : elementWidth s k ≤ 8
+  text-narrow = r .image .node k (r .node) .widths .variable-size text
+
+  pub text-rises : OffsetsRise s k (bufferLength s k 1)
+  text-rises = r .image .node k (r .node) .places .variable-size text
+
+  -- the text from the offset at i up to that at i + n lies inside
+  pub text-inside : bufferPlace s k 1 + elementAt s k (i + n) ≤ length s
+  text-inside =
+      let two : bufferCount s k ≡ 2 = r .image .node k (r .node) .buffers .exactly 2 (rw text) in
+      let inside : bufferPlace s k 1 + bufferLength s k 1 ≤ length s = r .image .node k (r .node) .buffers .inside 1 (omega arith) in
+      let end : elementAt s k (i + n) ≤ bufferLength s k 1 = text-rises .within (i + n) (r .high) in
+      omega arith
+
+  pub text-up : elementAt s k i ≤ elementAt s k (i + n)
+  text-up = rise-far (elementAt s k) i n (λ h lo hi. text-rises .rise h (omega (arith, r .high)))
+
+module _ (a b : List ℕ) (k l : ℕ) where
+  other-text : (i j : ℕ) → sameSpan a k b l i j ≡ false → sameRow (variableRow a k) (variableRow b l) i j ≡ false
+  unfolding sameSpan spanAt sameRow variableRow rowEqual
+  other-text i j e = other-length a b _ _ _ _ (eqb-false _ _ e)
+
+  pub texts-differ : (i j n : ℕ) → all (sameSpan a k b l) i j n ≡ false → false ≡ rangeEqual (variableRow a k) (variableRow b l) i j n
+  texts-differ i j n e = sym (all-weaker (sameSpan a k b l) _ i j n (λ h lt. other-text (i + h) (j + h)) e) ∙ by-rows _ _ i j n
+
+  text-row : (i j : ℕ) → spanAt a k i ≡ spanAt b l j
+      → sameRow (variableRow a k) (variableRow b l) i j ≡ all (sameByte a b) (bufferPlace a k 1 + elementAt a k i) (bufferPlace b l 1 + elementAt b l j) (elementAt a k (suc i) - elementAt a k i)
+  unfolding spanAt sameRow variableRow rowEqual
+  text-row i j e = rw (← e) (sym (by-bytes a b _ _ (elementAt a k (suc i) - elementAt a k i)))
+
+  pub texts-block : (i j n d : ℕ) → Parts a b k l i j n d → layoutOf (codeOf a k) ≡ VariableSize → all (sameSpan a k b l) i j n ≡ true
+      → sameBytes (bytesAt a (bufferPlace a k 1 + elementAt a k i) (elementAt a k (i + n) - elementAt a k i)) (bytesAt b (bufferPlace b l 1 + elementAt b l j) (elementAt a k (i + n) - elementAt a k i))
+      ≡ rangeEqual (variableRow a k) (variableRow b l) i j n
+  unfolding sameSpan spanAt
+  texts-block i j n d r text same =
+      let ra = text-rises a k i n (r .left) text in
+      let rb = text-rises b l j n (r .right) (sym (ap layoutOf (r .alike .0 .code)) ∙ text) in
+      let spans : (h : ℕ) → h < n → elementAt a k (suc (i + h)) - elementAt a k (i + h) ≡ elementAt b l (suc (j + h)) - elementAt b l (j + h) =
+      λ h lt. eqb-true _ _ (all-at (sameSpan a k b l) i j n same h lt) in
+      sym (by-bytes a b _ _ (elementAt a k (i + n) - elementAt a k i))
+      ∙ sym (blocks (sameByte a b) (sameRow (variableRow a k) (variableRow b l)) (elementAt a k) (elementAt b l) (bufferPlace a k 1) (bufferPlace b l 1) i j n
+      (λ h lo hi. ra .rise h (omega (arith, r .left .high))) (λ h lo hi. rb .rise h (omega (arith, r .right .high))) spans
+      (λ h lt. text-row (i + h) (j + h) (spans h lt)))
+      ∙ by-rows _ _ i j n
+
+-- the text that is compared ends on the right where its last offset says
+pub right-end : (a b : List ℕ) (k l i j n : ℕ) → Spans a b k l i j n → all (sameSpan a k b l) i j n ≡ true → elementAt b l j + (elementAt a k (i + n) - elementAt a k i) ≡ elementAt b l (j + n)
+unfolding sameSpan spanAt
+right-end a b k l i j n r same = equal-spans (elementAt a k) (elementAt b l) i j n (r .left) (r .right) (λ h lt. eqb-true _ _ (all-at (sameSpan a k b l) i j n same h lt))

@@ -1,0 +1,47 @@
+-- Two ranges compared in step.
+use mathlib.Core.Bool.{Bool, true, Bool·beq, _&&_}
+use mathlib.Core.List.{List}
+use Prim.Native.Nat.{ℕ, zero, suc, _+_, _-_}
+use lib.Dec.{eqb}
+use Rattle.image.specs.Bytes.{byteAt, bitAt}
+use Rattle.image.specs.Element.{valid, elementAt, typeIdAt}
+use Rattle.image.specs.Record.{offsetOf}
+use Rattle.image.specs.Row.{Row, range, masked, fixedRow}
+use Rattle.image.specs.Equality.{rowEqual, rowsEqual}
+
+-- the test holds of the n pairs (i, j), (i + 1, j + 1), ..
+unfoldable pub all : (ℕ → ℕ → Bool) → ℕ → ℕ → ℕ → Bool
+all p i j zero = true
+all p i j (suc n) = p i j && all p (suc i) (suc j) n
+
+-- n rows g i, g (i + 1), .. and h j, h (j + 1), .. are equal in turn
+abbrev pub rangeEqual : (ℕ → Row) → (ℕ → Row) → ℕ → ℕ → ℕ → Bool
+rangeEqual g h i j n = rowsEqual (range g i n) (range h j n)
+
+-- the bytes at i and j
+unfoldable pub sameByte : List ℕ → List ℕ → ℕ → ℕ → Bool
+sameByte a b i j = eqb (byteAt a i) (byteAt b j)
+
+-- bits i and j of the bits that start at two places
+unfoldable pub sameBit : List ℕ → ℕ → List ℕ → ℕ → ℕ → ℕ → Bool
+sameBit a p b q i j = Bool·beq (bitAt a p i) (bitAt b q j)
+
+-- rows i and j of two nodes are both null or both not
+unfoldable pub sameMask : List ℕ → ℕ → List ℕ → ℕ → ℕ → ℕ → Bool
+sameMask a k b l i j = Bool·beq (valid a k i) (valid b l j)
+
+-- the type ids at elements i and j of two unions
+unfoldable pub sameId : List ℕ → ℕ → List ℕ → ℕ → ℕ → ℕ → Bool
+sameId a k b l i j = eqb (typeIdAt a k i) (typeIdAt b l j)
+
+-- from the offset at element i up to the next
+unfoldable pub spanAt : List ℕ → ℕ → ℕ → ℕ
+spanAt s k i = elementAt s k (suc i) - elementAt s k i
+
+-- the texts or lists at elements i and j are equally long
+unfoldable pub sameSpan : List ℕ → ℕ → List ℕ → ℕ → ℕ → ℕ → Bool
+sameSpan a k b l i j = eqb (spanAt a k i) (spanAt b l j)
+
+-- row i of a fixed-width node: null, or its bytes
+unfoldable pub maskedFixed : List ℕ → ℕ → ℕ → Row
+maskedFixed s k i = masked (valid s k i) (fixedRow s k (offsetOf s k + i))

@@ -1,0 +1,80 @@
+// Bits of a slice, 64 at a time: what the Rust has in its bit iterators.
+use image::bytes::bit;
+use image::bytes::byte;
+use image::bytes::le64;
+use image::bytes::wide;
+ghost use mathlib.Core.Path.{_≡_};
+ghost use mathlib.Core.Bool.{true};
+ghost use Prim.Native.Nat.{_+_, _<_, _≤_, _^_};
+ghost use Rattle.image.specs.Bytes.{bitAt};
+ghost use Rattle.image.specs.Ranges.{every};
+ghost use Rattle.values.specs.Bits.{bitsAt, Leading};
+ghost use Rattle.values.specs.Pairs.{all, sameBit};
+
+const ALL_SET: usize = 18446744073709551615;
+
+// The 64 bits from bit i on, of the bits that start at a place, as a number, the first bit lowest.
+pub fn word(s: &[u8], place: usize, i: usize) -> usize
+    requires { ⌜ (place < 2 ^ 32) × (i < 2 ^ 35) ⌝ }
+    ensures { λ r. ⌜ r ≡ bitsAt (now (s .entry)) place i 64 ⌝ }
+{
+    let at = place + i / 8;
+    let low = le64(s, at);
+    let shift = i % 8;
+    if shift == 0 {
+        return low;
+    }
+    let high = wide(byte(s, at + 8));
+    (low >> shift) + (high << (64 - shift))
+}
+
+// Bits i, i + 1, .. at one place are bits j, j + 1, .. at another, n of them.
+pub fn same_bits(a: &[u8], p: usize, i: usize, b: &[u8], q: usize, j: usize, n: usize) -> bool
+    requires { ⌜ (p < 2 ^ 32) × (q < 2 ^ 32) × (i + n < 2 ^ 35) × (j + n < 2 ^ 35) ⌝ }
+    ensures { λ r. ⌜ r ≡ all (sameBit (now (a .entry)) p (now (b .entry)) q) i j n ⌝ }
+{
+    let mut k: usize = 0;
+    while 64 <= n - k {
+        if word(a, p, i + k) != word(b, q, j + k) {
+            return false;
+        }
+        k += 64;
+    }
+    while k < n {
+        if bit(a, p, i + k) != bit(b, q, j + k) {
+            return false;
+        }
+        k += 1;
+    }
+    true
+}
+
+// How many of n bits from bit i on are set, up to the first that is not.
+pub fn leading_set(s: &[u8], place: usize, i: usize, n: usize) -> usize
+    requires { ⌜ (place < 2 ^ 32) × (i + n < 2 ^ 35) ⌝ }
+    ensures { λ r. ⌜ Leading (bitAt (now (s .entry)) place) i n r ⌝ }
+{
+    let mut k: usize = 0;
+    while 64 <= n - k {
+        if word(s, place, i + k) != ALL_SET {
+            return leading_from(s, place, i, n, k);
+        }
+        k += 64;
+    }
+    leading_from(s, place, i, n, k)
+}
+
+// The same, bit by bit, where the first k are known to be set.
+fn leading_from(s: &[u8], place: usize, i: usize, n: usize, k: usize) -> usize
+    requires { ⌜ (place < 2 ^ 32) × (i + n < 2 ^ 35) × (k ≤ n) × (every (bitAt (now s) place) i k ≡ true) ⌝ }
+    ensures { λ r. ⌜ Leading (bitAt (now (s .entry)) place) i n r ⌝ }
+{
+    let mut r = k;
+    while r < n {
+        if !bit(s, place, i + r) {
+            return r;
+        }
+        r += 1;
+    }
+    r
+}

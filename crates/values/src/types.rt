@@ -1,0 +1,126 @@
+// The types of two images. In the Rust `DataType` compares itself; src/equal/utils.rs says what does not count.
+use image::bytes::byte;
+use image::place::Counted;
+use image::place::Place;
+use image::record::child_count;
+use image::record::code;
+use image::record::first_child;
+use image::record::is_nullable;
+use image::record::name_length;
+use image::record::name_place;
+use image::record::p1;
+use image::record::p2;
+use image::record::type_id;
+ghost use mathlib.Core.Path.{_≡_};
+ghost use mathlib.Core.Bool.{not, Bool·beq, _||_};
+ghost use lib.Dec.{eqb};
+ghost use Rattle.image.specs.Record.{idOf, nullable};
+ghost use Rattle.image.specs.Types.{sameBytes, nameOf, labelsAgree, headsAgree, typesAgreeAt};
+
+// The names of two nodes are the same.
+fn names_equal(a: &[u8], b: &[u8], i: u32, j: u32) -> bool
+    ensures { λ r. ⌜ r ≡ sameBytes (nameOf (now (a .entry)) i) (nameOf (now (b .entry)) j) ⌝ }
+{
+    let n = name_length(a, i);
+    if n != name_length(b, j) {
+        return false;
+    }
+    let at = name_place(a, i);
+    let bt = name_place(b, j);
+    let mut k: usize = 0;
+    while k < n {
+        if byte(a, at + k) != byte(b, bt + k) {
+            return false;
+        }
+        k += 1;
+    }
+    true
+}
+
+// The names of two nodes are the same, where they count.
+fn name_agrees(a: &[u8], b: &[u8], i: u32, j: u32, counts: bool) -> bool
+    ensures { λ r. ⌜ r ≡ (not counts || sameBytes (nameOf (now (a .entry)) i) (nameOf (now (b .entry)) j)) ⌝ }
+{
+    if !counts {
+        return true;
+    }
+    names_equal(a, b, i, j)
+}
+
+// The nullable flags of two nodes are the same, where they count.
+fn flag_agrees(a: &[u8], b: &[u8], i: u32, j: u32, counts: bool) -> bool
+    ensures { λ r. ⌜ r ≡ (not counts || Bool·beq (nullable (now (a .entry)) i) (nullable (now (b .entry)) j)) ⌝ }
+{
+    if !counts {
+        return true;
+    }
+    is_nullable(a, i) == is_nullable(b, j)
+}
+
+// The type ids of two nodes are the same, where they count.
+fn id_agrees(a: &[u8], b: &[u8], i: u32, j: u32, counts: bool) -> bool
+    ensures { λ r. ⌜ r ≡ (not counts || eqb (idOf (now (a .entry)) i) (idOf (now (b .entry)) j)) ⌝ }
+{
+    if !counts {
+        return true;
+    }
+    type_id(a, i) == type_id(b, j)
+}
+
+// What counts of two children agrees.
+fn labels_equal(a: &[u8], b: &[u8], i: u32, j: u32, counted: Counted) -> bool
+    ensures { λ r. ⌜ r ≡ labelsAgree counted (now (a .entry)) (now (b .entry)) i j ⌝ }
+{
+    if !name_agrees(a, b, i, j, counted.name) {
+        return false;
+    }
+    if !flag_agrees(a, b, i, j, counted.flag) {
+        return false;
+    }
+    id_agrees(a, b, i, j, counted.id)
+}
+
+// Codes, parameters and child counts of two nodes agree.
+fn heads_equal(a: &[u8], b: &[u8], i: u32, j: u32) -> bool
+    ensures { λ r. ⌜ r ≡ headsAgree (now (a .entry)) (now (b .entry)) i j ⌝ }
+{
+    if code(a, i) != code(b, j) {
+        return false;
+    }
+    if p1(a, i) != p1(b, j) {
+        return false;
+    }
+    if p2(a, i) != p2(b, j) {
+        return false;
+    }
+    child_count(a, i) == child_count(b, j)
+}
+
+// The types of two nodes agree, down to the given depth.
+pub fn types_equal(a: &[u8], b: &[u8], i: u32, j: u32, place: Place, depth: usize) -> bool
+    ensures { λ r. ⌜ r ≡ typesAgreeAt depth place (now (a .entry)) (now (b .entry)) i j ⌝ }
+{
+    if depth == 0 {
+        return true;
+    }
+    if !heads_equal(a, b, i, j) {
+        return false;
+    }
+    let c = code(a, i);
+    let counted = place.counted(c);
+    let below = place.child(c);
+    let count = child_count(a, i);
+    let x = first_child(a, i);
+    let y = first_child(b, j);
+    let mut k: u32 = 0;
+    while k < count {
+        if !labels_equal(a, b, x + k, y + k, counted) {
+            return false;
+        }
+        if !types_equal(a, b, x + k, y + k, below, depth - 1) {
+            return false;
+        }
+        k += 1;
+    }
+    true
+}

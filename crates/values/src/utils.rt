@@ -1,0 +1,99 @@
+// Bytes, null masks and types. Translated from src/equal/utils.rs of arrow-data 60.1.0 (Apache-2.0).
+use crate::bits::leading_set;
+use crate::bits::same_bits;
+use crate::types::types_equal;
+use image::place::Place;
+use image::record::bitmap_place;
+use image::record::first_bit;
+use image::record::has_bitmap;
+use image::record::length;
+ghost use mathlib.Core.Path.{_≡_};
+ghost use mathlib.Core.Bool.{_&&_};
+ghost use Prim.Native.Nat.{_+_, _<_, _≤_, _^_};
+ghost use lib.ListN.{length};
+ghost use lib.Dec.{eqb};
+ghost use Rattle.image.specs.Bytes.{bytesAt, bitAt};
+ghost use Rattle.image.specs.Ranges.{every};
+ghost use Rattle.image.specs.Record.{lengthOf};
+ghost use Rattle.image.specs.Types.{sameBytes, typesAgree};
+ghost use Rattle.values.specs.Pairs.{all, sameMask, sameByte};
+
+const BLOCK: usize = 64;
+
+// The 64 bytes at two places are the same. There is no way out of the loop, so that the compiler compares many at once.
+fn equal_block(a: &[u8], b: &[u8], at: usize, bt: usize) -> bool
+    requires { ⌜ (at + 64 ≤ length (now a)) × (bt + 64 ≤ length (now b)) ⌝ }
+    ensures { λ r. ⌜ r ≡ all (sameByte (now (a .entry)) (now (b .entry))) at bt 64 ⌝ }
+{
+    let mut same = true;
+    let mut k: usize = 0;
+    while k < BLOCK {
+        same = same & (a[at + k] == b[bt + k]);
+        k += 1;
+    }
+    same
+}
+
+// The n bytes at two places are the same.
+pub fn equal_len(a: &[u8], b: &[u8], at: usize, bt: usize, n: usize) -> bool
+    requires { ⌜ (at + n ≤ length (now a)) × (bt + n ≤ length (now b)) ⌝ }
+    ensures { λ r. ⌜ r ≡ sameBytes (bytesAt (now (a .entry)) at n) (bytesAt (now (b .entry)) bt n) ⌝ }
+{
+    let mut i: usize = 0;
+    while BLOCK <= n - i {
+        if !equal_block(a, b, at + i, bt + i) {
+            return false;
+        }
+        i += BLOCK;
+    }
+    while i < n {
+        if a[at + i] != b[bt + i] {
+            return false;
+        }
+        i += 1;
+    }
+    true
+}
+
+// All of n bits from bit i on are set.
+fn all_set(s: &[u8], place: usize, i: usize, n: usize) -> bool
+    requires { ⌜ (place < 2 ^ 32) × (i + n < 2 ^ 35) ⌝ }
+    ensures { λ r. ⌜ r ≡ every (bitAt (now (s .entry)) place) i n ⌝ }
+{
+    leading_set(s, place, i, n) == n
+}
+
+// Of n rows from s and from t on, in turn, both are null or neither is.
+pub fn equal_nulls(a: &[u8], an: u32, b: &[u8], bn: u32, s: usize, t: usize, n: usize) -> bool
+    requires { ⌜ (s + n < 2 ^ 34) × (t + n < 2 ^ 34) ⌝ }
+    ensures { λ r. ⌜ r ≡ all (sameMask (now (a .entry)) an (now (b .entry)) bn) s t n ⌝ }
+{
+    if !has_bitmap(a, an) {
+        if !has_bitmap(b, bn) {
+            return true;
+        }
+        return all_set(b, bitmap_place(b, bn), first_bit(b, bn) + t, n);
+    }
+    if !has_bitmap(b, bn) {
+        return all_set(a, bitmap_place(a, an), first_bit(a, an) + s, n);
+    }
+    same_bits(
+        a,
+        bitmap_place(a, an),
+        first_bit(a, an) + s,
+        b,
+        bitmap_place(b, bn),
+        first_bit(b, bn) + t,
+        n,
+    )
+}
+
+// The types and the lengths of two tables agree.
+pub fn base_equal(a: &[u8], b: &[u8]) -> bool
+    ensures { λ r. ⌜ r ≡ (typesAgree (now (a .entry)) (now (b .entry)) && eqb (lengthOf (now (a .entry)) 0) (lengthOf (now (b .entry)) 0)) ⌝ }
+{
+    if !types_equal(a, b, 0, 0, Place::Root, 16) {
+        return false;
+    }
+    image::record::length(a, 0) == image::record::length(b, 0)
+}
