@@ -15,21 +15,8 @@ use Rattle.values.specs.Pairs.{all, rangeEqual}
 use Rattle.values.specs.Parts.{Part, Sides, Parts}
 use Rattle.values.proofs.Steps.{sameRow, by-rows}
 use Rattle.values.proofs.Blocks.{blocks}
+use Rattle.values.proofs.Fixed.{times, next, whole}
 use Rattle.equal.proofs.Child.{length-small, child-node, part-node, layout-right, count-left, first-sides}
-
--- list h of w rows starts at h * w
-abbrev times : ℕ → ℕ → ℕ
-times w h = h * w
-
-next : (w h : ℕ) → suc h * w - h * w ≡ w
-next w h =
-    let e : suc h * w ≡ h * w + w = suc-mul h w in
-    omega arith
-
-whole : (w i n : ℕ) → (i + n) * w - i * w ≡ n * w
-whole w i n =
-    let e : (i + n) * w ≡ i * w + n * w = add-mul i n w in
-    omega arith
 
 module _ (A B : ℕ → ℕ → Row) (a b : List ℕ) (k l : ℕ) (same : p1Of a k ≡ p1Of b l) where
   row : (x y : ℕ) → sameRow (fixedListRow A a k) (fixedListRow B b l) x y ≡ all (sameRow (A (firstChild a k)) (B (firstChild b l))) (0 + x * p1Of a k) (0 + y * p1Of a k) (p1Of a k)

@@ -19,10 +19,10 @@ use Rattle.image.proofs.Ranges.{every-at, range-same}
 use Rattle.values.specs.Bits.{Leading}
 use Rattle.values.specs.Pairs.{all, rangeEqual, sameMask, maskedFixed}
 use Rattle.values.specs.Parts.{Sides, Parts, Masked}
-use Rattle.values.proofs.Steps.{sameRow, by-rows}
+use Rattle.values.proofs.Steps.{sameRow, by-rows, all-moved}
 use Rattle.values.proofs.Blocks.{all-at, all-weaker}
 use Rattle.values.proofs.Fixed.{side-small}
-use Rattle.equal.proofs.Rows.{RowsLeft, rows-more, rows-jump, rows-jump-fail, all-moved}
+use Rattle.equal.proofs.Rows.{RowsLeft, rows-more, rows-jump, rows-jump-fail}
 
 -- no value of a layout that takes a bitmap is null
 abbrev NotNull : Row → Type 0

@@ -30,42 +30,6 @@ lengths-differ g h i j (suc m) (suc n) ne = rw (lengths-differ g h (suc i) (suc 
     and-false true = refl
     and-false false = refl
 
--- a test at some places that is another test at other places
-pub all-moved : (p q : ℕ → ℕ → Bool) (i j x y n : ℕ) → ((k : ℕ) → k < n → p (i + k) (j + k) ≡ q (x + k) (y + k)) → all p i j n ≡ all q x y n
-unfolding all
-all-moved p q i j x y zero e = refl
-all-moved p q i j x y (suc n) e =
-    let zi : i + 0 ≡ i = omega arith in
-    let zj : j + 0 ≡ j = omega arith in
-    let zx : x + 0 ≡ x = omega arith in
-    let zy : y + 0 ≡ y = omega arith in
-    let here : p i j ≡ q x y = rw (zi, zj, zx, zy) at (e 0 (omega arith)) in
-    rw (
-      here,
-      all-moved p q (suc i) (suc j) (suc x) (suc y) n (λ k lt.
-          let ui : suc i + k ≡ i + suc k = omega arith in
-          let uj : suc j + k ≡ j + suc k = omega arith in
-          let ux : suc x + k ≡ x + suc k = omega arith in
-          let uy : suc y + k ≡ y + suc k = omega arith in
-          rw (ui, uj, ux, uy) (e (suc k) (omega arith))),
-    )
-
--- every pair passes: all do
-pub all-true : (p : ℕ → ℕ → Bool) (i j n : ℕ) → ((k : ℕ) → k < n → p (i + k) (j + k) ≡ true) → all p i j n ≡ true
-unfolding all
-all-true p i j zero e = refl
-all-true p i j (suc n) e =
-    let zi : i + 0 ≡ i = omega arith in
-    let zj : j + 0 ≡ j = omega arith in
-    let here : p i j ≡ true = rw (zi, zj) at (e 0 (omega arith)) in
-    rw (
-      here,
-      all-true p (suc i) (suc j) n (λ k lt.
-          let ui : suc i + k ≡ i + suc k = omega arith in
-          let uj : suc j + k ≡ j + suc k = omega arith in
-          rw (ui, uj) (e (suc k) (omega arith))),
-    )
-
 -- What the loops over rows keep: the rows of a range are equal exactly where those from row k on are.
 pub record RowsLeft (g h : ℕ → Row) (i j n k : ℕ) : Type 0 where
   pub pairs : Left (sameRow g h) i j n k

@@ -22,8 +22,8 @@ use Rattle.laws.specs.Accepted.{AcceptedImage, RunsCover}
 use Rattle.image.proofs.Widths.{integer-width}
 use Rattle.values.specs.Pairs.{rangeEqual}
 use Rattle.values.specs.Parts.{Part, Sides, Parts, RunPart}
-use Rattle.values.proofs.Steps.{sameRow, by-rows}
-use Rattle.equal.proofs.Rows.{RowsLeft, rows-jump, rows-fail, all-true}
+use Rattle.values.proofs.Steps.{sameRow, by-rows, all-by}
+use Rattle.equal.proofs.Rows.{RowsLeft, rows-jump, rows-fail}
 use Rattle.equal.proofs.Child.{length-small, child-node, layout-right, count-left, child-sides}
 
 -- a run end, as it is read
@@ -231,7 +231,7 @@ module _ {a b : List ℕ} {k l s t n d h i j : ℕ} (r : Parts a b k l s t n d) 
     step-more fa fb kept is =
         rows-jump kept m step-within
         (sym (by-rows (runRow (rowAt d a) a k) (runRow (rowAt d b) b l) (s + h) (t + h) m)
-        ∙ all-true (sameRow (runRow (rowAt d a) a k) (runRow (rowAt d b) b l)) (s + h) (t + h) m (λ g below.
+        ∙ all-by (sameRow (runRow (rowAt d a) a k) (runRow (rowAt d b) b l)) (s + h) (t + h) m (λ g below.
         let v : s + h + g ≡ s + (h + g) = omega arith in
         let w : t + h + g ≡ t + (h + g) = omega arith in
         let le : m ≤ n - h = step-within in

@@ -2,7 +2,7 @@
 -- Each is by cases.
 use mathlib.Core.Path.{_≡_, refl, sym}
 use mathlib.Core.Logic.{_↔_, _≢_}
-use mathlib.Core.Bool.{Bool, true, false, not, _&&_, _||_}
+use mathlib.Core.Bool.{Bool, true, false, not, Bool·beq, _&&_, _||_}
 use Prim.Native.Nat.{ℕ, _≤_, _<_}
 use lib.Dec.{eqb, leb}
 use borrow.Author.Tests.{leb-true, leb-false, eqb-true, eqb-false, not-true, not-false, le-leb, lt-leb, eq-eqb, ne-eqb}
@@ -52,6 +52,13 @@ when-true false false e p = p
 pub true-when : (c x : Bool) → (c ≡ true → x ≡ true) → not c || x ≡ true
 true-when true x h = h refl
 true-when false x h = refl
+
+-- two flags that agree
+pub flags-same : (x y : Bool) → Bool·beq x y ≡ true → x ≡ y
+flags-same true true e = refl
+flags-same true false e = cc
+flags-same false true e = cc
+flags-same false false e = refl
 
 -- The same as equivalences, for `simp facts at`: a test becomes what it says.
 pub or-false-is : (x y : Bool) → (x || y ≡ false) ↔ ((x ≡ false) × (y ≡ false))

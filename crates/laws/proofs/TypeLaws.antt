@@ -11,15 +11,9 @@ use Rattle.image.specs.declared.place.Place.{Place}
 use Rattle.image.specs.declared.place.Place.the-variants.{Root}
 use Rattle.image.specs.declared.place.Counted.{Counted}
 use Rattle.image.specs.Types.{countedFor, childPlace, nameOf, sameBytes, labelsAgree, headsAgree, typesAgreeAt, typesAgree}
-use Rattle.image.proofs.Bools.{and-left, and-right, and-true, when-true, true-when}
+use Rattle.image.proofs.Bools.{flags-same, and-left, and-right, and-true, when-true, true-when}
 use Rattle.image.proofs.Ranges.{every-below, every-of-below}
 use Rattle.laws.proofs.Sound.{sameBytes-is}
-
-flags-same : (x y : Bool) → Bool·beq x y ≡ true → x ≡ y
-flags-same true true e = refl
-flags-same true false e = cc
-flags-same false true e = cc
-flags-same false false e = refl
 
 flag-itself : (x : Bool) → Bool·beq x x ≡ true
 flag-itself true = refl

@@ -22,15 +22,15 @@ use Rattle.values.proofs.Steps.{sameRow, by-rows, by-bytes}
 use Rattle.values.proofs.Blocks.{blocks}
 
 -- element h of w bytes starts at h * w
-abbrev times : ℕ → ℕ → ℕ
+abbrev pub times : ℕ → ℕ → ℕ
 times w h = h * w
 
-next : (w h : ℕ) → suc h * w - h * w ≡ w
+pub next : (w h : ℕ) → suc h * w - h * w ≡ w
 next w h =
     let e : suc h * w ≡ h * w + w = suc-mul h w in
     omega arith
 
-whole : (w i n : ℕ) → (i + n) * w - i * w ≡ n * w
+pub whole : (w i n : ℕ) → (i + n) * w - i * w ≡ n * w
 whole w i n =
     let e : (i + n) * w ≡ i * w + n * w = add-mul i n w in
     omega arith
@@ -100,3 +100,6 @@ spanned-small s k j n w p r ew ep = omega (arith, spanned s k j n w p r ew ep .i
 -- spans of equally many elements of one width are equally long
 pub same-length : (a b : List ℕ) (k l n : ℕ) {i j at bt x y : ℕ} → Fixed a b k l i j n → Spanned a k i n at x → Spanned b l j n bt y → x ≡ y
 same-length a b k l n r u v = u .size ∙ ap (λ (w : ℕ). n * w) (r .width) ∙ sym (v .size)
+
+pub part-small : (s : List ℕ) (k i n : ℕ) → Part s k i n → i + n ≤ 1073741824
+part-small s k i n r = omega (arith, r .high, r .image .node k (r .node) .buffers .small)

@@ -9,10 +9,10 @@ use Rattle.image.specs.Record.{offsetOf}
 use Rattle.image.specs.Element.{valid}
 use Rattle.image.specs.Row.{Row, null, masked, fixedRow, range}
 use Rattle.image.specs.Equality.{rowEqual, rowsEqual}
-use Rattle.image.proofs.Bools.{and-left, and-right}
+use Rattle.image.proofs.Bools.{and-left, and-right, flags-same}
 use Rattle.values.specs.Pairs.{all, rangeEqual, sameMask, maskedFixed}
 use Rattle.values.specs.Parts.{Side, Masked}
-use Rattle.values.proofs.Steps.{sameRow, by-rows, all-split}
+use Rattle.values.proofs.Steps.{sameRow, by-rows, all-split, all-by}
 use Rattle.values.proofs.Blocks.{all-at}
 
 -- pairs of a range inside another
@@ -39,12 +39,6 @@ masked-ahead a b k l i j n h m le rest r = masked-part a b k l i j n h m (omega 
 
 pub masked-row : (a b : List ℕ) (k l i j n h : ℕ) → h < n → Masked a b k l i j n → Masked a b k l (i + h) (j + h) 1
 masked-row a b k l i j n h lt r = masked-part a b k l i j n h 1 (omega arith) r
-
-flags-same : (x y : Bool) → Bool·beq x y ≡ true → x ≡ y
-flags-same true true e = refl
-flags-same true false e = cc
-flags-same false true e = cc
-flags-same false false e = refl
 
 -- rows of a range whose masks agree are null together
 pub mask-at : (a b : List ℕ) (k l i j n : ℕ) → all (sameMask a k b l) i j n ≡ true → (h : ℕ) → h < n → valid a k (i + h) ≡ valid b l (j + h)
@@ -86,22 +80,6 @@ same-masked a b k l i j mask e = rw mask (cases (valid b l j))
     cases : (v : Bool) → rowEqual (masked v (fixedRow a k (offsetOf a k + i))) (masked v (fixedRow b l (offsetOf b l + j))) ≡ true
     cases true = e
     cases false = refl
-
--- each pair passes: all do
-pub all-by : (p : ℕ → ℕ → Bool) (i j n : ℕ) → ((h : ℕ) → h < n → p (i + h) (j + h) ≡ true) → all p i j n ≡ true
-unfolding all
-all-by p i j zero e = refl
-all-by p i j (suc n) e =
-    let x : i + 0 ≡ i = omega arith in
-    let y : j + 0 ≡ j = omega arith in
-    let here : p i j ≡ true = rw (x, y) at (e 0 (omega arith)) in
-    rw (
-      here,
-      all-by p (suc i) (suc j) n (λ h lt.
-          let u : suc i + h ≡ i + suc h = omega arith in
-          let v : suc j + h ≡ j + suc h = omega arith in
-          rw (u, v) (e (suc h) (omega arith))),
-    )
 
 row-at : (a b : List ℕ) (k l u v h : ℕ) → sameRow (fixedRow a k) (fixedRow b l) (offsetOf a k + u + h) (offsetOf b l + v + h) ≡ true
     → rowEqual (fixedRow a k (offsetOf a k + (u + h))) (fixedRow b l (offsetOf b l + (v + h))) ≡ true

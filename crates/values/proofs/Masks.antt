@@ -19,7 +19,7 @@ use Rattle.image.proofs.Ranges.{every-by}
 use Rattle.values.specs.Bits.{Leading}
 use Rattle.values.specs.Pairs.{all, rangeEqual, sameBit, sameMask}
 use Rattle.values.specs.Parts.{Parts}
-use Rattle.values.proofs.Steps.{sameRow, by-rows, all-same}
+use Rattle.values.proofs.Steps.{sameRow, by-rows, all-same, all-moved}
 use Rattle.values.proofs.Leads.{leading-moved, leading-every}
 
 pub valid-none : (s : List ℕ) (k : ℕ) → hasBitmap s k ≡ false → (i : ℕ) → valid s k i ≡ true
@@ -44,17 +44,6 @@ module _ (s : List ℕ) (k i n : ℕ) {has : Bool} (e : has ≡ hasBitmap s k) w
       leading-moved (bitAt s place) (first + i) n r (valid s k) i
       (λ h. sym (valid-bit s k (sym e ∙ f) i h ∙ ap₂ (λ (x y : ℕ). bitAt s x (y + i + h)) (sym (p .value)) (sym (q .value)))) l
 
--- tests of pairs that agree in turn, from other pairs on
-pub all-moved : (p q : ℕ → ℕ → Bool) (i j u v n : ℕ) → ((k : ℕ) → p (i + k) (j + k) ≡ q (u + k) (v + k)) → all p i j n ≡ all q u v n
-unfolding all
-all-moved p q i j u v zero e = refl
-all-moved p q i j u v (suc n) e =
-    let here : p i j ≡ q u v = rw (add-zero i, add-zero j, add-zero u, add-zero v) at (e 0) in
-    rw (here, all-moved p q (suc i) (suc j) (suc u) (suc v) n (λ k. rw (step i k, step j k, step u k, step v k) (e (suc k))))
-  where
-    step : (a k : ℕ) → suc a + k ≡ a + suc k
-    step a k = omega arith
-
 -- a test of numbers is one of pairs
 every-all : (q : ℕ → Bool) (u v n : ℕ) → every q u n ≡ all (λ x y. q x) u v n
 unfolding every all
@@ -62,7 +51,7 @@ every-all q u v zero = refl
 every-all q u v (suc n) = rw (every-all q (suc u) (suc v) n)
 
 pub all-single : (p : ℕ → ℕ → Bool) (q : ℕ → Bool) (i j u n : ℕ) → ((k : ℕ) → q (u + k) ≡ p (i + k) (j + k)) → every q u n ≡ all p i j n
-all-single p q i j u n e = every-all q u u n ∙ all-moved (λ x y. q x) p u u i j n e
+all-single p q i j u n e = every-all q u u n ∙ all-moved (λ x y. q x) p u u i j n (λ k lt. e k)
 
 true-beq : (x : Bool) → x ≡ Bool·beq true x
 true-beq true = refl
@@ -108,7 +97,7 @@ module _ (a : List ℕ) (k : ℕ) (b : List ℕ) (l i j n : ℕ) {has hbs : Bool
       g ∙ ap₂ (λ (x y : ℕ). all (sameBit a x b pb) (y + i) (fb + j) n) (ra .value) (sa .value)
       ∙ ap₂ (λ (x y : ℕ). all (sameBit a (bitmapPlace a k) b x) (firstBit a k + i) (y + j) n) (rb .value) (sb .value)
       ∙ all-moved (sameBit a (bitmapPlace a k) b (bitmapPlace b l)) (sameMask a k b l) (firstBit a k + i) (firstBit b l + j) i j n
-      (λ h. bits _ _ _ _ ∙ mask (i + h) (j + h) (valid-bit a k (sym ea ∙ e) i h) (valid-bit b l (sym eb ∙ f) j h))
+      (λ h lt. bits _ _ _ _ ∙ mask (i + h) (j + h) (valid-bit a k (sym ea ∙ e) i h) (valid-bit b l (sym eb ∙ f) j h))
 
 -- the bits of two ranges of elements are counted without overflow
 pub few-bits : {a b : List ℕ} {k l i j n depth : ℕ} → Parts a b k l i j n depth → {x y p q : ℕ} → Read x 32 p → Read y 32 q

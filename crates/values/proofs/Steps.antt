@@ -134,3 +134,39 @@ other-byte a b i j e = ne-eqb _ _ e
 pub row-test : (g h : ℕ → Row) (i j : ℕ) {x : Bool} → x ≡ rowEqual (g i) (h j) → sameRow g h i j ≡ x
 unfolding sameRow
 row-test g h i j e = sym e
+
+-- a test at some places that is another test at other places
+pub all-moved : (p q : ℕ → ℕ → Bool) (i j x y n : ℕ) → ((k : ℕ) → k < n → p (i + k) (j + k) ≡ q (x + k) (y + k)) → all p i j n ≡ all q x y n
+unfolding all
+all-moved p q i j x y zero e = refl
+all-moved p q i j x y (suc n) e =
+    let zi : i + 0 ≡ i = omega arith in
+    let zj : j + 0 ≡ j = omega arith in
+    let zx : x + 0 ≡ x = omega arith in
+    let zy : y + 0 ≡ y = omega arith in
+    let here : p i j ≡ q x y = rw (zi, zj, zx, zy) at (e 0 (omega arith)) in
+    rw (
+      here,
+      all-moved p q (suc i) (suc j) (suc x) (suc y) n (λ k lt.
+          let ui : suc i + k ≡ i + suc k = omega arith in
+          let uj : suc j + k ≡ j + suc k = omega arith in
+          let ux : suc x + k ≡ x + suc k = omega arith in
+          let uy : suc y + k ≡ y + suc k = omega arith in
+          rw (ui, uj, ux, uy) (e (suc k) (omega arith))),
+    )
+
+-- each pair passes: all do
+pub all-by : (p : ℕ → ℕ → Bool) (i j n : ℕ) → ((h : ℕ) → h < n → p (i + h) (j + h) ≡ true) → all p i j n ≡ true
+unfolding all
+all-by p i j zero e = refl
+all-by p i j (suc n) e =
+    let x : i + 0 ≡ i = omega arith in
+    let y : j + 0 ≡ j = omega arith in
+    let here : p i j ≡ true = rw (x, y) at (e 0 (omega arith)) in
+    rw (
+      here,
+      all-by p (suc i) (suc j) n (λ h lt.
+          let u : suc i + h ≡ i + suc h = omega arith in
+          let v : suc j + h ≡ j + suc h = omega arith in
+          rw (u, v) (e (suc h) (omega arith))),
+    )

@@ -20,11 +20,8 @@ use Rattle.values.specs.Pairs.{all, rangeEqual, sameByte, sameSpan, span
 use Rattle.values.specs.Parts.{Part, Parts, Spans}
 use Rattle.values.proofs.Steps.{sameRow, by-rows, by-bytes}
 use Rattle.values.proofs.Blocks.{blocks, all-at, all-weaker, rise-far, equal-spans}
-use Rattle.values.proofs.Fixed.{same-width}
+use Rattle.values.proofs.Fixed.{same-width, part-small}
 use Rattle.values.proofs.Names.{other-length}
-
-pub part-small : (s : List ℕ) (k i n : ℕ) → Part s k i n → i + n ≤ 1073741824
-part-small s k i n r = omega (arith, r .high, r .image .node k (r .node) .buffers .small)
 
 -- offsets of parts that rise
 pub spans-of : (a b : List ℕ) (k l i j n d enda endb : ℕ) → Parts a b k l i j n d → elementWidth a k ≤ 8 → OffsetsRise a k enda → OffsetsRise b l endb → Spans a b k l i j n

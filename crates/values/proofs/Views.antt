@@ -18,6 +18,7 @@ use Rattle.image.specs.Equality.{rowEqual}
 use Rattle.laws.specs.Accepted.{ViewInside}
 use Rattle.values.specs.Parts.{Part, Parts, Viewed, Shown}
 use Rattle.values.proofs.Steps.{sameRow}
+use Rattle.values.proofs.Fixed.{part-small}
 use Rattle.values.proofs.Names.{other-length}
 
 -- the bytes of a short view stand in it
@@ -42,9 +43,6 @@ module _ {s : List ℕ} {k v len : ℕ} (r : Viewed s k v len) (long : 12 < len)
       let stored : o + len ≤ bufferLength s k (1 + b) = rw (eo, eb, r .size) (r .view .inside (rw (← r .size) long)) in
       let buffer : bufferPlace s k (1 + b) + bufferLength s k (1 + b) ≤ length s = r .image .node k (r .node) .buffers .inside (1 + b) data-buffer in
       record { place = rw (← r .size, lt-leb len 12 long, ep, eo, eb); inside = omega arith }
-
-pub part-small : (s : List ℕ) (k j n : ℕ) → Part s k j n → j + n ≤ 1073741824
-part-small s k j n r = omega (arith, r .high, r .image .node k (r .node) .buffers .small)
 
 module _ {s : List ℕ} {k j n : ℕ} (r : Part s k j n) (views : layoutOf (codeOf s k) ≡ View) (h : ℕ) {p : ℕ} (ep : p ≡ bufferPlace s k 0) where
   view-place : p + (j + h) * 16 ≡ elementPlace s k (j + h)

@@ -1,3 +1,5 @@
+-- `image::bytes::by_bytes` meets its contract.
+-- The loop keeps that what is left to look at gives the answer; the measure is how much is left.
 use Rattle.image.proofs.Numbers.{read-through, read-all}
 use Rattle.image.proofs.Numbers.{read-past, read-none, read-more, fits-word}
 use Rattle.image.specs.Bytes.{numberAt, byteAt}
@@ -8,10 +10,6 @@ use native.Mathlib.Omega.{arith}
 use borrow.Author.Needs.{needs}
 use Rattle.image.proofs.bytes.by_bytes.Statement.{statement}
 use Rattle.image.proofs.bytes.by_bytes.Tie as tie
-use Rattle.image.proofs.bytes.by_bytes.Reads as reads
-use Rattle.image.proofs.bytes.by_bytes.Lts as lts
-use Rattle.image.proofs.bytes.byte.Reads as byte-reads
-use Rattle.image.proofs.bytes.wide.Reads as wide-reads
 
 abbrev Inv-loop : tie.InvT-loop
 Inv-loop s i w x₀ k₀ x k = (k ≤ w) × Read (numberAt (w - k) s (i + k)) (8 * (w - k)) x
@@ -19,47 +17,36 @@ Inv-loop s i w x₀ k₀ x k = (k ≤ w) × Read (numberAt (w - k) s (i + k)) (8
 abbrev μ-loop : tie.MeasureT-loop
 μ-loop s i w x₀ k₀ x k = k
 
--- src/bytes.rt:38:9
 returns : tie.Need-returns Inv-loop μ-loop
 returns c = read-past _ _ _ (c .if1 .taken)
 
--- src/bytes.rt:42:5
 loop-holds : tie.Need-loop-holds Inv-loop μ-loop
 loop-holds c = (omega arith, read-none _ _ _)
 
--- src/bytes.rt:43:9
 sub-k : tie.Need-sub-k Inv-loop μ-loop
 sub-k c = search needs
 
--- src/bytes.rt:44:26
 add-byte : tie.Need-add-byte Inv-loop μ-loop
 add-byte c = search needs
 
--- src/bytes.rt:44:18
 byte-requires : tie.Need-byte-requires Inv-loop μ-loop
 byte-requires c κs = search needs
 
--- src/bytes.rt:44:13
 wide-requires : tie.Need-wide-requires Inv-loop μ-loop
 wide-requires c κs = search needs
 
--- src/bytes.rt:44:36
 mul-x : tie.Need-mul-x Inv-loop μ-loop
 mul-x c = omega (arith, fits-word _ _ _ (c .before .before .before .before .before .before .pre) (c .before .before .loop-test .taken) (c .before .before .before .loop .inv .1 .small))
 
--- src/bytes.rt:44:13
 add-x : tie.Need-add-x Inv-loop μ-loop
 add-x c = omega (arith, c .wide .ensures .small, fits-word _ _ _ (c .before .before .before .before .before .before .pre) (c .before .before .loop-test .taken) (c .before .before .before .loop .inv .1 .small))
 
--- src/bytes.rt:42:5
 loop-less : tie.Need-loop-less Inv-loop μ-loop
 loop-less c = search needs
 
--- src/bytes.rt:42:5
 loop-again : tie.Need-loop-again Inv-loop μ-loop
 loop-again c = (omega arith, read-more _ _ _ _ (c .before .before .loop-test .taken) (c .before .before .before .loop .inv .0) (c .before .before .before .loop .inv .1) (read-through (c .wide .ensures) (c .before .byte .ensures)))
 
--- src/bytes.rt:33:1
 returns-2 : tie.Need-returns-2 Inv-loop μ-loop
 returns-2 c = read-all _ _ _ _ (c .loop-test .left) (c .before .loop .inv .1)
 

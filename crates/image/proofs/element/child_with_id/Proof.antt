@@ -1,3 +1,5 @@
+-- `image::element::child_with_id` meets its contract.
+-- The loop keeps that what is left to look at gives the answer; the measure is how much is left.
 use Rattle.image.proofs.Compare.{is-eq, is-ne}
 use mathlib.Core.Path.{_≡_, refl, ap₂}
 use borrow.Author.Tests.{eq-eqb, ne-eqb}
@@ -16,11 +18,6 @@ use native.Mathlib.Omega.{arith}
 use borrow.Author.Needs.{needs}
 use Rattle.image.proofs.element.child_with_id.Statement.{statement}
 use Rattle.image.proofs.element.child_with_id.Tie as tie
-use Rattle.image.proofs.element.child_with_id.Reads as reads
-use Rattle.image.proofs.element.child_with_id.Lts as lts
-use Rattle.image.proofs.record.child_count.Reads as child-count-reads
-use Rattle.image.proofs.record.first_child.Reads as first-child-reads
-use Rattle.image.proofs.record.type_id.Reads as type-id-reads
 
 same-id : (s : List ℕ) (id k : ℕ) {r : ℕ} → Read (idOf s k) 8 r → r ≡ id → hasId s id k ≡ true
 unfolding hasId
@@ -36,31 +33,24 @@ Inv-loop image node id first count k₀ k = Rest (Ranges.first (hasId image id))
 abbrev μ-loop : tie.MeasureT-loop
 μ-loop image node id first count k₀ k = count - k
 
--- src/element.rt:29:9
 first-child-requires : tie.Need-first-child-requires Inv-loop μ-loop
 first-child-requires c κs = search needs
 
--- src/element.rt:30:9
 child-count-requires : tie.Need-child-count-requires Inv-loop μ-loop
 child-count-requires c κs = search needs
 
--- src/element.rt:32:5
 loop-holds : tie.Need-loop-holds Inv-loop μ-loop
 loop-holds c = rest-none _ _ _
 
--- src/element.rt:33:27
 add-type-id : tie.Need-add-type-id Inv-loop μ-loop
 add-type-id c = search needs
 
--- src/element.rt:33:12
 type-id-requires : tie.Need-type-id-requires Inv-loop μ-loop
 type-id-requires c κs = search needs
 
--- src/element.rt:34:20
 add-result : tie.Need-add-result Inv-loop μ-loop
 add-result c = search needs
 
--- src/element.rt:34:13
 returns : tie.Need-returns Inv-loop μ-loop
 unfolding childWithId
 returns c = record {
@@ -68,23 +58,18 @@ returns c = record {
   small = omega (arith, c .before .before .before .before .before .first-child .ensures .small, c .before .before .before .before .child-count .ensures .small);
 }
 
--- src/element.rt:36:9
 add-k : tie.Need-add-k Inv-loop μ-loop
 add-k c = search needs
 
--- src/element.rt:32:5
 loop-less : tie.Need-loop-less Inv-loop μ-loop
 loop-less c = search needs
 
--- src/element.rt:32:5
 loop-again : tie.Need-loop-again Inv-loop μ-loop
 loop-again c = first-more _ _ _ _ (c .before .before .loop-test .taken) (c .before .before .before .loop .inv) (other-id _ _ _ (c .before .type-id .ensures) (c .if1 .left))
 
--- src/element.rt:38:5
 add-result-2 : tie.Need-add-result-2 Inv-loop μ-loop
 add-result-2 c = search needs
 
--- src/element.rt:26:1
 returns-2 : tie.Need-returns-2 Inv-loop μ-loop
 unfolding childWithId
 returns-2 c = record {

@@ -1,3 +1,5 @@
+-- `image::element::children_by_id` meets its contract.
+-- The loop keeps that what is left to look at gives the answer; the measure is how much is left.
 use mathlib.Core.Path.{_∙_}
 use Rattle.image.proofs.ById.{filled-all}
 use Rattle.image.proofs.ById.{Filled, filled-none, filled-more}
@@ -7,12 +9,6 @@ use native.Mathlib.Omega.{arith}
 use borrow.Author.Needs.{needs}
 use Rattle.image.proofs.element.children_by_id.Statement.{statement}
 use Rattle.image.proofs.element.children_by_id.Tie as tie
-use Rattle.image.proofs.element.children_by_id.Reads as reads
-use Rattle.image.proofs.element.children_by_id.Lts as lts
-use Rattle.image.proofs.bytes.wide.Reads as wide-reads
-use Rattle.image.proofs.record.child_count.Reads as child-count-reads
-use Rattle.image.proofs.record.first_child.Reads as first-child-reads
-use Rattle.image.proofs.record.type_id.Reads as type-id-reads
 
 abbrev Inv-loop : tie.InvT-loop
 Inv-loop image node first count table₀ k₀ table k = Filled image first count k table
@@ -20,59 +16,45 @@ Inv-loop image node first count table₀ k₀ table k = Filled image first count
 abbrev μ-loop : tie.MeasureT-loop
 μ-loop image node first count table₀ k₀ table k = k
 
--- src/element.rt:40:9
 first-child-requires : tie.Need-first-child-requires Inv-loop μ-loop
 first-child-requires c κs = search needs
 
--- src/element.rt:41:9
 child-count-requires : tie.Need-child-count-requires Inv-loop μ-loop
 child-count-requires c κs = search needs
 
--- src/element.rt:42:22
 add-table : tie.Need-add-table Inv-loop μ-loop
 add-table c = search needs
 
--- src/element.rt:44:5
 loop-holds : tie.Need-loop-holds Inv-loop μ-loop
 loop-holds c = filled-none _ _ _
 
--- src/element.rt:45:9
 sub-k : tie.Need-sub-k Inv-loop μ-loop
 sub-k c = search needs
 
--- src/element.rt:46:38
 add-type-id : tie.Need-add-type-id Inv-loop μ-loop
 add-type-id c = omega (arith, c .before .loop .inv .within)
 
--- src/element.rt:46:23
 type-id-requires : tie.Need-type-id-requires Inv-loop μ-loop
 type-id-requires c κs = search needs
 
--- src/element.rt:46:13
 wide-requires : tie.Need-wide-requires Inv-loop μ-loop
 wide-requires c κs = search needs
 
--- src/element.rt:47:21
 add-table-2 : tie.Need-add-table-2 Inv-loop μ-loop
 add-table-2 c = omega (arith, c .before .before .before .loop .inv .within)
 
--- src/element.rt:47:9
 mul-table : tie.Need-mul-table Inv-loop μ-loop
 mul-table c = omega (arith, c .wide .ensures .small)
 
--- src/element.rt:47:9
 array-write-table : tie.Need-array-write-table Inv-loop μ-loop
 array-write-table c = omega (arith, c .wide .ensures .small)
 
--- src/element.rt:44:5
 loop-less : tie.Need-loop-less Inv-loop μ-loop
 loop-less c = search needs
 
--- src/element.rt:44:5
 loop-again : tie.Need-loop-again Inv-loop μ-loop
 loop-again c = filled-more _ _ _ _ _ _ (c .before .before .loop-test .taken) (c .before .before .before .loop .inv) (c .wide .ensures .value ∙ c .before .type-id .ensures .value) (c .wide .ensures .small)
 
--- src/element.rt:37:1
 returns : tie.Need-returns Inv-loop μ-loop
 returns c = filled-all _ _ _ _ _ _ (c .loop-test .left) (c .before .loop .inv) (c .before .before .before .first-child .ensures) (c .before .before .child-count .ensures)
 

@@ -1,3 +1,5 @@
+-- `image::element::is_valid` meets its contract.
+-- The definition is rewritten by what the calls ensure and by the tests on the way.
 use mathlib.Core.Path.{_∙_}
 use borrow.Author.Tests.{not-true, not-false}
 use Rattle.image.specs.Element.{valid}
@@ -5,39 +7,26 @@ use native.Mathlib.Omega.{arith}
 use borrow.Author.Needs.{needs}
 use Rattle.image.proofs.element.is_valid.Statement.{statement}
 use Rattle.image.proofs.element.is_valid.Tie as tie
-use Rattle.image.proofs.element.is_valid.Reads as reads
-use Rattle.image.proofs.element.is_valid.Lts as lts
-use Rattle.image.proofs.bytes.bit.Reads as bit-reads
-use Rattle.image.proofs.record.bitmap_place.Reads as bitmap-place-reads
-use Rattle.image.proofs.record.first_bit.Reads as first-bit-reads
-use Rattle.image.proofs.record.has_bitmap.Reads as has-bitmap-reads
 
--- src/element.rt:19:9
 has-bitmap-requires : tie.Need-has-bitmap-requires
 has-bitmap-requires c κs = search needs
 
--- src/element.rt:20:9
 returns : tie.Need-returns
 unfolding valid
 returns c = rw (← c .before .has-bitmap .ensures, not-true (c .before .has-bitmap .result) (c .if1 .taken))
 
--- src/element.rt:22:16
 bitmap-place-requires : tie.Need-bitmap-place-requires
 bitmap-place-requires c κs = search needs
 
--- src/element.rt:22:43
 first-bit-requires : tie.Need-first-bit-requires
 first-bit-requires c κs = search needs
 
--- src/element.rt:22:43
 add-bit : tie.Need-add-bit
 add-bit c = search needs
 
--- src/element.rt:22:5
 bit-requires : tie.Need-bit-requires
 bit-requires c κs = search needs
 
--- src/element.rt:15:1
 returns-2 : tie.Need-returns-2
 unfolding valid
 returns-2 c = c .bit .ensures ∙ rw (← c .before .before .before .before .has-bitmap .ensures, not-false (c .before .before .before .before .has-bitmap .result) (c .before .before .before .if1 .left), ← c .before .before .bitmap-place .ensures .value, ← c .before .first-bit .ensures .value)

@@ -1,29 +1,22 @@
+-- `image::record::node_entry` meets its contract.
+-- The definition is rewritten by what the calls ensure and by the tests on the way.
 use native.Mathlib.Omega.{arith}
 use borrow.Author.Needs.{needs}
 use Rattle.image.proofs.record.node_entry.Statement.{statement}
 use Rattle.image.proofs.record.node_entry.Tie as tie
-use Rattle.image.proofs.record.node_entry.Reads as reads
-use Rattle.image.proofs.record.node_entry.Lts as lts
-use Rattle.image.proofs.record.entry_place.Reads as entry-place-reads
-use Rattle.image.proofs.record.first_buffer.Reads as first-buffer-reads
 
--- src/record.rt:212:17
 first-buffer-requires : tie.Need-first-buffer-requires
 first-buffer-requires c κs = search needs
 
--- src/record.rt:212:17
 cast-first : tie.Need-cast-first
 cast-first c = search needs
 
--- src/record.rt:213:24
 add-entry-place : tie.Need-add-entry-place
 add-entry-place c = search needs
 
--- src/record.rt:213:5
 entry-place-requires : tie.Need-entry-place-requires
 entry-place-requires c κs = search needs
 
--- src/record.rt:209:1
 returns : tie.Need-returns
 returns c = rw (← c .before .first-buffer .ensures .value) (c .entry-place .ensures)
 

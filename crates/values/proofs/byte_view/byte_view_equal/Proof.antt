@@ -1,10 +1,11 @@
 -- The answer is whether the rows of views are equal in turn.
 -- The loop keeps that the rows from row k on decide; a turn compares lengths, then bytes.
+use Rattle.values.proofs.Fixed.{part-small}
 use mathlib.Core.Path.{_∙_}
 use borrow.Author.Tests.{not-true, not-false}
 use Rattle.image.specs.Row.{viewRow}
 use Rattle.values.proofs.Steps.{Left, left-none, left-more, left-fails, left-done, sameRow, by-rows}
-use Rattle.values.proofs.Views.{part-small, view-left, view-right, views-differ, views-are}
+use Rattle.values.proofs.Views.{view-left, view-right, views-differ, views-are}
 use Prim.Native.Nat.{_-_}
 use native.Mathlib.Omega.{arith}
 use borrow.Author.Needs.{needs}

@@ -1,3 +1,5 @@
+-- `values::lengths::lengths_equal` meets its contract.
+-- The loop keeps that what is left to look at gives the answer; the measure is how much is left.
 use Rattle.values.proofs.Steps.{Left, left-none, left-more, left-fails, left-done}
 use Rattle.values.proofs.Spans.{read-element, span-same, span-other, left-rises, right-rises, at-start}
 use Rattle.values.specs.Pairs.{sameSpan}
@@ -9,11 +11,6 @@ use native.Mathlib.Omega.{arith}
 use borrow.Author.Needs.{needs}
 use Rattle.values.proofs.lengths.lengths_equal.Statement.{statement}
 use Rattle.values.proofs.lengths.lengths_equal.Tie as tie
-use Rattle.values.proofs.lengths.lengths_equal.Reads as reads
-use Rattle.values.proofs.lengths.lengths_equal.Lts as lts
-use Rattle.image.proofs.bytes.nth.Reads as nth-reads
-use Rattle.image.proofs.element.element_width.Reads as element-width-reads
-use Rattle.image.proofs.record.buffer_place.Reads as buffer-place-reads
 
 abbrev Inv-loop : tie.InvT-loop
 Inv-loop a an b bn s t n width la lb x₀ y₀ k₀ x y k = (x ≡ elementAt a an (s + k)) × (y ≡ elementAt b bn (t + k)) × Left (sameSpan a an b bn) s t n k
@@ -21,79 +18,60 @@ Inv-loop a an b bn s t n width la lb x₀ y₀ k₀ x y k = (x ≡ elementAt a a
 abbrev μ-loop : tie.MeasureT-loop
 μ-loop a an b bn s t n width la lb x₀ y₀ k₀ x y k = n - k
 
--- src/lengths.rt:14:9
 element-width-requires : tie.Need-element-width-requires Inv-loop μ-loop
 element-width-requires c κs = search needs
 
--- src/lengths.rt:15:9
 buffer-place-requires : tie.Need-buffer-place-requires Inv-loop μ-loop
 buffer-place-requires c κs = search needs
 
--- src/lengths.rt:16:9
 buffer-place-requires-2 : tie.Need-buffer-place-requires-2 Inv-loop μ-loop
 buffer-place-requires-2 c κs = search needs
 
--- src/lengths.rt:17:9
 nth-requires : tie.Need-nth-requires Inv-loop μ-loop
 nth-requires c κs = record { near = omega (arith, c .before .buffer-place .ensures .small); narrow = omega (arith, c .before .before .element-width .ensures, c .before .before .before .before .before .pre .narrow); few = omega (arith, c .before .before .before .before .before .pre .left-small) }
 
--- src/lengths.rt:18:9
 nth-requires-2 : tie.Need-nth-requires-2 Inv-loop μ-loop
 nth-requires-2 c κs = record { near = omega (arith, c .before .buffer-place2 .ensures .small); narrow = omega (arith, c .before .before .before .element-width .ensures, c .before .before .before .before .before .before .pre .narrow); few = omega (arith, c .before .before .before .before .before .before .pre .right-small) }
 
--- src/lengths.rt:20:5
 loop-holds : tie.Need-loop-holds Inv-loop μ-loop
 loop-holds c = (at-start _ _ _ (read-element _ _ _ _ _ (c .before .nth .ensures) (c .before .before .before .before .element-width .ensures) (c .before .before .before .buffer-place .ensures .value)), at-start _ _ _ (read-element _ _ _ _ _ (c .nth2 .ensures) (c .before .before .before .before .element-width .ensures ∙ c .before .before .before .before .before .before .before .pre .same) (c .before .before .buffer-place2 .ensures .value)), left-none _ _ _ _)
 
--- src/lengths.rt:21:40
 add-nth : tie.Need-add-nth Inv-loop μ-loop
 add-nth c = omega (arith, c .before .before .before .before .before .before .before .before .before .pre .left-small)
 
--- src/lengths.rt:21:35
 add-nth-2 : tie.Need-add-nth-2 Inv-loop μ-loop
 add-nth-2 c = omega (arith, c .before .before .before .before .before .before .before .before .before .pre .left-small)
 
--- src/lengths.rt:21:13
 nth-requires-3 : tie.Need-nth-requires-3 Inv-loop μ-loop
 nth-requires-3 c κs = record { near = omega (arith, c .before .before .before .before .before .buffer-place .ensures .small); narrow = omega (arith, c .before .before .before .before .before .before .element-width .ensures, c .before .before .before .before .before .before .before .before .before .pre .narrow); few = omega (arith, c .before .before .before .before .before .before .before .before .before .pre .left-small) }
 
--- src/lengths.rt:22:40
 add-nth-3 : tie.Need-add-nth-3 Inv-loop μ-loop
 add-nth-3 c = omega (arith, c .before .before .before .before .before .before .before .before .before .before .pre .right-small)
 
--- src/lengths.rt:22:35
 add-nth-4 : tie.Need-add-nth-4 Inv-loop μ-loop
 add-nth-4 c = omega (arith, c .before .before .before .before .before .before .before .before .before .before .pre .right-small)
 
--- src/lengths.rt:22:13
 nth-requires-4 : tie.Need-nth-requires-4 Inv-loop μ-loop
 nth-requires-4 c κs = record { near = omega (arith, c .before .before .before .before .before .buffer-place2 .ensures .small); narrow = omega (arith, c .before .before .before .before .before .before .before .element-width .ensures, c .before .before .before .before .before .before .before .before .before .before .pre .narrow); few = omega (arith, c .before .before .before .before .before .before .before .before .before .before .pre .right-small) }
 
--- src/lengths.rt:23:12
 sub-if1 : tie.Need-sub-if1 Inv-loop μ-loop
 sub-if1 c = left-rises _ _ _ _ _ _ _ _ (c .before .before .before .before .before .before .before .before .before .before .before .pre) (c .before .before .loop-test .taken) (c .before .before .before .loop .inv .0) (read-element _ _ _ _ _ (c .before .nth3 .ensures) (c .before .before .before .before .before .before .before .before .element-width .ensures) (c .before .before .before .before .before .before .before .buffer-place .ensures .value))
 
--- src/lengths.rt:23:21
 sub-if1-2 : tie.Need-sub-if1-2 Inv-loop μ-loop
 sub-if1-2 c = right-rises _ _ _ _ _ _ _ _ (c .before .before .before .before .before .before .before .before .before .before .before .pre) (c .before .before .loop-test .taken) (c .before .before .before .loop .inv .1) (read-element _ _ _ _ _ (c .nth4 .ensures) (c .before .before .before .before .before .before .before .before .element-width .ensures ∙ c .before .before .before .before .before .before .before .before .before .before .before .pre .same) (c .before .before .before .before .before .before .buffer-place2 .ensures .value))
 
--- src/lengths.rt:24:13
 returns : tie.Need-returns Inv-loop μ-loop
 returns c = left-fails _ _ _ _ _ (c .before .before .before .loop-test .taken) (c .before .before .before .before .loop .inv .2) (span-other _ _ _ _ _ _ _ (c .before .before .before .before .loop .inv .0) (read-element _ _ _ _ _ (c .before .before .nth3 .ensures) (c .before .before .before .before .before .before .before .before .before .element-width .ensures) (c .before .before .before .before .before .before .before .before .buffer-place .ensures .value)) (c .before .before .before .before .loop .inv .1) (read-element _ _ _ _ _ (c .before .nth4 .ensures) (c .before .before .before .before .before .before .before .before .before .element-width .ensures ∙ c .before .before .before .before .before .before .before .before .before .before .before .before .pre .same) (c .before .before .before .before .before .before .before .buffer-place2 .ensures .value)) (c .if1 .taken))
 
--- src/lengths.rt:28:9
 add-k : tie.Need-add-k Inv-loop μ-loop
 add-k c = omega (arith, c .before .before .before .before .before .before .before .before .before .before .before .before .pre .left-small)
 
--- src/lengths.rt:20:5
 loop-less : tie.Need-loop-less Inv-loop μ-loop
 loop-less c = search needs
 
--- src/lengths.rt:20:5
 loop-again : tie.Need-loop-again Inv-loop μ-loop
 loop-again c = ((read-element _ _ _ _ _ (c .before .before .nth3 .ensures) (c .before .before .before .before .before .before .before .before .before .element-width .ensures) (c .before .before .before .before .before .before .before .before .buffer-place .ensures .value)), (read-element _ _ _ _ _ (c .before .nth4 .ensures) (c .before .before .before .before .before .before .before .before .before .element-width .ensures ∙ c .before .before .before .before .before .before .before .before .before .before .before .before .pre .same) (c .before .before .before .before .before .before .before .buffer-place2 .ensures .value)), left-more _ _ _ _ _ (c .before .before .before .loop-test .taken) (c .before .before .before .before .loop .inv .2) (span-same _ _ _ _ _ _ _ (c .before .before .before .before .loop .inv .0) (read-element _ _ _ _ _ (c .before .before .nth3 .ensures) (c .before .before .before .before .before .before .before .before .before .element-width .ensures) (c .before .before .before .before .before .before .before .before .buffer-place .ensures .value)) (c .before .before .before .before .loop .inv .1) (read-element _ _ _ _ _ (c .before .nth4 .ensures) (c .before .before .before .before .before .before .before .before .before .element-width .ensures ∙ c .before .before .before .before .before .before .before .before .before .before .before .before .pre .same) (c .before .before .before .before .before .before .before .buffer-place2 .ensures .value)) (c .if1 .left)))
 
--- src/lengths.rt:10:1
 returns-2 : tie.Need-returns-2 Inv-loop μ-loop
 returns-2 c = left-done _ _ _ _ _ (c .loop-test .left) (c .before .loop .inv .2)
 

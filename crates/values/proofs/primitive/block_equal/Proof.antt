@@ -1,35 +1,27 @@
+-- `values::primitive::block_equal` meets its contract.
+-- The definition is rewritten by what the calls ensure and by the tests on the way.
 use Rattle.values.proofs.Fixed.{masked-fixed, side-small}
 use mathlib.Core.Path.{_∙_}
 use native.Mathlib.Omega.{arith}
 use borrow.Author.Needs.{needs}
 use Rattle.values.proofs.primitive.block_equal.Statement.{statement}
 use Rattle.values.proofs.primitive.block_equal.Tie as tie
-use Rattle.values.proofs.primitive.block_equal.Reads as reads
-use Rattle.values.proofs.primitive.block_equal.Lts as lts
-use Rattle.image.proofs.record.offset.Reads as offset-reads
-use Rattle.values.proofs.primitive.elements_equal.Reads as elements-equal-reads
 
--- src/primitive.rt:65:34
 offset-requires : tie.Need-offset-requires
 offset-requires c κs = search needs
 
--- src/primitive.rt:65:34
 add-elements-equal : tie.Need-add-elements-equal
 add-elements-equal c = omega (arith, c .offset .ensures .small, side-small _ _ _ _ (c .before .before .before .pre .left))
 
--- src/primitive.rt:65:53
 offset-requires-2 : tie.Need-offset-requires-2
 offset-requires-2 c κs = search needs
 
--- src/primitive.rt:65:53
 add-elements-equal-2 : tie.Need-add-elements-equal-2
 add-elements-equal-2 c = omega (arith, c .offset2 .ensures .small, side-small _ _ _ _ (c .before .before .before .before .pre .right))
 
--- src/primitive.rt:65:5
 elements-equal-requires : tie.Need-elements-equal-requires
 elements-equal-requires c κs = rw (c .before .offset .ensures .value, c .offset2 .ensures .value) (masked-fixed _ _ _ _ _ _ _ (c .before .before .before .before .pre))
 
--- src/primitive.rt:61:1
 returns : tie.Need-returns
 returns c = c .elements-equal .ensures ∙ rw (c .before .before .offset .ensures .value, c .before .offset2 .ensures .value)
 

@@ -1,3 +1,5 @@
+-- `values::primitive::chunk_equal` meets its contract.
+-- The loop keeps that what is left to look at gives the answer; the measure is how much is left.
 use Rattle.values.proofs.Steps.{Left, left-none, left-more, left-fails, left-done, by-rows, sameRow, row-test}
 use Rattle.values.proofs.MaskedRows.{whole-block, masked-row}
 use Rattle.values.proofs.Fixed.{side-small}
@@ -10,10 +12,6 @@ use native.Mathlib.Omega.{arith}
 use borrow.Author.Needs.{needs}
 use Rattle.values.proofs.primitive.chunk_equal.Statement.{statement}
 use Rattle.values.proofs.primitive.chunk_equal.Tie as tie
-use Rattle.values.proofs.primitive.chunk_equal.Reads as reads
-use Rattle.values.proofs.primitive.chunk_equal.Lts as lts
-use Rattle.values.proofs.primitive.block_equal.Reads as block-equal-reads
-use Rattle.values.proofs.primitive.row_equal.Reads as row-equal-reads
 
 abbrev Inv-loop : tie.InvT-loop
 Inv-loop a an b bn s t n k₀ k = Left (sameRow (maskedFixed a an) (maskedFixed b bn)) s t n k
@@ -21,47 +19,36 @@ Inv-loop a an b bn s t n k₀ k = Left (sameRow (maskedFixed a an) (maskedFixed 
 abbrev μ-loop : tie.MeasureT-loop
 μ-loop a an b bn s t n k₀ k = n - k
 
--- src/primitive.rt:84:8
 block-equal-requires : tie.Need-block-equal-requires Inv-loop μ-loop
 block-equal-requires c κs = c .before .before .pre
 
--- src/primitive.rt:85:9
 returns : tie.Need-returns Inv-loop μ-loop
 returns c = whole-block _ _ _ _ _ _ _ (c .before .before .before .before .pre) (sym (c .before .block-equal .ensures) ∙ c .if1 .taken)
 
--- src/primitive.rt:88:5
 loop-holds : tie.Need-loop-holds Inv-loop μ-loop
 loop-holds c = left-none _ _ _ _
 
--- src/primitive.rt:89:37
 add-row-equal : tie.Need-add-row-equal Inv-loop μ-loop
 add-row-equal c = omega (arith, side-small _ _ _ _ (c .before .before .before .before .before .before .pre .left))
 
--- src/primitive.rt:89:44
 add-row-equal-2 : tie.Need-add-row-equal-2 Inv-loop μ-loop
 add-row-equal-2 c = omega (arith, side-small _ _ _ _ (c .before .before .before .before .before .before .pre .right))
 
--- src/primitive.rt:89:13
 row-equal-requires : tie.Need-row-equal-requires Inv-loop μ-loop
 row-equal-requires c κs = masked-row _ _ _ _ _ _ _ _ (c .loop-test .taken) (c .before .before .before .before .before .before .pre)
 
--- src/primitive.rt:90:13
 returns-2 : tie.Need-returns-2 Inv-loop μ-loop
 returns-2 c = left-fails _ _ _ _ _ (c .before .before .loop-test .taken) (c .before .before .before .loop .inv) (row-test _ _ _ _ (c .before .row-equal .ensures) ∙ not-true _ (c .if2 .taken)) ∙ by-rows _ _ _ _ _
 
--- src/primitive.rt:92:9
 add-k : tie.Need-add-k Inv-loop μ-loop
 add-k c = search needs
 
--- src/primitive.rt:88:5
 loop-less : tie.Need-loop-less Inv-loop μ-loop
 loop-less c = search needs
 
--- src/primitive.rt:88:5
 loop-again : tie.Need-loop-again Inv-loop μ-loop
 loop-again c = left-more _ _ _ _ _ (c .before .before .loop-test .taken) (c .before .before .before .loop .inv) (row-test _ _ _ _ (c .before .row-equal .ensures) ∙ not-false _ (c .if2 .left))
 
--- src/primitive.rt:80:1
 returns-3 : tie.Need-returns-3 Inv-loop μ-loop
 returns-3 c = left-done _ _ _ _ _ (c .loop-test .left) (c .before .loop .inv) ∙ by-rows _ _ _ _ _
 

@@ -1,27 +1,21 @@
+-- `values::primitive::elements_equal` meets its contract.
+-- The definition is rewritten by what the calls ensure and by the tests on the way.
 use Rattle.values.proofs.Fixed.{same-length, fixed-block}
 use mathlib.Core.Path.{_∙_}
 use native.Mathlib.Omega.{arith}
 use borrow.Author.Needs.{needs}
 use Rattle.values.proofs.primitive.elements_equal.Statement.{statement}
 use Rattle.values.proofs.primitive.elements_equal.Tie as tie
-use Rattle.values.proofs.primitive.elements_equal.Reads as reads
-use Rattle.values.proofs.primitive.elements_equal.Lts as lts
-use Rattle.values.proofs.primitive.span_of.Reads as span-of-reads
-use Rattle.values.proofs.utils.equal_len.Reads as equal-len-reads
 
--- src/primitive.rt:44:9
 span-of-requires : tie.Need-span-of-requires
 span-of-requires c κs = c .before .before .pre .left
 
--- src/primitive.rt:45:9
 span-of-requires-2 : tie.Need-span-of-requires-2
 span-of-requires-2 c κs = c .before .before .before .pre .right
 
--- src/primitive.rt:48:5
 equal-len-requires : tie.Need-equal-len-requires
 equal-len-requires c κs = (c .before .span-of .ensures .inside, omega (arith, same-length _ _ _ _ _ (c .before .before .before .before .pre) (c .before .span-of .ensures) (c .span-of2 .ensures), c .span-of2 .ensures .inside))
 
--- src/primitive.rt:40:1
 returns : tie.Need-returns
 returns c = c .equal-len .ensures ∙ rw (c .before .before .span-of .ensures .place, c .before .span-of2 .ensures .place, c .before .before .span-of .ensures .size) (fixed-block _ _ _ _ (c .before .before .before .before .before .pre .width) _ _ _)
 

@@ -1,3 +1,5 @@
+-- `values::primitive::masked_equal` meets its contract.
+-- The loop keeps that what is left to look at gives the answer; the measure is how much is left.
 use Rattle.values.proofs.Steps.{Left, left-none, left-jump, jump-fails, left-rest, by-rows, sameRow}
 use Rattle.values.proofs.MaskedRows.{masked-ahead}
 use Rattle.values.proofs.Fixed.{side-small}
@@ -11,9 +13,6 @@ use native.Mathlib.Omega.{arith}
 use borrow.Author.Needs.{needs}
 use Rattle.values.proofs.primitive.masked_equal.Statement.{statement}
 use Rattle.values.proofs.primitive.masked_equal.Tie as tie
-use Rattle.values.proofs.primitive.masked_equal.Reads as reads
-use Rattle.values.proofs.primitive.masked_equal.Lts as lts
-use Rattle.values.proofs.primitive.chunk_equal.Reads as chunk-equal-reads
 
 abbrev Inv-loop : tie.InvT-loop
 Inv-loop a an b bn s t n k₀ k = Left (sameRow (maskedFixed a an) (maskedFixed b bn)) s t n k
@@ -21,59 +20,45 @@ Inv-loop a an b bn s t n k₀ k = Left (sameRow (maskedFixed a an) (maskedFixed 
 abbrev μ-loop : tie.MeasureT-loop
 μ-loop a an b bn s t n k₀ k = n - k
 
--- src/primitive.rt:103:5
 loop-holds : tie.Need-loop-holds Inv-loop μ-loop
 loop-holds c = left-none _ _ _ _
 
--- src/primitive.rt:103:20
 sub-loop : tie.Need-sub-loop Inv-loop μ-loop
 sub-loop c = c .loop .inv .within
 
--- src/primitive.rt:104:39
 add-chunk-equal : tie.Need-add-chunk-equal Inv-loop μ-loop
 add-chunk-equal c = omega (arith, c .before .loop .inv .within, side-small _ _ _ _ (c .before .before .before .before .pre .left))
 
--- src/primitive.rt:104:46
 add-chunk-equal-2 : tie.Need-add-chunk-equal-2 Inv-loop μ-loop
 add-chunk-equal-2 c = omega (arith, c .before .loop .inv .within, side-small _ _ _ _ (c .before .before .before .before .pre .right))
 
--- src/primitive.rt:104:13
 chunk-equal-requires : tie.Need-chunk-equal-requires Inv-loop μ-loop
 chunk-equal-requires c κs = masked-ahead _ _ _ _ _ _ _ _ _ (c .before .loop .inv .within) (c .loop-test .taken) (c .before .before .before .before .pre)
 
--- src/primitive.rt:105:13
 returns : tie.Need-returns Inv-loop μ-loop
 returns c = jump-fails _ _ _ _ _ 64 (c .before .before .loop-test .taken) (c .before .before .before .loop .inv) (by-rows _ _ _ _ _ ∙ sym (c .before .chunk-equal .ensures) ∙ not-true _ (c .if1 .taken)) ∙ by-rows _ _ _ _ _
 
--- src/primitive.rt:107:9
 add-k : tie.Need-add-k Inv-loop μ-loop
 add-k c = omega (arith, c .before .before .before .loop .inv .within, c .before .before .loop-test .taken)
 
--- src/primitive.rt:103:5
 loop-less : tie.Need-loop-less Inv-loop μ-loop
 loop-less c = omega (arith, c .before .before .before .loop .inv .within, c .before .before .loop-test .taken)
 
--- src/primitive.rt:103:5
 loop-again : tie.Need-loop-again Inv-loop μ-loop
 loop-again c = left-jump _ _ _ _ _ 64 (c .before .before .before .loop .inv .within) (c .before .before .loop-test .taken) (c .before .before .before .loop .inv) (by-rows _ _ _ _ _ ∙ sym (c .before .chunk-equal .ensures) ∙ not-false _ (c .if1 .left))
 
--- src/primitive.rt:109:31
 add-chunk-equal-3 : tie.Need-add-chunk-equal-3 Inv-loop μ-loop
 add-chunk-equal-3 c = omega (arith, c .before .loop .inv .within, side-small _ _ _ _ (c .before .before .before .before .pre .left))
 
--- src/primitive.rt:109:38
 add-chunk-equal-4 : tie.Need-add-chunk-equal-4 Inv-loop μ-loop
 add-chunk-equal-4 c = omega (arith, c .before .loop .inv .within, side-small _ _ _ _ (c .before .before .before .before .pre .right))
 
--- src/primitive.rt:109:45
 sub-chunk-equal : tie.Need-sub-chunk-equal Inv-loop μ-loop
 sub-chunk-equal c = c .before .loop .inv .within
 
--- src/primitive.rt:109:5
 chunk-equal-requires-2 : tie.Need-chunk-equal-requires-2 Inv-loop μ-loop
 chunk-equal-requires-2 c κs = masked-ahead _ _ _ _ _ _ _ _ _ (c .before .loop .inv .within) (le-refl _) (c .before .before .before .before .pre)
 
--- src/primitive.rt:98:1
 returns-2 : tie.Need-returns-2 Inv-loop μ-loop
 returns-2 c = left-rest _ _ _ _ _ (c .before .before .loop .inv) (c .chunk-equal2 .ensures ∙ sym (by-rows _ _ _ _ _)) ∙ by-rows _ _ _ _ _
 

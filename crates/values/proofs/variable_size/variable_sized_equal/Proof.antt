@@ -1,4 +1,7 @@
-use Rattle.values.proofs.Texts.{part-small, spans-of, text-narrow, text-rises, text-inside, text-up, texts-differ, texts-block, right-end}
+-- `values::variable_size::variable_sized_equal` meets its contract.
+-- The definition is rewritten by what the calls ensure and by the tests on the way.
+use Rattle.values.proofs.Fixed.{part-small}
+use Rattle.values.proofs.Texts.{spans-of, text-narrow, text-rises, text-inside, text-up, texts-differ, texts-block, right-end}
 use Rattle.image.specs.TypeCode.{layoutOf}
 use borrow.Author.Tests.{not-true, not-false}
 use mathlib.Core.Path.{sym, ap, _∙_}
@@ -6,62 +9,43 @@ use native.Mathlib.Omega.{arith}
 use borrow.Author.Needs.{needs}
 use Rattle.values.proofs.variable_size.variable_sized_equal.Statement.{statement}
 use Rattle.values.proofs.variable_size.variable_sized_equal.Tie as tie
-use Rattle.values.proofs.variable_size.variable_sized_equal.Reads as reads
-use Rattle.values.proofs.variable_size.variable_sized_equal.Lts as lts
-use Rattle.image.proofs.element.offset_at.Reads as offset-at-reads
-use Rattle.image.proofs.record.buffer_place.Reads as buffer-place-reads
-use Rattle.values.proofs.lengths.lengths_equal.Reads as lengths-equal-reads
-use Rattle.values.proofs.utils.equal_len.Reads as equal-len-reads
 
--- src/variable_size.rt:29:9
 lengths-equal-requires : tie.Need-lengths-equal-requires
 lengths-equal-requires c κs = (spans-of _ _ _ _ _ _ _ _ _ _ (c .before .before .pre .0) (text-narrow _ _ _ _ (c .before .before .pre .0 .left) (c .before .before .pre .1)) (text-rises _ _ _ _ (c .before .before .pre .0 .left) (c .before .before .pre .1)) (text-rises _ _ _ _ (c .before .before .pre .0 .right) (sym (ap layoutOf (c .before .before .pre .0 .alike .0 .code)) ∙ c .before .before .pre .1)))
 
--- src/variable_size.rt:30:9
 returns : tie.Need-returns
 returns c = texts-differ _ _ _ _ _ _ _ (sym (c .before .lengths-equal .ensures) ∙ not-true _ (c .if1 .taken))
 
--- src/variable_size.rt:32:9
 offset-at-requires : tie.Need-offset-at-requires
 offset-at-requires c κs = (text-narrow _ _ _ _ (c .before .before .before .before .pre .0 .left) (c .before .before .before .before .pre .1), omega (arith, part-small _ _ _ _ (c .before .before .before .before .pre .0 .left)))
 
--- src/variable_size.rt:33:31
 add-offset-at : tie.Need-add-offset-at
 add-offset-at c = omega (arith, part-small _ _ _ _ (c .before .before .before .before .before .pre .0 .left))
 
--- src/variable_size.rt:33:9
 offset-at-requires-2 : tie.Need-offset-at-requires-2
 offset-at-requires-2 c κs = (text-narrow _ _ _ _ (c .before .before .before .before .before .pre .0 .left) (c .before .before .before .before .before .pre .1), omega (arith, part-small _ _ _ _ (c .before .before .before .before .before .pre .0 .left)))
 
--- src/variable_size.rt:34:9
 offset-at-requires-3 : tie.Need-offset-at-requires-3
 offset-at-requires-3 c κs = (text-narrow _ _ _ _ (c .before .before .before .before .before .before .pre .0 .right) (sym (ap layoutOf (c .before .before .before .before .before .before .pre .0 .alike .0 .code)) ∙ c .before .before .before .before .before .before .pre .1), omega (arith, part-small _ _ _ _ (c .before .before .before .before .before .before .pre .0 .right)))
 
--- src/variable_size.rt:38:9
 buffer-place-requires : tie.Need-buffer-place-requires
 buffer-place-requires c κs = search needs
 
--- src/variable_size.rt:38:9
 add-equal-len : tie.Need-add-equal-len
 add-equal-len c = omega (arith, c .buffer-place .ensures .value, c .before .before .before .offset-at .ensures, c .before .before .offset-at2 .ensures, c .before .offset-at3 .ensures, text-inside _ _ _ _ (c .before .before .before .before .before .before .before .before .pre .0 .left) (c .before .before .before .before .before .before .before .before .pre .1), text-up _ _ _ _ (c .before .before .before .before .before .before .before .before .pre .0 .left) (c .before .before .before .before .before .before .before .before .pre .1), c .before .before .before .before .before .before .before .before .pre .0 .left .image .size)
 
--- src/variable_size.rt:39:9
 buffer-place-requires-2 : tie.Need-buffer-place-requires-2
 buffer-place-requires-2 c κs = search needs
 
--- src/variable_size.rt:39:9
 add-equal-len-2 : tie.Need-add-equal-len-2
 add-equal-len-2 c = omega (arith, c .buffer-place2 .ensures .value, c .before .before .before .before .offset-at .ensures, c .before .before .before .offset-at2 .ensures, c .before .before .offset-at3 .ensures, text-inside _ _ _ _ (c .before .before .before .before .before .before .before .before .before .pre .0 .right) (sym (ap layoutOf (c .before .before .before .before .before .before .before .before .before .pre .0 .alike .0 .code)) ∙ c .before .before .before .before .before .before .before .before .before .pre .1), right-end _ _ _ _ _ _ _ (spans-of _ _ _ _ _ _ _ _ _ _ (c .before .before .before .before .before .before .before .before .before .pre .0) (text-narrow _ _ _ _ (c .before .before .before .before .before .before .before .before .before .pre .0 .left) (c .before .before .before .before .before .before .before .before .before .pre .1)) (text-rises _ _ _ _ (c .before .before .before .before .before .before .before .before .before .pre .0 .left) (c .before .before .before .before .before .before .before .before .before .pre .1)) (text-rises _ _ _ _ (c .before .before .before .before .before .before .before .before .before .pre .0 .right) (sym (ap layoutOf (c .before .before .before .before .before .before .before .before .before .pre .0 .alike .0 .code)) ∙ c .before .before .before .before .before .before .before .before .before .pre .1))) (sym (c .before .before .before .before .before .before .lengths-equal .ensures) ∙ not-false _ (c .before .before .before .before .before .if1 .left)), c .before .before .before .before .before .before .before .before .before .pre .0 .right .image .size)
 
--- src/variable_size.rt:40:9
 sub-equal-len : tie.Need-sub-equal-len
 sub-equal-len c = omega (arith, c .before .before .before .before .offset-at .ensures, c .before .before .before .offset-at2 .ensures, c .before .before .offset-at3 .ensures, text-up _ _ _ _ (c .before .before .before .before .before .before .before .before .before .pre .0 .left) (c .before .before .before .before .before .before .before .before .before .pre .1))
 
--- src/variable_size.rt:35:5
 equal-len-requires : tie.Need-equal-len-requires
 equal-len-requires c κs = omega (arith, c .before .buffer-place .ensures .value, c .buffer-place2 .ensures .value, c .before .before .before .before .offset-at .ensures, c .before .before .before .offset-at2 .ensures, c .before .before .offset-at3 .ensures, text-inside _ _ _ _ (c .before .before .before .before .before .before .before .before .before .pre .0 .left) (c .before .before .before .before .before .before .before .before .before .pre .1), text-up _ _ _ _ (c .before .before .before .before .before .before .before .before .before .pre .0 .left) (c .before .before .before .before .before .before .before .before .before .pre .1), text-inside _ _ _ _ (c .before .before .before .before .before .before .before .before .before .pre .0 .right) (sym (ap layoutOf (c .before .before .before .before .before .before .before .before .before .pre .0 .alike .0 .code)) ∙ c .before .before .before .before .before .before .before .before .before .pre .1), right-end _ _ _ _ _ _ _ (spans-of _ _ _ _ _ _ _ _ _ _ (c .before .before .before .before .before .before .before .before .before .pre .0) (text-narrow _ _ _ _ (c .before .before .before .before .before .before .before .before .before .pre .0 .left) (c .before .before .before .before .before .before .before .before .before .pre .1)) (text-rises _ _ _ _ (c .before .before .before .before .before .before .before .before .before .pre .0 .left) (c .before .before .before .before .before .before .before .before .before .pre .1)) (text-rises _ _ _ _ (c .before .before .before .before .before .before .before .before .before .pre .0 .right) (sym (ap layoutOf (c .before .before .before .before .before .before .before .before .before .pre .0 .alike .0 .code)) ∙ c .before .before .before .before .before .before .before .before .before .pre .1))) (sym (c .before .before .before .before .before .before .lengths-equal .ensures) ∙ not-false _ (c .before .before .before .before .before .if1 .left)))
 
--- src/variable_size.rt:16:1
 returns-2 : tie.Need-returns-2
 returns-2 c = c .equal-len .ensures ∙ rw (c .before .before .buffer-place .ensures .value, c .before .buffer-place2 .ensures .value, c .before .before .before .before .before .offset-at .ensures, c .before .before .before .before .offset-at2 .ensures, c .before .before .before .offset-at3 .ensures) (texts-block _ _ _ _ _ _ _ _ (c .before .before .before .before .before .before .before .before .before .before .pre .0) (c .before .before .before .before .before .before .before .before .before .before .pre .1) (sym (c .before .before .before .before .before .before .before .lengths-equal .ensures) ∙ not-false _ (c .before .before .before .before .before .before .if1 .left)))
 
