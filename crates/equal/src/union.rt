@@ -73,11 +73,11 @@ pub fn equal_sparse(
     let cb = first_child(b, bn);
     let mut k: usize = 0;
     while k < n {
-        let id = byte(a, ia + (s + k));
-        if id != byte(b, ib + (t + k)) {
+        let named = byte(a, ia + (s + k));
+        if named != byte(b, ib + (t + k)) {
             return false;
         }
-        let child = child_with_id(a, an, id);
+        let child = child_with_id(a, an, named);
         if !equal_range(a, child, b, cb + (child - ca), s + k, t + k, 1, depth) {
             return false;
         }

@@ -16,7 +16,7 @@ ghost use Rattle.values.specs.Pairs.{rangeEqual, maskedFixed};
 ghost use Rattle.values.specs.Parts.{Parts, Masked, Elements, Spanned, Fixed};
 
 // Rows with nulls are compared so many at a time.
-const CHUNK: usize = 64;
+const CHUNK: usize = 1024;
 
 // Where some elements of a node stand: the place of the first, and the length of all.
 pub struct Span {

@@ -36,7 +36,7 @@ chunk-equal-requires : tie.Need-chunk-equal-requires Inv-loop μ-loop
 chunk-equal-requires c κs = masked-ahead _ _ _ _ _ _ _ _ _ (c .before .loop .inv .within) (c .loop-test .taken) (c .before .before .before .before .pre)
 
 returns : tie.Need-returns Inv-loop μ-loop
-returns c = jump-fails _ _ _ _ _ 64 (c .before .before .loop-test .taken) (c .before .before .before .loop .inv) (by-rows _ _ _ _ _ ∙ sym (c .before .chunk-equal .ensures) ∙ not-true _ (c .if1 .taken)) ∙ by-rows _ _ _ _ _
+returns c = jump-fails _ _ _ _ _ 1024 (c .before .before .loop-test .taken) (c .before .before .before .loop .inv) (by-rows _ _ _ _ _ ∙ sym (c .before .chunk-equal .ensures) ∙ not-true _ (c .if1 .taken)) ∙ by-rows _ _ _ _ _
 
 add-k : tie.Need-add-k Inv-loop μ-loop
 add-k c = omega (arith, c .before .before .before .loop .inv .within, c .before .before .loop-test .taken)
@@ -45,7 +45,7 @@ loop-less : tie.Need-loop-less Inv-loop μ-loop
 loop-less c = omega (arith, c .before .before .before .loop .inv .within, c .before .before .loop-test .taken)
 
 loop-again : tie.Need-loop-again Inv-loop μ-loop
-loop-again c = left-jump _ _ _ _ _ 64 (c .before .before .before .loop .inv .within) (c .before .before .loop-test .taken) (c .before .before .before .loop .inv) (by-rows _ _ _ _ _ ∙ sym (c .before .chunk-equal .ensures) ∙ not-false _ (c .if1 .left))
+loop-again c = left-jump _ _ _ _ _ 1024 (c .before .before .before .loop .inv .within) (c .before .before .loop-test .taken) (c .before .before .before .loop .inv) (by-rows _ _ _ _ _ ∙ sym (c .before .chunk-equal .ensures) ∙ not-false _ (c .if1 .left))
 
 add-chunk-equal-3 : tie.Need-add-chunk-equal-3 Inv-loop μ-loop
 add-chunk-equal-3 c = omega (arith, c .before .loop .inv .within, side-small _ _ _ _ (c .before .before .before .before .pre .left))

@@ -1,0 +1,377 @@
+#!/usr/bin/env python3
+"""Writes the program `pairs`: the pairs that document 01 names, as calls on images, and what it must print.
+
+Images are laid out from columns as crates/cases/specs/Build.antt lays them out: nodes depth by depth, and the bytes of
+each node's buffers, bitmap and name after the tables, in that order. The expected answers are document 01's.
+
+    python3 tests/pairs.py            write crates/pairs/src/calls.rt, crates/pairs/src/main.rt and crates/pairs/stdout
+    python3 tests/pairs.py --check    say whether they are as written
+"""
+
+import os
+import sys
+
+CRATE = os.path.join(os.path.dirname(os.path.abspath(__file__)), "..", "crates", "pairs")
+
+# The type codes that the pairs use.
+INT8, INT16, FLOAT32, UTF8, FIXED_SIZE_BINARY, UTF8_VIEW = 2, 3, 11, 26, 30, 31
+LIST, LARGE_LIST_VIEW, STRUCT, SPARSE_UNION, DICTIONARY, MAP, RUN_END_ENCODED = 33, 36, 38, 40, 41, 42, 43
+
+
+def number(width, value):
+    return (value % 256**width).to_bytes(width, "little")
+
+
+class Column:
+    """A node: its field, what it stores, and its children."""
+
+    def __init__(self, code, rows, buffers, children=(), p1=0, name="", nullable=False, id=0, bits=None):
+        self.code, self.rows, self.p1, self.id = code, rows, p1, id
+        self.buffers, self.children, self.nullable = list(buffers), list(children), nullable
+        self.name = name.encode("ascii")
+        self.bitmap = b""
+        if bits is not None:
+            packed = sum(bit << place for place, bit in enumerate(bits))
+            self.bitmap = number((len(bits) + 7) // 8, packed)
+
+    def placed(self):
+        return b"".join(self.buffers) + self.bitmap + self.name
+
+    def record(self, child, buffer, place):
+        bitmap_place = place + sum(map(len, self.buffers))
+        name_place = bitmap_place + len(self.bitmap)
+        return (
+            number(1, self.code)
+            + number(1, self.nullable + (2 if self.bitmap else 0))
+            + number(1, self.id)
+            + number(1, len(self.name))
+            + number(4, self.p1)
+            + number(4, 0)
+            + number(4, self.rows)
+            + number(4, 0)
+            + number(4, name_place if self.name else 0)
+            + number(4, bitmap_place if self.bitmap else 0)
+            + number(4, len(self.bitmap))
+            + number(4, 0)
+            + number(2, child)
+            + number(2, len(self.children))
+            + number(2, buffer)
+            + number(2, len(self.buffers))
+        )
+
+
+def image(root):
+    """The image of a column, in parts: the header, the records, the entries and the bytes of each node."""
+    nodes, depth = [], [root]
+    while depth:
+        nodes += depth
+        depth = [child for node in depth for child in node.children]
+    count = sum(len(node.buffers) for node in nodes)
+    place = 4 + 44 * len(nodes) + 8 * count
+    records, entries, data = [], [], []
+    child, buffer = 1, 0
+    for node in nodes:
+        records.append(node.record(child, buffer, place))
+        child += len(node.children)
+        buffer += len(node.buffers)
+        at = place
+        for stored in node.buffers:
+            entries.append(number(4, at) + number(4, len(stored)))
+            at += len(stored)
+        data.append(node.placed())
+        place += len(node.placed())
+    return [number(2, len(nodes)) + number(2, count)] + records + entries + [part for part in data if part]
+
+
+# Columns.
+
+
+def numbers(code, width, values, **field):
+    return Column(code, len(values), [b"".join(number(width, value) for value in values)], **field)
+
+
+def int8(values, **field):
+    return numbers(INT8, 1, values, **field)
+
+
+def texts(values, **field):
+    ends = [sum(map(len, values[:i])) for i in range(len(values) + 1)]
+    offsets = b"".join(number(4, end) for end in ends)
+    return Column(UTF8, len(values), [offsets, "".join(values).encode("ascii")], **field)
+
+
+def lists(code, offsets, child, **field):
+    return Column(code, len(offsets) - 1, [b"".join(number(4, offset) for offset in offsets)], [child], **field)
+
+
+def session(middle):
+    """Three rows of Int8, the middle one null, with that byte under the null."""
+    return image(int8([5, middle, 7], bits=[1, 0, 1]))
+
+
+def list_of(offsets, rows):
+    return image(lists(LIST, offsets, int8(rows, name="item")))
+
+
+def runs_of(rows, ends, values):
+    children = [numbers(INT16, 2, ends, name="run_ends"), texts(values, name="values")]
+    return image(Column(RUN_END_ENCODED, rows, [], children))
+
+
+def dictionary_of(keys, bits=None):
+    """Int8 keys into two values: the text "a", and a null."""
+    values = texts(["a", ""], nullable=True, bits=[1, 0])
+    return image(Column(DICTIONARY, len(keys), [bytes(keys)], [values], p1=INT8, nullable=True, bits=bits))
+
+
+def float_of(bits):
+    return image(numbers(FLOAT32, 4, [bits]))
+
+
+def map_of(key, name=""):
+    """One Map row of two entries, by the key's name."""
+    children = [texts(["a", "b"], name=key), int8([1, 2], name="value", nullable=True)]
+    return lists(MAP, [0, 2], Column(STRUCT, 2, [], children, name="entries"), name=name)
+
+
+def binary_of(width):
+    return image(Column(FIXED_SIZE_BINARY, 3, [b""], p1=width))
+
+
+def depth_of(depth):
+    """One Int8 row under Structs, of that depth."""
+    column = int8([7])
+    for _ in range(depth - 1):
+        column = Column(STRUCT, 1, [], [column])
+    return image(column)
+
+
+def view(text, buffer, offset):
+    """A view of a text longer than 12 bytes: length, prefix, buffer and offset."""
+    return number(4, len(text)) + text[:4] + number(4, buffer) + number(4, offset)
+
+
+def sparse_of(first, second):
+    """Two rows of a sparse union, of ids 3 and 5: the first row is the first child's, the second the second's."""
+    children = [int8(first, name="a", id=3), int8(second, name="b", id=5)]
+    return image(Column(SPARSE_UNION, 2, [bytes([3, 5])], children))
+
+
+def large_list_view_of(offset, size):
+    buffers = [number(8, offset), number(8, size)]
+    return image(Column(LARGE_LIST_VIEW, 1, buffers, [int8([7], name="item")]))
+
+
+# The session's first line without its frame byte: the layout above must give these bytes.
+SESSION = (
+    "01000100 02020000 00000000 00000000 03000000 00000000 00000000 3b000000"
+    "01000000 00000000 01000000 00000100 38000000 03000000 05000705"
+)
+assert b"".join(session(0)) == bytes.fromhex(SESSION)
+
+# Calls and answers.
+
+ACCEPTED, EQUAL, UNEQUAL = (0, 0, 0, 0), (0, 0, 0, 1), (0, 0, 0, 0)
+
+
+def refused(fault, side=0, node=0):
+    return (fault, side, node, 0)
+
+
+def check(whole):
+    return ("check", [("image", whole)], [])
+
+
+def compare(left, right):
+    return ("compare", [("left", left), ("right", right)], [])
+
+
+def compare_range(left, right, left_start, right_start, count):
+    return ("compare_range", [("left", left), ("right", right)], [left_start, right_start, count])
+
+
+LONG = b"thirteen long"
+
+# A function's name, its label, document 01's words, the call and the answer.
+PAIRS = [
+    ("p1", "P1", "P1 the session's tables: equal.", compare(session(0), session(9)), EQUAL),
+    (
+        "p2",
+        "P2",
+        "P2 offsets 0,2,4 against 4,6,8, same child rows: equal.",
+        compare(list_of([0, 2, 4], [1, 2, 3, 4]), list_of([4, 6, 8], [9, 9, 9, 9, 1, 2, 3, 4])),
+        EQUAL,
+    ),
+    (
+        "p3",
+        "P3",
+        "P3 run ends 2,5 of a,b against 1,2,5 of a,a,b: equal.",
+        compare(runs_of(5, [2, 5], ["a", "b"]), runs_of(5, [1, 2, 5], ["a", "a", "b"])),
+        EQUAL,
+    ),
+    (
+        "p4",
+        "P4",
+        "P4 null key against key to a null value: unequal.",
+        compare(dictionary_of([0], bits=[0]), dictionary_of([1])),
+        UNEQUAL,
+    ),
+    (
+        "p5",
+        "P5",
+        "P5 Float32 bits 00000000 against 80000000 hexadecimal: unequal.",
+        compare(float_of(0x00000000), float_of(0x80000000)),
+        UNEQUAL,
+    ),
+    (
+        "p6_root",
+        "P6-root",
+        "P6 root Maps differing in key name: equal.",
+        compare(image(map_of("key")), image(map_of("keys"))),
+        EQUAL,
+    ),
+    (
+        "p6_list",
+        "P6-list",
+        "P6 inside a List: unequal.",
+        compare(
+            image(lists(LIST, [0, 1], map_of("key", "item"))),
+            image(lists(LIST, [0, 1], map_of("keys", "item"))),
+        ),
+        UNEQUAL,
+    ),
+    (
+        "p7_end",
+        "P7-end",
+        "P7 start 3 count 0 of 3 rows: equal.",
+        compare_range(session(0), session(9), 3, 3, 0),
+        EQUAL,
+    ),
+    (
+        "p7_left",
+        "P7-left",
+        "P7 start 4: 21, the left side's.",
+        compare_range(session(0), session(9), 4, 3, 0),
+        refused(21),
+    ),
+    (
+        "p7_right",
+        "P7-right",
+        "P7 start 4: 21, the right side's.",
+        compare_range(session(0), session(9), 3, 4, 0),
+        refused(21, side=1),
+    ),
+    ("p8_zero", "P8-zero", "P8 FixedSizeBinary width 0: accepted.", check(binary_of(0)), ACCEPTED),
+    ("p8_negative", "P8-negative", "P8 FixedSizeBinary width -1: 11.", check(binary_of(-1)), refused(11)),
+    ("p10_sixteen", "P10-16", "P10 depth 16 accepted.", check(depth_of(16)), ACCEPTED),
+    (
+        "p10_seventeen",
+        "P10-17",
+        "P10 depth 17: 12, of the node of that depth.",
+        check(depth_of(17)),
+        refused(12, node=16),
+    ),
+    (
+        "views",
+        "views",
+        "13-byte views in different buffers: equal.",
+        compare(
+            image(Column(UTF8_VIEW, 1, [view(LONG, 0, 0), LONG])),
+            image(Column(UTF8_VIEW, 1, [view(LONG, 1, 2), b"another", b"--" + LONG])),
+        ),
+        EQUAL,
+    ),
+    (
+        "sparse",
+        "sparse",
+        "Sparse unions that differ only in a child that the row's id does not name: equal.",
+        compare(sparse_of([1, 8], [8, 2]), sparse_of([1, 9], [9, 2])),
+        EQUAL,
+    ),
+    (
+        "padding",
+        "padding",
+        "View of 5 with a nonzero pad byte: 18.",
+        check(image(Column(UTF8_VIEW, 1, [number(4, 5) + b"hello" + bytes([0, 0, 0, 0, 0, 0, 1])]))),
+        refused(18),
+    ),
+    (
+        "large_list_view",
+        "large-list-view",
+        "LargeListView offset 9,223,372,036,854,775,807, size 1: 17.",
+        check(large_list_view_of(9223372036854775807, 1)),
+        refused(17),
+    ),
+]
+
+# What is written.
+
+WIDTH = 22
+
+
+def literal(whole):
+    """The image as a byte string, each part on lines of its own."""
+    lines = [part[at : at + WIDTH] for part in whole for at in range(0, len(part), WIDTH)]
+    return "\\\n        ".join("".join("\\x%02x" % byte for byte in line) for line in lines)
+
+
+def function(name, words, call):
+    callee, images, rest = call
+    lines = ["// " + words, "pub fn %s() -> Reply {" % name]
+    for what, whole in images:
+        lines.append('    let %s = b"%s";' % (what, literal(whole)))
+    taken = ", ".join([what for what, _ in images] + [str(value) for value in rest])
+    told = "of_check" if callee == "check" else "of_comparison"
+    lines.append("    %s(api::%s(%s))" % (told, callee, taken))
+    lines.append("}")
+    return "\n".join(lines) + "\n"
+
+
+def calls():
+    head = (
+        "// The calls of document 01's pairs, written by tests/pairs.py.\n"
+        "use crate::reply::Reply;\n"
+        "use crate::reply::of_check;\n"
+        "use crate::reply::of_comparison;\n\n"
+    )
+    return head + "\n".join(function(name, words, call) for name, _, words, call, _ in PAIRS)
+
+
+def program():
+    lines = [
+        "// Runs the pairs of document 01 and prints a line for each: its label, and the answer's number, side, node and value.",
+        "// Written by tests/pairs.py.",
+        "mod calls;",
+        "mod reply;",
+        "",
+        "use reply::print;",
+        "",
+        "fn main() {",
+    ]
+    lines += ['    print(b"%s", calls::%s());' % (label, name) for name, label, _, _, _ in PAIRS]
+    lines.append("}")
+    return "\n".join(lines) + "\n"
+
+
+def expected():
+    return "".join("%s %s\n" % (label, " ".join(map(str, answer))) for _, label, _, _, answer in PAIRS)
+
+
+def main():
+    files = {"src/calls.rt": calls(), "src/main.rt": program(), "stdout": expected()}
+    same = True
+    for name, text in files.items():
+        path = os.path.join(CRATE, name)
+        if sys.argv[1:] == ["--check"]:
+            with open(path, encoding="utf-8") as file:
+                if file.read() != text:
+                    print("not as written: crates/pairs/" + name)
+                    same = False
+        else:
+            with open(path, "w", encoding="utf-8") as file:
+                file.write(text)
+    return 0 if same else 1
+
+
+if __name__ == "__main__":
+    sys.exit(main())
