@@ -1,2 +1,3 @@
 pub mod Answers
 pub mod Demand2
+pub mod Demand3

@@ -1,1 +1,2 @@
 pub mod Demand2
+pub mod Demand3

@@ -12,8 +12,8 @@ use Rattle.image.specs.TypeCode.{layoutOf, childRule}
 use Rattle.image.specs.Element.{childEnd, elementWidth, elementPlace, elementAt}
 use Rattle.image.specs.Reads.{Read, Nth}
 use Rattle.laws.specs.Accepted.{AcceptedImage, Node}
+use Rattle.laws.proofs.Alike.{same-width}
 use Rattle.values.specs.Parts.{Part, Sides, Parts}
-use Rattle.values.proofs.Fixed.{same-width}
 
 -- a child is a node
 pub child-node : (s : List ℕ) (k c : ℕ) → AcceptedImage s → k < nodeCount s → c < childCount s k → firstChild s k + c < nodeCount s

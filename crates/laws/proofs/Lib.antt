@@ -4,3 +4,8 @@ pub mod NoFault
 pub mod Codes
 pub mod Accepted
 pub mod Fuel
+pub mod Alike
+pub mod Decode
+pub mod Stored
+pub mod OneShape
+pub mod Demand3

@@ -9,13 +9,14 @@ use native.Mathlib.Nat.{mul-le-mul-right, suc-mul, add-mul}
 use lib.ListN.{length}
 use Rattle.image.specs.declared.type_code.Layout.the-variants.{FixedWidth}
 use Rattle.image.specs.Bytes.{bytesAt}
-use Rattle.image.specs.Record.{nodeCount, codeOf, p1Of, offsetOf, lengthOf, bufferPlace, bufferLength, bufferCount, elementsOf}
+use Rattle.image.specs.Record.{nodeCount, codeOf, offsetOf, lengthOf, bufferPlace, bufferLength, bufferCount, elementsOf}
 use Rattle.image.specs.TypeCode.{layoutOf, bufferRule}
 use Rattle.image.specs.Element.{elementWidth, elementPlace}
 use Rattle.image.specs.Types.{sameBytes}
 use Rattle.image.specs.Row.{fixedRow}
 use Rattle.image.specs.Equality.{rowEqual}
 use Rattle.laws.specs.Accepted.{AcceptedImage}
+use Rattle.laws.proofs.Alike.{same-width}
 use Rattle.values.specs.Pairs.{all, rangeEqual, sameByte}
 use Rattle.values.specs.Parts.{Side, Part, Parts, Masked, Elements, Spanned, Fixed}
 use Rattle.values.proofs.Steps.{sameRow, by-rows, by-bytes}
@@ -66,11 +67,6 @@ spanned s k j n w p r ew ep =
 
 pub image-small : (s : List ℕ) (k j n : ℕ) → Elements s k j n → length s ≤ 16777216
 image-small s k j n r = r .image .size
-
--- nodes of one code and p1 have elements of one width
-pub same-width : (a b : List ℕ) (k l : ℕ) → codeOf a k ≡ codeOf b l → p1Of a k ≡ p1Of b l → elementWidth a k ≡ elementWidth b l
-unfolding elementWidth
-same-width a b k l code p1 = rw (code, p1)
 
 -- parts of two fixed-width nodes that are alike
 pub parts-fixed : (a b : List ℕ) (k l i j n d : ℕ) → Parts a b k l i j n d → layoutOf (codeOf a k) ≡ FixedWidth → Fixed a b k l i j n

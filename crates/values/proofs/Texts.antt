@@ -16,11 +16,12 @@ use Rattle.image.specs.Types.{sameBytes}
 use Rattle.image.specs.Row.{variableRow}
 use Rattle.image.specs.Equality.{rowEqual}
 use Rattle.laws.specs.Accepted.{AcceptedImage, OffsetsRise}
+use Rattle.laws.proofs.Alike.{same-width}
 use Rattle.values.specs.Pairs.{all, rangeEqual, sameByte, sameSpan, spanAt}
 use Rattle.values.specs.Parts.{Part, Parts, Spans}
 use Rattle.values.proofs.Steps.{sameRow, by-rows, by-bytes}
 use Rattle.values.proofs.Blocks.{blocks, all-at, all-weaker, rise-far, equal-spans}
-use Rattle.values.proofs.Fixed.{same-width, part-small}
+use Rattle.values.proofs.Fixed.{part-small}
 use Rattle.values.proofs.Names.{other-length}
 
 -- offsets of parts that rise

@@ -2,13 +2,14 @@
 use mathlib.Core.Path.{_≡_}
 use mathlib.Core.Bool.{true}
 use mathlib.Core.List.{List}
-use Prim.Native.Nat.{ℕ, zero, suc, _+_, _*_, _≤_, _<_, _^_}
+use Prim.Native.Nat.{ℕ, suc, _+_, _*_, _≤_, _<_, _^_}
 use lib.ListN.{length}
-use Rattle.image.specs.Record.{nodeCount, codeOf, idOf, p1Of, lengthOf, offsetOf, firstChild, childCount, elementsOf}
+use Rattle.image.specs.Record.{nodeCount, codeOf, p1Of, lengthOf, offsetOf, elementsOf}
 use Rattle.image.specs.declared.type_code.Layout.the-variants.{FixedWidth, Runs}
-use Rattle.image.specs.TypeCode.{isUnion, layoutOf}
+use Rattle.image.specs.TypeCode.{layoutOf}
 use Rattle.image.specs.Element.{valid, elementWidth, elementPlace, elementAt, viewLength, viewData}
 use Rattle.laws.specs.Accepted.{AcceptedImage, ViewInside}
+use Rattle.laws.specs.Alike.{Alike}
 use Rattle.values.specs.Pairs.{all, sameMask}
 
 -- n rows from row i on of a node of an accepted image
@@ -24,18 +25,6 @@ pub record Part (s : List ℕ) (k j n : ℕ) : Type 0 where
   pub low : offsetOf s k ≤ j
   pub high : j + n ≤ elementsOf s k
   pub not-null : (i : ℕ) → j ≤ offsetOf s k + i → offsetOf s k + i < j + n → valid s k i ≡ true
-
--- What two nodes have in common: their codes, parameters and child counts, and of unions the children's ids.
-pub record Heads (a b : List ℕ) (k l : ℕ) : Type 0 where
-  pub code : codeOf a k ≡ codeOf b l
-  pub p1 : p1Of a k ≡ p1Of b l
-  pub count : childCount a k ≡ childCount b l
-  pub ids : isUnion (codeOf a k) ≡ true → (c : ℕ) → c < childCount a k → idOf a (firstChild a k + c) ≡ idOf b (firstChild b l + c)
-
--- Two nodes have their heads in common, and so have their children in turn, down to a depth.
-abbrev pub Alike : ℕ → List ℕ → List ℕ → ℕ → ℕ → Type 0
-Alike zero a b k l = Unit {0}
-Alike (suc depth) a b k l = Heads a b k l × ((c : ℕ) → c < childCount a k → Alike depth a b (firstChild a k + c) (firstChild b l + c))
 
 -- n rows of each of two nodes that are alike down to the depth
 pub record Sides (a b : List ℕ) (k l i j n depth : ℕ) : Type 0 where
