@@ -190,6 +190,10 @@ def compare_range(left, right, left_start, right_start, count):
     return ("compare_range", [("left", left), ("right", right)], [left_start, right_start, count])
 
 
+def write(whole, start, count, room):
+    return ("write", [("image", whole)], [start, count, room])
+
+
 LONG = b"thirteen long"
 
 # A function's name, its label, document 01's words, the call and the answer.
@@ -263,6 +267,14 @@ PAIRS = [
     ),
     ("p8_zero", "P8-zero", "P8 FixedSizeBinary width 0: accepted.", check(binary_of(0)), ACCEPTED),
     ("p8_negative", "P8-negative", "P8 FixedSizeBinary width -1: 11.", check(binary_of(-1)), refused(11)),
+    (
+        "p9_five",
+        "P9-five",
+        "P9 the session's five row bytes into 5: written.",
+        write(session(0), 0, 3, 5),
+        (0, 0, 0, 5),
+    ),
+    ("p9_four", "P9-four", "P9 the session's five row bytes into 4: 43.", write(session(0), 0, 3, 4), refused(43)),
     ("p10_sixteen", "P10-16", "P10 depth 16 accepted.", check(depth_of(16)), ACCEPTED),
     (
         "p10_seventeen",
@@ -320,8 +332,11 @@ def function(name, words, call):
     lines = ["// " + words, "pub fn %s() -> Reply {" % name]
     for what, whole in images:
         lines.append('    let %s = b"%s";' % (what, literal(whole)))
+    if callee == "write":
+        lines.append("    let mut out = [0u8; %d];" % rest[-1])
+        rest = rest[:-1] + ["&mut out"]
     taken = ", ".join([what for what, _ in images] + [str(value) for value in rest])
-    told = "of_check" if callee == "check" else "of_comparison"
+    told = {"check": "of_check", "write": "of_write"}.get(callee, "of_comparison")
     lines.append("    %s(api::%s(%s))" % (told, callee, taken))
     lines.append("}")
     return "\n".join(lines) + "\n"
@@ -332,7 +347,8 @@ def calls():
         "// The calls of document 01's pairs, written by tests/pairs.py.\n"
         "use crate::reply::Reply;\n"
         "use crate::reply::of_check;\n"
-        "use crate::reply::of_comparison;\n\n"
+        "use crate::reply::of_comparison;\n"
+        "use crate::reply::of_write;\n\n"
     )
     return head + "\n".join(function(name, words, call) for name, _, words, call, _ in PAIRS)
 

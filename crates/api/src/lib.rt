@@ -1,16 +1,22 @@
-// The public calls: check an image, compare two tables, compare ranges of their rows. Each checks its images itself.
+// The public calls: check an image, compare two tables, compare ranges of their rows, write rows. Each checks its images
+// itself.
 use equal::equal_range;
 use image::answer::Checked;
 use image::answer::Compared;
 use image::answer::Side;
+use image::answer::Written;
 use image::place::Place;
 use image::record::length;
+use rows::measure::Room;
+use rows::measure::measure_rows;
+use rows::write::write_rows;
 use values::types::types_equal;
 use values::utils::base_equal;
 ghost use mathlib.Core.Path.{_≡_};
 ghost use Rattle.image.specs.Faults.{checkImage};
 ghost use Rattle.image.specs.Types.{typesAgree};
-ghost use Rattle.image.specs.Answers.{compareAnswer, compareRangeAnswer, exceeds, yesOrNo, refusedOf};
+ghost use Rattle.image.specs.declared.answer.Written.the-variants.{TooLong};
+ghost use Rattle.image.specs.Answers.{compareAnswer, compareRangeAnswer, writeAnswer, writeOutput, afterCheck, exceeds, yesOrNo, refusedOf};
 
 // A table's depth is at most so much.
 const DEPTH: usize = 16;
@@ -95,4 +101,33 @@ pub fn compare_range(
         return Compared::OutOfRange(Side::Right);
     }
     yes_or_no(equal_range(left, 0, right, 0, left_start, right_start, count, DEPTH))
+}
+
+// What a refused check answers for a write; an accepted one has no such answer.
+fn not_written(checked: Checked) -> Written
+    ensures { λ r. ⌜ r ≡ afterCheck checked TooLong ⌝ }
+{
+    match checked {
+        Checked::Refused(fault) => Written::Refused(fault),
+        Checked::Accepted => Written::TooLong,
+    }
+}
+
+// Writes `count` rows of a table from a start on to the front of `out`. A refusal leaves `out` as it was.
+pub fn write(image: &[u8], start: usize, count: usize, out: &mut [u8]) -> Written
+    ensures { λ r. ⌜ r ≡ writeAnswer (now (image .entry)) start count (now (out .entry)) ⌝ }
+    ensures { λ _. ⌜ now (out .exit) ≡ writeOutput (now (image .entry)) start count (now (out .entry)) ⌝ }
+{
+    let checked = check(image);
+    let Checked::Accepted = checked else {
+        return not_written(checked);
+    };
+    if out_of_range(image, start, count) {
+        return Written::OutOfRange;
+    }
+    let room = out.len();
+    let Room::Left(rest) = measure_rows(image, 0, start, count, DEPTH, room) else {
+        return Written::TooLong;
+    };
+    Written::Bytes(write_rows(image, 0, start, count, DEPTH, out, 0))
 }

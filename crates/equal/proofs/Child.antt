@@ -2,51 +2,16 @@
 -- A child of an accepted image's node is a node; children in turn are alike one level less deep.
 use mathlib.Core.Path.{_≡_, sym, ap, _∙_}
 use mathlib.Core.List.{List}
-use Prim.Native.Nat.{ℕ, _+_, _*_, _-_, _<_, _≤_}
+use Prim.Native.Nat.{ℕ, _+_, _<_, _≤_}
 use native.Mathlib.Omega.{arith}
 use Rattle.image.specs.declared.type_code.Layout.{Layout}
 use Rattle.image.specs.declared.type_code.Count.the-variants.{Exactly}
-use Rattle.image.specs.Bytes.{numberAt}
-use Rattle.image.specs.Record.{nodeCount, codeOf, lengthOf, offsetOf, firstChild, childCount, elementsOf, bufferPlace}
+use Rattle.image.specs.Record.{codeOf, lengthOf, firstChild, childCount}
 use Rattle.image.specs.TypeCode.{layoutOf, childRule}
-use Rattle.image.specs.Element.{childEnd, elementWidth, elementPlace, elementAt}
-use Rattle.image.specs.Reads.{Read, Nth}
-use Rattle.laws.specs.Accepted.{AcceptedImage, Node}
+use Rattle.image.specs.Element.{elementWidth}
 use Rattle.laws.proofs.Alike.{same-width}
-use Rattle.values.specs.Parts.{Part, Sides, Parts}
-
--- a child is a node
-pub child-node : (s : List ℕ) (k c : ℕ) → AcceptedImage s → k < nodeCount s → c < childCount s k → firstChild s k + c < nodeCount s
-unfolding childEnd
-child-node s k c image node lt = omega (arith, image .node k node .tree .ends)
-
--- a node has few elements, and so few rows
-pub length-small : (s : List ℕ) (k : ℕ) → AcceptedImage s → k < nodeCount s → lengthOf s k ≤ 1073741824
-unfolding elementsOf
-length-small s k image node = omega (arith, image .node k node .buffers .small)
-
--- element j of the first buffer, as it is read
-pub element-read : (s : List ℕ) (k j : ℕ) {w p bits r : ℕ} → w ≡ elementWidth s k → Read (bufferPlace s k 0) 32 p → Read (numberAt w s (p + j * w)) bits r → r ≡ elementAt s k j
-unfolding elementAt elementPlace
-element-read s k j ew ep er = rw (← ew, ← ep .value) (er .value)
-
-module _ {s : List ℕ} {k j n : ℕ} (r : Part s k j n) where
-  pub part-node : Node s k
-  part-node = r .image .node k (r .node)
-
-  pub part-small : j + n ≤ 1073741824
-  part-small = omega (arith, r .high, part-node .buffers .small)
-
-  -- where element h of the part is read
-  pub part-nth : (h : ℕ) → h ≤ n → {x p w : ℕ} → Read x 32 p → w ≤ 8 → Nth p w (j + h)
-  part-nth h le place narrow = record { near = omega (arith, place .small); narrow = narrow; few = omega (arith, part-small) }
-
-  -- row j - offset + h reads element h of the part
-  pub part-row : (h : ℕ) → h < n → (P : ℕ → Type 0) → ((i : ℕ) → i < lengthOf s k → P (offsetOf s k + i)) → P (j + h)
-  unfolding elementsOf
-  part-row h lt P f =
-      let e : offsetOf s k + (j + h - offsetOf s k) ≡ j + h = omega (arith, r .low) in
-      rw e at (f (j + h - offsetOf s k) (omega (arith, r .low, r .high)))
+use Rattle.values.specs.Parts.{Sides, Parts}
+use Rattle.values.proofs.Nodes.{child-node, part-node}
 
 module _ {a b : List ℕ} {k l i j n d : ℕ} (r : Parts a b k l i j n d) where
   pub layout-right : {x : Layout} → layoutOf (codeOf a k) ≡ x → layoutOf (codeOf b l) ≡ x

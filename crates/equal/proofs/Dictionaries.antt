@@ -12,15 +12,11 @@ use Rattle.image.specs.Reads.{Read}
 use Rattle.image.specs.Row.{Row, range, dictionaryRow, rowAt}
 use Rattle.image.specs.Equality.{rowEqual}
 use Rattle.values.specs.Pairs.{rangeEqual}
-use Rattle.values.specs.Parts.{Part, Sides, Parts}
+use Rattle.values.specs.Parts.{Sides, Parts}
 use Rattle.values.proofs.Steps.{sameRow}
-use Rattle.equal.proofs.Child.{part-node, part-row, layout-right, count-left, first-sides}
-
--- the keys of elements that rows which are not null read
-pub key-below : {s : List ℕ} {k j n : ℕ} → Part s k j n → layoutOf (codeOf s k) ≡ Dictionary → (h : ℕ) → h < n → elementAt s k (j + h) < lengthOf s (firstChild s k)
-key-below {s} {k} {j} {n} r keys h lt =
-    part-row r h lt (λ x. j ≤ x → x < j + n → elementAt s k x < lengthOf s (firstChild s k))
-    (λ i below le high. part-node r .rows .key keys i below (r .not-null i le high)) (omega arith) (omega arith)
+use Rattle.values.proofs.Nodes.{part-node, part-at}
+use Rattle.values.proofs.ChildRows.{key-below}
+use Rattle.equal.proofs.Child.{layout-right, count-left, first-sides}
 
 pub key-row : (A B : ℕ → ℕ → Row) (a b : List ℕ) (k l x y : ℕ)
     → rangeEqual (A (firstChild a k)) (B (firstChild b l)) (elementAt a k x) (elementAt b l y) 1 ≡ sameRow (dictionaryRow A a k) (dictionaryRow B b l) x y
@@ -36,8 +32,8 @@ module _ {a b : List ℕ} {k l i j n d : ℕ} (r : Parts a b k l i j n d) (keys 
     pub key-requires : Sides a b ca cb x y 1 d
     key-requires =
         let one : childCount a k ≡ 1 = count-left r 1 (rw keys) in
-        let left : elementAt a k (i + h) < lengthOf a (firstChild a k) = key-below (r .left) keys h lt in
-        let right : elementAt b l (j + h) < lengthOf b (firstChild b l) = key-below (r .right) (layout-right r keys) h lt in
+        let left : elementAt a k (i + h) < lengthOf a (firstChild a k) = key-below (part-at (r .left) h lt) keys in
+        let right : elementAt b l (j + h) < lengthOf b (firstChild b l) = key-below (part-at (r .right) h lt) (layout-right r keys) in
         rw (fa .value, fb .value, ex, ey) (first-sides r _ _ 1 (omega arith) (omega arith) (omega arith))
 
     pub key-answer : rangeEqual (rowAt d a ca) (rowAt d b cb) x y 1 ≡ sameRow (dictionaryRow (rowAt d a) a k) (dictionaryRow (rowAt d b) b l) (i + h) (j + h)

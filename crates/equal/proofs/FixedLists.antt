@@ -2,21 +2,22 @@
 -- By the law of blocks, with the offsets 0, p1, 2 * p1, ..; the products stay below the length of the child.
 use mathlib.Core.Path.{_≡_, sym, ap, _∙_}
 use mathlib.Core.List.{List}
-use Prim.Native.Nat.{ℕ, suc, _+_, _*_, _-_, _<_, _≤_}
+use Prim.Native.Nat.{ℕ, _+_, _*_, _≤_}
 use native.Mathlib.Omega.{arith}
-use native.Mathlib.Nat.{mul-le-mul-right, suc-mul, add-mul, zero-add}
+use native.Mathlib.Nat.{mul-le-mul-right, zero-add}
 use Rattle.image.specs.declared.type_code.Layout.the-variants.{FixedList}
-use Rattle.image.specs.Record.{nodeCount, codeOf, p1Of, lengthOf, firstChild, childCount, elementsOf}
+use Rattle.image.specs.Record.{codeOf, p1Of, lengthOf, firstChild, childCount}
 use Rattle.image.specs.TypeCode.{layoutOf}
 use Rattle.image.specs.Reads.{Read}
 use Rattle.image.specs.Row.{Row, fixedListRow, rowAt}
 use Rattle.image.specs.Equality.{rowEqual}
 use Rattle.values.specs.Pairs.{all, rangeEqual}
-use Rattle.values.specs.Parts.{Part, Sides, Parts}
+use Rattle.values.specs.Parts.{Sides, Parts}
 use Rattle.values.proofs.Steps.{sameRow, by-rows}
 use Rattle.values.proofs.Blocks.{blocks}
 use Rattle.values.proofs.Fixed.{times, next, whole}
-use Rattle.equal.proofs.Child.{length-small, child-node, part-node, layout-right, count-left, first-sides}
+use Rattle.values.proofs.ChildRows.{fixed-list-within, fixed-list-small}
+use Rattle.equal.proofs.Child.{layout-right, count-left, first-sides}
 
 module _ (A B : ℕ → ℕ → Row) (a b : List ℕ) (k l : ℕ) (same : p1Of a k ≡ p1Of b l) where
   row : (x y : ℕ) → sameRow (fixedListRow A a k) (fixedListRow B b l) x y ≡ all (sameRow (A (firstChild a k)) (B (firstChild b l))) (0 + x * p1Of a k) (0 + y * p1Of a k) (p1Of a k)
@@ -34,20 +35,6 @@ module _ (A B : ℕ → ℕ → Row) (a b : List ℕ) (k l : ℕ) (same : p1Of a
       (λ h lt. row (i + h) (j + h) ∙ ap (all (sameRow (A (firstChild a k)) (B (firstChild b l))) _ _) (sym (next (p1Of a k) (i + h))))
       ∙ rw (zero-add (i * p1Of a k), zero-add (j * p1Of a k), whole (p1Of a k) i n)
       (by-rows (A (firstChild a k)) (B (firstChild b l)) (i * p1Of a k) (j * p1Of a k) (n * p1Of a k)))
-
--- the child rows of a part lie within the child
-pub fixed-list-within : {s : List ℕ} {k j n : ℕ} → Part s k j n → layoutOf (codeOf s k) ≡ FixedList → j * p1Of s k + n * p1Of s k ≤ lengthOf s (firstChild s k)
-fixed-list-within {s} {k} {j} {n} r lists =
-    let part : (j + n) * p1Of s k ≤ elementsOf s k * p1Of s k = mul-le-mul-right (p1Of s k) (r .high) in
-    let e : (j + n) * p1Of s k ≡ j * p1Of s k + n * p1Of s k = add-mul j n (p1Of s k) in
-    omega (arith, part-node r .children .fixed-list lists)
-
-pub fixed-list-small : {s : List ℕ} {k j n : ℕ} → Part s k j n → layoutOf (codeOf s k) ≡ FixedList → j * p1Of s k + n * p1Of s k ≤ 1073741824
-fixed-list-small {s} {k} {j} {n} r lists =
-    let one : childCount s k ≡ 1 = part-node r .tree .exactly 1 (rw lists) in
-    let z : firstChild s k + 0 ≡ firstChild s k = omega arith in
-    let node : firstChild s k < nodeCount s = rw z at (child-node s k 0 (r .image) (r .node) (omega arith)) in
-    omega (arith, fixed-list-within r lists, length-small s (firstChild s k) (r .image) node)
 
 module _ {a b : List ℕ} {k l i j n d : ℕ} (r : Parts a b k l i j n d) (lists : layoutOf (codeOf a k) ≡ FixedList) {w : ℕ} (ew : Read (p1Of a k) 32 w) where
   -- no product wraps

@@ -3,11 +3,10 @@
 use mathlib.Core.Path.{_≡_, sym, _∙_}
 use mathlib.Core.Bool.{false}
 use mathlib.Core.List.{List}
-use Prim.Native.Nat.{ℕ, _+_, _*_, _<_, _≤_}
+use Prim.Native.Nat.{ℕ, _+_, _<_, _≤_}
 use native.Mathlib.Omega.{arith}
 use Rattle.image.specs.declared.type_code.Layout.the-variants.{ListView}
-use Rattle.image.specs.Bytes.{numberAt}
-use Rattle.image.specs.Record.{codeOf, lengthOf, firstChild, childCount, bufferPlace}
+use Rattle.image.specs.Record.{codeOf, lengthOf, firstChild, childCount}
 use Rattle.image.specs.TypeCode.{layoutOf}
 use Rattle.image.specs.Element.{elementWidth, elementAt, sizeAt}
 use Rattle.image.specs.Reads.{Read}
@@ -16,13 +15,9 @@ use Rattle.image.specs.Equality.{rowEqual}
 use Rattle.values.specs.Pairs.{rangeEqual}
 use Rattle.values.specs.Parts.{Sides, Parts}
 use Rattle.values.proofs.Steps.{sameRow}
+use Rattle.values.proofs.Nodes.{part-node}
 use Rattle.equal.proofs.Rows.{lengths-differ}
-use Rattle.equal.proofs.Child.{part-node, layout-right, count-left, first-sides}
-
--- a size, as it is read
-pub size-read : (s : List ℕ) (k j : ℕ) {w p bits r : ℕ} → w ≡ elementWidth s k → Read (bufferPlace s k 1) 32 p → Read (numberAt w s (p + j * w)) bits r → r ≡ sizeAt s k j
-unfolding sizeAt
-size-read s k j ew ep er = rw (← ew, ← ep .value) (er .value)
+use Rattle.equal.proofs.Child.{layout-right, count-left, first-sides}
 
 -- views of unequal sizes
 pub sizes-differ : (A B : ℕ → ℕ → Row) (a b : List ℕ) (k l x y : ℕ) → (sizeAt a k x ≡ sizeAt b l y → ⊥) → sameRow (listViewRow A a k) (listViewRow B b l) x y ≡ false

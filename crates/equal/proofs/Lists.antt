@@ -19,8 +19,9 @@ use Rattle.values.specs.Pairs.{all, rangeEqual, spanAt, sameSpan}
 use Rattle.values.specs.Parts.{Sides, Parts, Spans}
 use Rattle.values.proofs.Steps.{sameRow, by-rows}
 use Rattle.values.proofs.Blocks.{all-at, all-weaker, Rise, blocks}
+use Rattle.values.proofs.Nodes.{part-node, part-small}
 use Rattle.equal.proofs.Rows.{lengths-differ}
-use Rattle.equal.proofs.Child.{part-node, part-small, layout-right, widths-same, count-left, first-sides}
+use Rattle.equal.proofs.Child.{layout-right, widths-same, count-left, first-sides}
 
 -- lists of unequal lengths differ
 span-differs : (A B : ℕ → ℕ → Row) (a b : List ℕ) (k l x y : ℕ) → sameSpan a k b l x y ≡ false → sameRow (listRow A a k) (listRow B b l) x y ≡ false

@@ -15,7 +15,8 @@ use Rattle.image.specs.Equality.{rowEqual}
 use Rattle.values.specs.Pairs.{all, rangeEqual}
 use Rattle.values.specs.Parts.{Sides, Parts}
 use Rattle.values.proofs.Steps.{Left, left-none, left-more, left-fails, left-done}
-use Rattle.equal.proofs.Child.{part-node, layout-right, child-sides}
+use Rattle.values.proofs.Nodes.{part-node}
+use Rattle.equal.proofs.Child.{layout-right, child-sides}
 
 -- the ranges of two children are equal
 unfoldable pub sameColumn : (ℕ → ℕ → Row) → (ℕ → ℕ → Row) → ℕ → ℕ → ℕ → ℕ → ℕ → Bool

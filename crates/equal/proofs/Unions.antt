@@ -4,14 +4,13 @@
 use mathlib.Core.Path.{_≡_, sym, ap, _∙_}
 use mathlib.Core.Bool.{Bool, true, false, cond}
 use mathlib.Core.List.{List}
-use Prim.Native.Nat.{ℕ, zero, suc, _+_, _*_, _-_, _<_, _≤_}
+use Prim.Native.Nat.{ℕ, zero, suc, _+_, _-_, _<_, _≤_}
 use native.Mathlib.Omega.{arith}
 use lib.Dec.{eqb}
 use borrow.Author.Tests.{eq-eqb, ne-eqb, lt-ltb}
 use Rattle.image.specs.declared.type_code.Layout.the-variants.{DenseUnion, SparseUnion}
-use Rattle.image.specs.Bytes.{byteAt, numberAt}
 use Rattle.image.specs.Ranges.{first}
-use Rattle.image.specs.Record.{codeOf, idOf, lengthOf, firstChild, childCount, bufferPlace}
+use Rattle.image.specs.Record.{codeOf, idOf, lengthOf, firstChild, childCount}
 use Rattle.image.specs.TypeCode.{layoutOf, isUnion}
 use Rattle.image.specs.Element.{typeIdAt, denseOffsetAt, childEnd, hasId, childWithId}
 use Rattle.image.specs.Reads.{Read}
@@ -21,19 +20,12 @@ use Rattle.image.proofs.Ranges.{first-from}
 use Rattle.laws.specs.Accepted.{IdKnown}
 use Rattle.laws.proofs.Codes.{dense-code, sparse-code}
 use Rattle.values.specs.Pairs.{rangeEqual}
-use Rattle.values.specs.Parts.{Part, Sides, Parts}
+use Rattle.values.specs.Parts.{Sides, Parts}
 use Rattle.values.proofs.Steps.{sameRow}
+use Rattle.values.proofs.Nodes.{part-at}
+use Rattle.values.proofs.ChildRows.{dense-known, dense-within, sparse-known, sparse-within}
 use Rattle.equal.proofs.Rows.{one-row}
-use Rattle.equal.proofs.Child.{part-node, part-row, layout-right, child-sides}
-
--- an id and a dense offset, as they are read
-pub id-read : (s : List ℕ) (k j : ℕ) {p x : ℕ} → Read (bufferPlace s k 0) 32 p → Read (byteAt s (p + j)) 8 x → x ≡ typeIdAt s k j
-unfolding typeIdAt
-id-read s k j ep ex = rw (← ep .value) (ex .value)
-
-pub dense-offset-read : (s : List ℕ) (k j : ℕ) {p bits x : ℕ} → Read (bufferPlace s k 1) 32 p → Read (numberAt 4 s (p + j * 4)) bits x → x ≡ denseOffsetAt s k j
-unfolding denseOffsetAt
-dense-offset-read s k j ep ex = rw (← ep .value) (ex .value)
+use Rattle.equal.proofs.Child.{layout-right, child-sides}
 
 -- searches of tests that agree in turn stop at the same number
 pub first-moved : (p q : ℕ → Bool) (i j n : ℕ) → ((h : ℕ) → h < n → p (i + h) ≡ q (j + h)) → first q j n ≡ j + (first p i n - i)
@@ -69,20 +61,6 @@ pub same-child : (a b : List ℕ) (k l id : ℕ) → childCount a k ≡ childCou
 unfolding childWithId hasId
 same-child a b k l id count ids =
     rw (← count) (first-moved (hasId a id) (hasId b id) (firstChild a k) (firstChild b l) (childCount a k) (λ c lt. ap (λ (x : ℕ). eqb x id) (ids c lt)))
-
-module _ {s : List ℕ} {k j n : ℕ} (r : Part s k j n) (h : ℕ) (lt : h < n) where
-  dense-known : layoutOf (codeOf s k) ≡ DenseUnion → IdKnown s k (j + h)
-  dense-known dense = part-row r h lt (IdKnown s k) (part-node r .rows .dense dense)
-
-  dense-within : layoutOf (codeOf s k) ≡ DenseUnion → denseOffsetAt s k (j + h) < lengthOf s (childWithId s k (typeIdAt s k (j + h)))
-  dense-within dense = part-row r h lt (λ x. denseOffsetAt s k x < lengthOf s (childWithId s k (typeIdAt s k x))) (part-node r .rows .dense-offset dense)
-
-  sparse-known : layoutOf (codeOf s k) ≡ SparseUnion → IdKnown s k (j + h)
-  sparse-known sparse = part-row r h lt (IdKnown s k) (part-node r .rows .sparse sparse)
-
-  sparse-within : layoutOf (codeOf s k) ≡ SparseUnion → j + h < lengthOf s (childWithId s k (typeIdAt s k (j + h)))
-  sparse-within sparse =
-      omega (arith, r .high, part-node r .children .sparse sparse (childWithId s k (typeIdAt s k (j + h))) (sparse-known sparse .low) (sparse-known sparse .high))
 
 -- two unions whose ids at elements x and y name children
 record Named (a b : List ℕ) (k l x y : ℕ) : Type 0 where
@@ -131,8 +109,8 @@ module _ {a b : List ℕ} {k l i j n d : ℕ} (r : Parts a b k l i j n d) (dense
   dense-named : Named a b k l (i + h) (j + h)
   dense-named = record {
     union = dense-code _ dense;
-    left = dense-known (r .left) h lt dense;
-    right = dense-known (r .right) h lt (layout-right r dense);
+    left = dense-known (part-at (r .left) h lt) dense;
+    right = dense-known (part-at (r .right) h lt) (layout-right r dense);
   }
 
   module _ {id ie : ℕ} (ei : id ≡ typeIdAt a k (i + h)) (ee : ie ≡ typeIdAt b l (j + h)) where
@@ -145,7 +123,7 @@ module _ {a b : List ℕ} {k l i j n d : ℕ} (r : Parts a b k l i j n d) (dense
       dense-low = named-low r dense-named ei ee same fa fb fc
 
       pub dense-requires : {u v : ℕ} → u ≡ denseOffsetAt a k (i + h) → v ≡ denseOffsetAt b l (j + h) → Sides a b child (cb + (child - ca)) u v 1 d
-      dense-requires eu ev = rw (eu, ev) (named-sides r dense-named ei ee same fa fb fc _ _ (dense-within (r .left) h lt dense) (dense-within (r .right) h lt (layout-right r dense)))
+      dense-requires eu ev = rw (eu, ev) (named-sides r dense-named ei ee same fa fb fc _ _ (dense-within (part-at (r .left) h lt) dense) (dense-within (part-at (r .right) h lt) (layout-right r dense)))
 
       pub dense-answer : {u v : ℕ} → u ≡ denseOffsetAt a k (i + h) → v ≡ denseOffsetAt b l (j + h)
           → rangeEqual (rowAt d a child) (rowAt d b (cb + (child - ca))) u v 1 ≡ sameRow (denseRow (rowAt d a) a k) (denseRow (rowAt d b) b l) (i + h) (j + h)
@@ -157,8 +135,8 @@ module _ {a b : List ℕ} {k l i j n d : ℕ} (r : Parts a b k l i j n d) (spars
   sparse-named : Named a b k l (i + h) (j + h)
   sparse-named = record {
     union = sparse-code _ sparse;
-    left = sparse-known (r .left) h lt sparse;
-    right = sparse-known (r .right) h lt (layout-right r sparse);
+    left = sparse-known (part-at (r .left) h lt) sparse;
+    right = sparse-known (part-at (r .right) h lt) (layout-right r sparse);
   }
 
   module _ {id ie : ℕ} (ei : id ≡ typeIdAt a k (i + h)) (ee : ie ≡ typeIdAt b l (j + h)) where
@@ -171,7 +149,7 @@ module _ {a b : List ℕ} {k l i j n d : ℕ} (r : Parts a b k l i j n d) (spars
       sparse-low = named-low r sparse-named ei ee same fa fb fc
 
       pub sparse-requires : Sides a b child (cb + (child - ca)) (i + h) (j + h) 1 d
-      sparse-requires = named-sides r sparse-named ei ee same fa fb fc _ _ (sparse-within (r .left) h lt sparse) (sparse-within (r .right) h lt (layout-right r sparse))
+      sparse-requires = named-sides r sparse-named ei ee same fa fb fc _ _ (sparse-within (part-at (r .left) h lt) sparse) (sparse-within (part-at (r .right) h lt) (layout-right r sparse))
 
       pub sparse-answer : rangeEqual (rowAt d a child) (rowAt d b (cb + (child - ca))) (i + h) (j + h) 1 ≡ sameRow (sparseRow (rowAt d a) a k) (sparseRow (rowAt d b) b l) (i + h) (j + h)
       unfolding sameRow sparseRow

@@ -1,6 +1,6 @@
 -- The rule of a layout compares the values of nodes of that layout.
 -- The layout is read from the code; both nodes have the same code.
-use mathlib.Core.Path.{_≡_, refl, sym, ap, ap₂, _∙_}
+use mathlib.Core.Path.{_≡_, refl, sym, ap₂, _∙_}
 use mathlib.Core.Bool.{true}
 use mathlib.Core.List.{List}
 use Prim.Native.Nat.{ℕ, zero, suc}
@@ -8,17 +8,12 @@ use Rattle.image.specs.declared.type_code.Layout.{Layout}
 use Rattle.image.specs.declared.type_code.Layout.the-variants.{Null}
 use Rattle.image.specs.Record.{codeOf}
 use Rattle.image.specs.TypeCode.{layoutOf}
-use Rattle.image.specs.Reads.{Read}
 use Rattle.image.specs.Row.{Row, range, valueAt, rowAt}
 use Rattle.image.specs.Types.{sameBytes}
 use Rattle.image.specs.Equality.{rowEqual}
 use Rattle.values.specs.Pairs.{rangeEqual}
 use Rattle.values.specs.Parts.{Parts}
 use Rattle.equal.proofs.Child.{layout-right}
-
--- the layout as it is read: x is that of an arm
-pub layout-is : {c code : ℕ} {l x : Layout} → Read c 8 code → l ≡ layoutOf code → x ≡ l → layoutOf c ≡ x
-layout-is ec el ex = ap layoutOf (sym (ec .value)) ∙ sym el ∙ sym ex
 
 -- values of Null nodes are all equal
 nothing : (a b : List ℕ) (k l i j n : ℕ) (A B : ℕ → ℕ → Row) → true ≡ rangeEqual (valueAt Null A a k) (valueAt Null B b l) i j n

@@ -1,50 +1,16 @@
 // Run-end encoded rows. Translated from src/equal/run.rs of arrow-data 60.1.0 (Apache-2.0).
 use crate::equal_range;
-use image::bytes::nth;
-use image::record::buffer_place;
-use image::record::code;
 use image::record::first_child;
-use image::record::length;
-use image::record::offset;
-use image::type_code::TypeCode;
+use values::runs::run_end;
+use values::runs::run_of;
 ghost use mathlib.Core.Path.{_≡_};
 ghost use Prim.Native.Nat.{_+_, _<_, _≤_, _^_, min};
 ghost use Rattle.image.specs.declared.type_code.Layout.the-variants.{Runs};
 ghost use Rattle.image.specs.Record.{codeOf};
 ghost use Rattle.image.specs.TypeCode.{layoutOf};
-ghost use Rattle.image.specs.Reads.{Read};
-ghost use Rattle.image.specs.Element.{runEndAt, runAt};
 ghost use Rattle.image.specs.Row.{runRow, rowAt};
 ghost use Rattle.values.specs.Pairs.{rangeEqual};
-ghost use Rattle.values.specs.Parts.{Parts, RunPart};
-
-// Run end r of a run node.
-fn run_end(s: &[u8], node: u32, r: usize) -> usize
-    requires { ⌜ r < 2 ^ 33 ⌝ }
-    ensures { λ x. ⌜ x ≡ runEndAt (now (s .entry)) node r ⌝ }
-{
-    let ends = first_child(s, node);
-    let width = TypeCode::integer_width(code(s, ends) as u32);
-    nth(s, buffer_place(s, ends, 0), width, offset(s, ends) + r)
-}
-
-// The run that holds element j: the first whose end lies above it, found by bisection.
-fn run_of(s: &[u8], node: u32, j: usize) -> usize
-    requires { ⌜ RunPart (now s) node j ⌝ }
-    ensures { λ r. ⌜ r ≡ runAt (now (s .entry)) node j ⌝ }
-{
-    let mut low: usize = 0;
-    let mut high = length(s, first_child(s, node));
-    while low < high {
-        let middle = low + (high - low) / 2;
-        if run_end(s, node, middle) <= j {
-            low = middle + 1;
-        } else {
-            high = middle;
-        }
-    }
-    low
-}
+ghost use Rattle.values.specs.Parts.{Parts};
 
 fn least(x: usize, y: usize) -> usize
     ensures { λ r. ⌜ r ≡ min x y ⌝ }

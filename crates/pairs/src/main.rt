@@ -18,6 +18,8 @@ fn main() {
     print(b"P7-right", calls::p7_right());
     print(b"P8-zero", calls::p8_zero());
     print(b"P8-negative", calls::p8_negative());
+    print(b"P9-five", calls::p9_five());
+    print(b"P9-four", calls::p9_four());
     print(b"P10-16", calls::p10_sixteen());
     print(b"P10-17", calls::p10_seventeen());
     print(b"views", calls::views());

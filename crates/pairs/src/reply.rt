@@ -3,6 +3,7 @@ use image::answer::Checked;
 use image::answer::Compared;
 use image::answer::Fault;
 use image::answer::Side;
+use image::answer::Written;
 
 // What an answer does not return is 0.
 pub struct Reply {
@@ -59,6 +60,15 @@ pub fn of_comparison(answer: Compared) -> Reply {
         Compared::Refused(side, fault) => of_fault(side_number(side), fault),
         Compared::UnequalTypes => of_numbers(20, 0, 0, 0),
         Compared::OutOfRange(side) => of_numbers(21, side_number(side), 0, 0),
+    }
+}
+
+pub fn of_write(answer: Written) -> Reply {
+    match answer {
+        Written::Bytes(n) => of_numbers(0, 0, 0, n as u64),
+        Written::Refused(fault) => of_fault(0, fault),
+        Written::OutOfRange => of_numbers(21, 0, 0, 0),
+        Written::TooLong => of_numbers(43, 0, 0, 0),
     }
 }
 

@@ -18,7 +18,7 @@ use Rattle.image.specs.Equality.{rowEqual}
 use Rattle.laws.specs.Accepted.{AcceptedImage}
 use Rattle.laws.proofs.Alike.{same-width}
 use Rattle.values.specs.Pairs.{all, rangeEqual, sameByte}
-use Rattle.values.specs.Parts.{Side, Part, Parts, Masked, Elements, Spanned, Fixed}
+use Rattle.values.specs.Parts.{Side, Parts, Masked, Elements, Spanned, Fixed}
 use Rattle.values.proofs.Steps.{sameRow, by-rows, by-bytes}
 use Rattle.values.proofs.Blocks.{blocks}
 
@@ -96,6 +96,3 @@ spanned-small s k j n w p r ew ep = omega (arith, spanned s k j n w p r ew ep .i
 -- spans of equally many elements of one width are equally long
 pub same-length : (a b : List ℕ) (k l n : ℕ) {i j at bt x y : ℕ} → Fixed a b k l i j n → Spanned a k i n at x → Spanned b l j n bt y → x ≡ y
 same-length a b k l n r u v = u .size ∙ ap (λ (w : ℕ). n * w) (r .width) ∙ sym (v .size)
-
-pub part-small : (s : List ℕ) (k i n : ℕ) → Part s k i n → i + n ≤ 1073741824
-part-small s k i n r = omega (arith, r .high, r .image .node k (r .node) .buffers .small)

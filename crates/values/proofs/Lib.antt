@@ -1,10 +1,13 @@
 pub mod Blocks
+pub mod ChildRows
 pub mod Fixed
 pub mod Leads
 pub mod Levels
 pub mod MaskedRows
 pub mod Masks
 pub mod Names
+pub mod Nodes
+pub mod RunEnds
 pub mod Spans
 pub mod Steps
 pub mod Texts

@@ -21,8 +21,8 @@ use Rattle.values.specs.Pairs.{all, rangeEqual, sameByte, sameSpan, span
 use Rattle.values.specs.Parts.{Part, Parts, Spans}
 use Rattle.values.proofs.Steps.{sameRow, by-rows, by-bytes}
 use Rattle.values.proofs.Blocks.{blocks, all-at, all-weaker, rise-far, equal-spans}
-use Rattle.values.proofs.Fixed.{part-small}
 use Rattle.values.proofs.Names.{other-length}
+use Rattle.values.proofs.Nodes.{part-small}
 
 -- offsets of parts that rise
 pub spans-of : (a b : List ℕ) (k l i j n d enda endb : ℕ) → Parts a b k l i j n d → elementWidth a k ≤ 8 → OffsetsRise a k enda → OffsetsRise b l endb → Spans a b k l i j n
@@ -31,8 +31,8 @@ spans-of a b k l i j n d enda endb r narrow ra rb = record {
   same = same-width a b k l (r .alike .0 .code) (r .alike .0 .p1);
   left = λ h lo hi. ra .rise h (omega (arith, r .left .high));
   right = λ h lo hi. rb .rise h (omega (arith, r .right .high));
-  left-small = omega (arith, part-small a k i n (r .left));
-  right-small = omega (arith, part-small b l j n (r .right));
+  left-small = omega (arith, part-small (r .left));
+  right-small = omega (arith, part-small (r .right));
 }
 
 module _ (s : List ℕ) (k i n : ℕ) (r : Part s k i n) (text : layoutOf (codeOf s k) ≡ VariableSize) where

@@ -16,7 +16,7 @@ const VIEW_SIZE: usize = 16;
 const INLINE_LENGTH: usize = 12;
 
 // Where the bytes of the view at a place stand: in the view, or in one of the node's data buffers.
-fn data_place(s: &[u8], node: u32, view: usize, len: usize) -> usize
+pub fn data_place(s: &[u8], node: u32, view: usize, len: usize) -> usize
     requires { ⌜ Viewed (now s) node view len ⌝ }
     ensures { λ r. ⌜ Shown (now (s .entry)) node view len r ⌝ }
 {

@@ -7,6 +7,7 @@ pub mod data;
 pub mod lengths;
 pub mod null;
 pub mod primitive;
+pub mod runs;
 pub mod types;
 pub mod utils;
 pub mod variable_size;

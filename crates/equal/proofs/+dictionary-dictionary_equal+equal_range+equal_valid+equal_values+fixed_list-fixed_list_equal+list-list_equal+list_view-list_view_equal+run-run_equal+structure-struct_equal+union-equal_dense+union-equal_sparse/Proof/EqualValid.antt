@@ -10,7 +10,7 @@ use Rattle.image.specs.declared.type_code.Layout.the-variants.{FixedWidth}
 use Rattle.image.specs.Row.{rowAt}
 use Rattle.image.proofs.CodeTable.{at-layouts}
 use Rattle.equal.proofs.Rows.{RowsLeft, rows-none, rows-done}
-use Rattle.equal.proofs.Values.{layout-is}
+use Rattle.values.proofs.Nodes.{layout-is}
 use Rattle.equal.proofs.Nulls.{sides-left, sides-right, null-more, valid-requires, valid-more, valid-fail, fixed-requires, fixed-answer}
 use Rattle.equal.proofs.+dictionary-dictionary_equal+equal_range+equal_valid+equal_values+fixed_list-fixed_list_equal+list-list_equal+list_view-list_view_equal+run-run_equal+structure-struct_equal+union-equal_dense+union-equal_sparse.Proof.Measures.{equal-valid-at, equal-values-below}
 use Rattle.equal.proofs.equal_valid.Reads as equal-valid

@@ -6,7 +6,8 @@ use Prim.Native.Nat.{ℕ}
 use borrow.Author.Needs.{needs}
 use Rattle.image.specs.declared.type_code.Layout.the-variants.{Null, Boolean, FixedWidth, VariableSize, View, List as Lists, ListView, FixedList, Struct, DenseUnion, SparseUnion, Dictionary, Runs}
 use Rattle.image.proofs.CodeTable.{at-layouts}
-use Rattle.equal.proofs.Values.{layout-is, parts-shallow, by-layout, null-values}
+use Rattle.values.proofs.Nodes.{layout-is}
+use Rattle.equal.proofs.Values.{parts-shallow, by-layout, null-values}
 use Rattle.equal.proofs.+dictionary-dictionary_equal+equal_range+equal_valid+equal_values+fixed_list-fixed_list_equal+list-list_equal+list_view-list_view_equal+run-run_equal+structure-struct_equal+union-equal_dense+union-equal_sparse.Proof.Measures.{equal-values-at, dictionary·dictionary-equal-below, fixed-list·fixed-list-equal-below, list-view·list-view-equal-below, list·list-equal-below, run·run-equal-below, structure·struct-equal-below, union·equal-dense-below, union·equal-sparse-below}
 use Rattle.equal.proofs.dictionary.dictionary_equal.Reads as dictionary·dictionary-equal
 use Rattle.equal.proofs.equal_values.Reads as equal-values

@@ -5,7 +5,7 @@ use Prim.Native.Nat.{ℕ}
 use native.Mathlib.Omega.{arith}
 use borrow.Author.Tests.{not-true, not-false}
 use borrow.Author.Needs.{needs}
-use Rattle.equal.proofs.Child.{part-small}
+use Rattle.values.proofs.Nodes.{part-small}
 use Rattle.equal.proofs.Lists.{spans-differ, list-spans, list-narrow-left, list-narrow-right, list-order, list-requires, list-answer}
 use Rattle.equal.proofs.+dictionary-dictionary_equal+equal_range+equal_valid+equal_values+fixed_list-fixed_list_equal+list-list_equal+list_view-list_view_equal+run-run_equal+structure-struct_equal+union-equal_dense+union-equal_sparse.Proof.Measures.{list·list-equal-at, equal-range-below}
 use Rattle.equal.proofs.equal_range.Reads as equal-range

@@ -6,9 +6,10 @@ use native.Mathlib.Omega.{arith}
 use borrow.Author.Tests.{not-true, not-false}
 use borrow.Author.Needs.{needs}
 use Rattle.image.specs.Row.{listViewRow, rowAt}
-use Rattle.equal.proofs.Child.{part-small, part-nth, element-read, widths-same}
+use Rattle.values.proofs.Nodes.{element-read, size-read, part-small, part-nth}
+use Rattle.equal.proofs.Child.{widths-same}
 use Rattle.equal.proofs.Rows.{RowsLeft, rows-none, rows-more, rows-fail, rows-done}
-use Rattle.equal.proofs.ListViews.{size-read, view-narrow, view-differs, view-requires, view-answer}
+use Rattle.equal.proofs.ListViews.{view-narrow, view-differs, view-requires, view-answer}
 use Rattle.equal.proofs.+dictionary-dictionary_equal+equal_range+equal_valid+equal_values+fixed_list-fixed_list_equal+list-list_equal+list_view-list_view_equal+run-run_equal+structure-struct_equal+union-equal_dense+union-equal_sparse.Proof.Measures.{list-view·list-view-equal-at, equal-range-below}
 use Rattle.equal.proofs.equal_range.Reads as equal-range
 use Rattle.equal.proofs.list_view.list_view_equal.Reads as list-view·list-view-equal

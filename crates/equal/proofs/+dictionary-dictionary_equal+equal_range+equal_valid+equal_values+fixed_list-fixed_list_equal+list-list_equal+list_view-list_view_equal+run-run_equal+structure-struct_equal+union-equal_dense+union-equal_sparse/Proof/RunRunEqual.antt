@@ -8,15 +8,17 @@ use native.Mathlib.Omega.{arith}
 use borrow.Author.Tests.{not-true, not-false}
 use borrow.Author.Needs.{needs}
 use Rattle.image.specs.Row.{runRow, rowAt}
-use Rattle.equal.proofs.Runs.{Stepping, stepping-start, run-first, run-small, run-above, step-requires, step-fail, step-some, step-within, step-again}
-use Rattle.equal.proofs.Child.{part-small, layout-right}
+use Rattle.equal.proofs.Runs.{Stepping, stepping-start, run-small, run-above, step-requires, step-fail, step-some, step-within, step-again}
+use Rattle.equal.proofs.Child.{layout-right}
+use Rattle.values.proofs.Nodes.{part-small}
+use Rattle.values.proofs.RunEnds.{run-first}
 use Rattle.equal.proofs.Rows.{RowsLeft, rows-none, rows-done}
 use Rattle.equal.proofs.+dictionary-dictionary_equal+equal_range+equal_valid+equal_values+fixed_list-fixed_list_equal+list-list_equal+list_view-list_view_equal+run-run_equal+structure-struct_equal+union-equal_dense+union-equal_sparse.Proof.Measures.{run·run-equal-at, equal-range-below}
 use Rattle.equal.proofs.equal_range.Reads as equal-range
 use Rattle.equal.proofs.run.run_equal.Reads as run·run-equal
 use Rattle.equal.proofs.run.least.Reads as least-reads
-use Rattle.equal.proofs.run.run_end.Reads as run-end-reads
-use Rattle.equal.proofs.run.run_of.Reads as run-of-reads
+use Rattle.values.proofs.runs.run_end.Reads as run-end-reads
+use Rattle.values.proofs.runs.run_of.Reads as run-of-reads
 use Rattle.image.proofs.record.first_child.Reads as first-child-reads
 use Rattle.equal.proofs.+dictionary-dictionary_equal+equal_range+equal_valid+equal_values+fixed_list-fixed_list_equal+list-list_equal+list_view-list_view_equal+run-run_equal+structure-struct_equal+union-equal_dense+union-equal_sparse.Lts-run-run_equal as lts
 

@@ -6,9 +6,9 @@ use native.Mathlib.Omega.{arith}
 use borrow.Author.Tests.{not-true, not-false}
 use borrow.Author.Needs.{needs}
 use Rattle.image.specs.Row.{denseRow, rowAt}
-use Rattle.equal.proofs.Child.{part-small, part-nth}
+use Rattle.values.proofs.Nodes.{id-read, dense-offset-read, part-small, part-nth}
 use Rattle.equal.proofs.Rows.{RowsLeft, rows-none, rows-more, rows-fail, rows-done}
-use Rattle.equal.proofs.Unions.{id-read, dense-offset-read, dense-differs, dense-low, dense-requires, dense-answer}
+use Rattle.equal.proofs.Unions.{dense-differs, dense-low, dense-requires, dense-answer}
 use Rattle.equal.proofs.+dictionary-dictionary_equal+equal_range+equal_valid+equal_values+fixed_list-fixed_list_equal+list-list_equal+list_view-list_view_equal+run-run_equal+structure-struct_equal+union-equal_dense+union-equal_sparse.Proof.Measures.{union·equal-dense-at, equal-range-below}
 use Rattle.equal.proofs.equal_range.Reads as equal-range
 use Rattle.equal.proofs.union.equal_dense.Reads as union·equal-dense

@@ -1,6 +1,6 @@
 -- The answer is whether the rows of views are equal in turn.
 -- The loop keeps that the rows from row k on decide; a turn compares lengths, then bytes.
-use Rattle.values.proofs.Fixed.{part-small}
+use Rattle.values.proofs.Nodes.{part-small}
 use mathlib.Core.Path.{_∙_}
 use borrow.Author.Tests.{not-true, not-false}
 use Rattle.image.specs.Row.{viewRow}
@@ -28,22 +28,22 @@ loop-holds : tie.Need-loop-holds Inv-loop μ-loop
 loop-holds c = left-none _ _ _ _
 
 add-x : tie.Need-add-x Inv-loop μ-loop
-add-x c = omega (arith, c .loop-test .taken, part-small _ _ _ _ (c .before .before .before .before .before .before .pre .0 .left), c .before .before .before .buffer-place .ensures .small)
+add-x c = omega (arith, c .loop-test .taken, part-small (c .before .before .before .before .before .before .pre .0 .left), c .before .before .before .buffer-place .ensures .small)
 
 mul-x : tie.Need-mul-x Inv-loop μ-loop
-mul-x c = omega (arith, c .loop-test .taken, part-small _ _ _ _ (c .before .before .before .before .before .before .pre .0 .left), c .before .before .before .buffer-place .ensures .small)
+mul-x c = omega (arith, c .loop-test .taken, part-small (c .before .before .before .before .before .before .pre .0 .left), c .before .before .before .buffer-place .ensures .small)
 
 add-x-2 : tie.Need-add-x-2 Inv-loop μ-loop
-add-x-2 c = omega (arith, c .loop-test .taken, part-small _ _ _ _ (c .before .before .before .before .before .before .pre .0 .left), c .before .before .before .buffer-place .ensures .small)
+add-x-2 c = omega (arith, c .loop-test .taken, part-small (c .before .before .before .before .before .before .pre .0 .left), c .before .before .before .buffer-place .ensures .small)
 
 add-y : tie.Need-add-y Inv-loop μ-loop
-add-y c = omega (arith, c .loop-test .taken, part-small _ _ _ _ (c .before .before .before .before .before .before .pre .0 .right), c .before .before .buffer-place2 .ensures .small)
+add-y c = omega (arith, c .loop-test .taken, part-small (c .before .before .before .before .before .before .pre .0 .right), c .before .before .buffer-place2 .ensures .small)
 
 mul-y : tie.Need-mul-y Inv-loop μ-loop
-mul-y c = omega (arith, c .loop-test .taken, part-small _ _ _ _ (c .before .before .before .before .before .before .pre .0 .right), c .before .before .buffer-place2 .ensures .small)
+mul-y c = omega (arith, c .loop-test .taken, part-small (c .before .before .before .before .before .before .pre .0 .right), c .before .before .buffer-place2 .ensures .small)
 
 add-y-2 : tie.Need-add-y-2 Inv-loop μ-loop
-add-y-2 c = omega (arith, c .loop-test .taken, part-small _ _ _ _ (c .before .before .before .before .before .before .pre .0 .right), c .before .before .buffer-place2 .ensures .small)
+add-y-2 c = omega (arith, c .loop-test .taken, part-small (c .before .before .before .before .before .before .pre .0 .right), c .before .before .buffer-place2 .ensures .small)
 
 le32-requires : tie.Need-le32-requires Inv-loop μ-loop
 le32-requires c κs = search needs

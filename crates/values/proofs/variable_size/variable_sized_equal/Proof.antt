@@ -1,6 +1,6 @@
 -- `values::variable_size::variable_sized_equal` meets its contract.
 -- The definition is rewritten by what the calls ensure and by the tests on the way.
-use Rattle.values.proofs.Fixed.{part-small}
+use Rattle.values.proofs.Nodes.{part-small}
 use Rattle.values.proofs.Texts.{spans-of, text-narrow, text-rises, text-inside, text-up, texts-differ, texts-block, right-end}
 use Rattle.image.specs.TypeCode.{layoutOf}
 use borrow.Author.Tests.{not-true, not-false}
@@ -17,16 +17,16 @@ returns : tie.Need-returns
 returns c = texts-differ _ _ _ _ _ _ _ (sym (c .before .lengths-equal .ensures) ∙ not-true _ (c .if1 .taken))
 
 offset-at-requires : tie.Need-offset-at-requires
-offset-at-requires c κs = (text-narrow _ _ _ _ (c .before .before .before .before .pre .0 .left) (c .before .before .before .before .pre .1), omega (arith, part-small _ _ _ _ (c .before .before .before .before .pre .0 .left)))
+offset-at-requires c κs = (text-narrow _ _ _ _ (c .before .before .before .before .pre .0 .left) (c .before .before .before .before .pre .1), omega (arith, part-small (c .before .before .before .before .pre .0 .left)))
 
 add-offset-at : tie.Need-add-offset-at
-add-offset-at c = omega (arith, part-small _ _ _ _ (c .before .before .before .before .before .pre .0 .left))
+add-offset-at c = omega (arith, part-small (c .before .before .before .before .before .pre .0 .left))
 
 offset-at-requires-2 : tie.Need-offset-at-requires-2
-offset-at-requires-2 c κs = (text-narrow _ _ _ _ (c .before .before .before .before .before .pre .0 .left) (c .before .before .before .before .before .pre .1), omega (arith, part-small _ _ _ _ (c .before .before .before .before .before .pre .0 .left)))
+offset-at-requires-2 c κs = (text-narrow _ _ _ _ (c .before .before .before .before .before .pre .0 .left) (c .before .before .before .before .before .pre .1), omega (arith, part-small (c .before .before .before .before .before .pre .0 .left)))
 
 offset-at-requires-3 : tie.Need-offset-at-requires-3
-offset-at-requires-3 c κs = (text-narrow _ _ _ _ (c .before .before .before .before .before .before .pre .0 .right) (sym (ap layoutOf (c .before .before .before .before .before .before .pre .0 .alike .0 .code)) ∙ c .before .before .before .before .before .before .pre .1), omega (arith, part-small _ _ _ _ (c .before .before .before .before .before .before .pre .0 .right)))
+offset-at-requires-3 c κs = (text-narrow _ _ _ _ (c .before .before .before .before .before .before .pre .0 .right) (sym (ap layoutOf (c .before .before .before .before .before .before .pre .0 .alike .0 .code)) ∙ c .before .before .before .before .before .before .pre .1), omega (arith, part-small (c .before .before .before .before .before .before .pre .0 .right)))
 
 buffer-place-requires : tie.Need-buffer-place-requires
 buffer-place-requires c κs = search needs

@@ -2,9 +2,9 @@
 -- Each part of the place is what its reader says.
 use native.Mathlib.Omega.{arith}
 use borrow.Author.Needs.{needs}
-use Rattle.equal.proofs.Runs.{run-end-nth, run-end-read}
-use Rattle.equal.proofs.run.run_end.Statement.{statement}
-use Rattle.equal.proofs.run.run_end.Tie as tie
+use Rattle.values.proofs.RunEnds.{run-end-nth, run-end-read}
+use Rattle.values.proofs.runs.run_end.Statement.{statement}
+use Rattle.values.proofs.runs.run_end.Tie as tie
 
 first-child-requires : tie.Need-first-child-requires
 first-child-requires c κs = search needs

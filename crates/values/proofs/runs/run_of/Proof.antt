@@ -4,9 +4,9 @@ use mathlib.Core.Path.{refl}
 use Prim.Native.Nat.{_-_}
 use native.Mathlib.Omega.{arith}
 use borrow.Author.Needs.{needs}
-use Rattle.equal.proofs.Runs.{Bisect, bisect-start, bisect-small, bisect-up, bisect-down, bisect-done}
-use Rattle.equal.proofs.run.run_of.Statement.{statement}
-use Rattle.equal.proofs.run.run_of.Tie as tie
+use Rattle.values.proofs.RunEnds.{Bisect, bisect-start, bisect-small, bisect-up, bisect-down, bisect-done}
+use Rattle.values.proofs.runs.run_of.Statement.{statement}
+use Rattle.values.proofs.runs.run_of.Tie as tie
 
 abbrev Inv-loop : tie.InvT-loop
 Inv-loop s node j low₀ high₀ low high = Bisect s node j low high

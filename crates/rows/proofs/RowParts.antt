@@ -1,0 +1,119 @@
+-- The bytes of a row: one byte if it is null, else those of what it is made of; and what reading it asks for.
+-- A row is null or a value, by its bit; a value's bytes are known whatever the child rows are, so at those of the next depth.
+use mathlib.Core.Path.{_≡_, refl, ap, _∙_}
+use mathlib.Core.Bool.{true, false}
+use mathlib.Core.List.{List, [], _∷_, _++_, append-assoc}
+use Prim.Native.Nat.{ℕ, zero, suc, _+_, _-_, _≤_, _<_}
+use native.Mathlib.Omega.{arith}
+use lib.ListN.{length, length-append}
+use Rattle.image.specs.Bytes.{numberBytes, bytesAt}
+use Rattle.image.specs.Record.{codeOf, offsetOf, elementsOf}
+use Rattle.image.specs.TypeCode.{layoutOf}
+use Rattle.image.specs.Element.{valid}
+use Rattle.image.specs.Reads.{Read}
+use Rattle.image.specs.Row.{Row, null, fixed, sized, joined as joinedRow, counted, tagged, range, valueAt, rowAt}
+use Rattle.image.specs.RowBytes.{rowBytes, rowsBytes}
+use Rattle.values.specs.Parts.{Side, Part}
+use Rattle.values.proofs.Fixed.{side-small}
+use Rattle.rows.specs.declared.value.Value.{Value}
+use Rattle.rows.specs.Output.{ownBytes}
+use Rattle.rows.specs.Value.{valueBytes, Made}
+use Rattle.rows.proofs.Joined.{joined, parts-joined, number-length, bytes-length}
+
+-- every row has a byte
+pub row-some : (r : Row) → 0 < length (rowBytes r)
+unfolding rowBytes
+row-some null = omega arith
+row-some (fixed b) = omega arith
+row-some (sized b) = omega arith
+row-some (joinedRow rs) = omega arith
+row-some (counted rs) = omega arith
+row-some (tagged id r) = omega arith
+
+-- a null, with no depth left or by its bit
+pub row-ended : (depth : ℕ) (s : List ℕ) (k i : ℕ) → depth ≡ 0 → rowBytes (rowAt depth s k i) ≡ 0 ∷ []
+unfolding rowAt rowBytes
+row-ended depth s k i e = rw e
+
+pub row-null : (depth : ℕ) (s : List ℕ) (k i : ℕ) → valid s k i ≡ false → rowBytes (rowAt depth s k i) ≡ 0 ∷ []
+unfolding rowAt rowBytes
+row-null zero s k i e = refl
+row-null (suc depth) s k i e = rw e
+
+-- the rows of child c of a value, of which `sub c i` is row i
+abbrev pub childBytes : (ℕ → ℕ → Row) → Value → ℕ → List ℕ
+childBytes sub v c = rowsBytes (range (sub c) (v .start) (v .count))
+
+-- the bytes of all its child rows, one depth less
+abbrev pub childrenBytes : ℕ → List ℕ → Value → List ℕ
+childrenBytes depth s v = joined (childBytes (rowAt (depth - 1) s) v) (v .child) (v .parts)
+
+-- A row is a value that is made so: its own bytes, then its child rows.
+pub record ValueOf (depth : ℕ) (s : List ℕ) (k i : ℕ) (v : Value) : Type 0 where
+  pub bytes : rowBytes (rowAt depth s k i) ≡ ownBytes s v ++ childrenBytes depth s v
+  pub narrow : v .width ≤ 4
+  pub inside : v .place + v .size ≤ length s
+  pub parts : (c : ℕ) → c < v .parts → Side s (v .child + c) (v .start) (v .count)
+  pub few : v .child + v .parts ≤ 65536
+
+made-bytes : (sub : ℕ → ℕ → Row) (s : List ℕ) (v : Value) → valueBytes sub s v ≡ ownBytes s v ++ joined (childBytes sub v) (v .child) (v .parts)
+unfolding valueBytes ownBytes
+made-bytes sub s v =
+    rw (
+      parts-joined sub (v .child) (v .parts) (v .start) (v .count),
+      append-assoc (numberBytes (v .width) (v .head)) (bytesAt s (v .place) (v .size)) (joined (childBytes sub v) (v .child) (v .parts)),
+    )
+
+value-row : (depth : ℕ) (s : List ℕ) (k i : ℕ) → (depth ≡ 0 → ⊥) → valid s k i ≡ true → rowAt depth s k i ≡ valueAt (layoutOf (codeOf s k)) (rowAt (depth - 1) s) s k (offsetOf s k + i)
+unfolding rowAt
+value-row zero s k i deep is = absurd (deep refl)
+value-row (suc depth) s k i deep is =
+    let less : suc depth - 1 ≡ depth = omega arith in
+    rw (is, less)
+
+-- rows of a node
+module _ {s : List ℕ} {k i n : ℕ} (r : Side s k i n) where
+  pub side-few : offsetOf s k + i + n ≤ 1073741824
+  side-few = side-small s k i n r
+
+  pub side-row : {h : ℕ} → h < n → Side s k (i + h) 1
+  side-row {h} lt = record { image = r .image; node = r .node; rows = omega (arith, r .rows) }
+
+-- a row of a node that is not null
+module _ {s : List ℕ} {k i : ℕ} (r : Side s k i 1) (is : valid s k i ≡ true) {o : ℕ} (at : Read (offsetOf s k) 32 o) where
+  pub part-row : Part s k (o + i) 1
+  unfolding elementsOf
+  part-row = record {
+    image = r .image;
+    node = r .node;
+    low = omega (arith, at .value);
+    high = omega (arith, at .value, r .rows);
+    not-null = λ x low high.
+        let e : i ≡ x = omega (arith, at .value) in
+        rw e at is;
+  }
+
+  pub value-of : {depth : ℕ} {v : Value} → (depth ≡ 0 → ⊥) → Made s (λ sub. valueAt (layoutOf (codeOf s k)) sub s k (o + i)) v → ValueOf depth s k i v
+  value-of {depth} {v} deep m = record {
+    bytes =
+        ap rowBytes (value-row depth s k i deep is)
+        ∙ rw (at .value) at (m .bytes (rowAt (depth - 1) s))
+        ∙ made-bytes (rowAt (depth - 1) s) s v;
+    narrow = m .narrow;
+    inside = m .inside;
+    parts = m .parts;
+    few = m .few;
+  }
+
+-- how many bytes a value takes
+pub own-length : (s : List ℕ) (v : Value) → length (ownBytes s v) ≡ 1 + v .width + v .size
+unfolding ownBytes
+own-length s v =
+    let number : List ℕ = numberBytes (v .width) (v .head) in
+    let bytes : List ℕ = bytesAt s (v .place) (v .size) in
+    omega (arith, length-append number bytes, number-length (v .width) (v .head), bytes-length s (v .place) (v .size))
+
+pub value-length : {depth : ℕ} {s : List ℕ} {k i : ℕ} {v : Value} → ValueOf depth s k i v → length (rowBytes (rowAt depth s k i)) ≡ 1 + v .width + v .size + length (childrenBytes depth s v)
+value-length {depth} {s} {k} {i} {v} r =
+    let all : length (rowBytes (rowAt depth s k i)) ≡ length (ownBytes s v ++ childrenBytes depth s v) = ap length (r .bytes) in
+    omega (arith, all, length-append (ownBytes s v) (childrenBytes depth s v), own-length s v)

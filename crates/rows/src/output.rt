@@ -1,0 +1,41 @@
+// Bytes put into a lent buffer.
+ghost use mathlib.Core.Path.{_≡_};
+ghost use mathlib.Core.List.{[], _∷_};
+ghost use Prim.Native.Nat.{_+_, _≤_, _<_};
+ghost use lib.ListN.{length};
+ghost use Rattle.image.specs.Bytes.{numberBytes, bytesAt};
+ghost use Rattle.rows.specs.Output.{over};
+
+// One byte.
+pub fn put_byte(out: &mut [u8], at: usize, x: u8)
+    requires { ⌜ at < length (now out) ⌝ }
+    ensures { λ _. ⌜ now (out .exit) ≡ over (now (out .entry)) at (x ∷ []) ⌝ }
+{
+    out[at] = x;
+}
+
+// The w bytes of a number, the lowest first.
+pub fn put_number(out: &mut [u8], at: usize, x: usize, w: usize)
+    requires { ⌜ at + w ≤ length (now out) ⌝ }
+    ensures { λ _. ⌜ now (out .exit) ≡ over (now (out .entry)) at (numberBytes w x) ⌝ }
+{
+    let mut rest = x;
+    let mut k: usize = 0;
+    while k < w {
+        out[at + k] = (rest % 256) as u8;
+        rest = rest / 256;
+        k += 1;
+    }
+}
+
+// n bytes of an image from a place on.
+pub fn put_bytes(out: &mut [u8], at: usize, s: &[u8], place: usize, n: usize)
+    requires { ⌜ (at + n ≤ length (now out)) × (place + n ≤ length (now s)) ⌝ }
+    ensures { λ _. ⌜ now (out .exit) ≡ over (now (out .entry)) at (bytesAt (now (s .entry)) place n) ⌝ }
+{
+    let mut k: usize = 0;
+    while k < n {
+        out[at + k] = s[place + k];
+        k += 1;
+    }
+}

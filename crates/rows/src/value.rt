@@ -1,0 +1,224 @@
+// What a row that is not null is made of: a number in front, bytes of the image, and ranges of child rows. Whatever goes
+// row by row over a table goes by this.
+use image::bytes::bit;
+use image::bytes::byte;
+use image::bytes::le32;
+use image::bytes::nth;
+use image::bytes::wide;
+use image::element::child_with_id;
+use image::element::element_width;
+use image::element::offset_at;
+use image::record::buffer_place;
+use image::record::child_count;
+use image::record::code;
+use image::record::first_child;
+use image::record::p1;
+use image::type_code::Layout;
+use image::type_code::TypeCode;
+use values::byte_view::data_place;
+use values::runs::run_of;
+ghost use mathlib.Core.Path.{_≡_};
+ghost use Rattle.image.specs.declared.type_code.Layout.the-variants.{Boolean, FixedWidth, VariableSize, View, List as Lists, ListView, FixedList, Struct, DenseUnion, SparseUnion, Dictionary, Runs};
+ghost use Rattle.image.specs.Record.{codeOf};
+ghost use Rattle.image.specs.TypeCode.{layoutOf};
+ghost use Rattle.image.specs.Row.{booleanRow, fixedRow, variableRow, viewRow, listRow, listViewRow, fixedListRow, structRow, denseRow, sparseRow, dictionaryRow, runRow, valueAt};
+ghost use Rattle.values.specs.Parts.{Part};
+ghost use Rattle.rows.specs.Value.{leafValue, nestedValue, Made};
+
+pub struct Value {
+    // the number in front: a text's length, a list's count, a union's id, a Boolean's bit
+    pub head: usize,
+    // how many bytes the number takes: 0, 1 or 4
+    pub width: usize,
+    // bytes of the image
+    pub place: usize,
+    pub size: usize,
+    // child rows: of each of `parts` children from `child` on, `count` rows from `start` on
+    pub child: u32,
+    pub parts: u32,
+    pub start: usize,
+    pub count: usize,
+}
+
+// How many bytes a length or a count takes, and how many an id or a Boolean.
+const COUNT_WIDTH: usize = 4;
+
+const ID_WIDTH: usize = 1;
+
+const VIEW_SIZE: usize = 16;
+
+// A value without child rows.
+fn leaf(head: usize, width: usize, place: usize, size: usize) -> Value
+    ensures { λ r. ⌜ r ≡ leafValue head width place size ⌝ }
+{
+    Value {
+        head: head,
+        width: width,
+        place: place,
+        size: size,
+        child: 0,
+        parts: 0,
+        start: 0,
+        count: 0,
+    }
+}
+
+// A value of child rows.
+fn nested(head: usize, width: usize, child: u32, parts: u32, start: usize, count: usize) -> Value
+    ensures { λ r. ⌜ r ≡ nestedValue head width child parts start count ⌝ }
+{
+    Value {
+        head: head,
+        width: width,
+        place: 0,
+        size: 0,
+        child: child,
+        parts: parts,
+        start: start,
+        count: count,
+    }
+}
+
+// "Boolean: 00 or 01."
+fn boolean_value(s: &[u8], node: u32, j: usize) -> Value
+    requires { ⌜ Part (now s) node j 1 ⌝ }
+    requires { ⌜ layoutOf (codeOf (now s) node) ≡ Boolean ⌝ }
+    ensures { λ r. ⌜ Made (now (s .entry)) (λ sub. booleanRow (now (s .entry)) node j) r ⌝ }
+{
+    if bit(s, buffer_place(s, node, 0), j) {
+        return leaf(1, ID_WIDTH, 0, 0);
+    }
+    leaf(0, ID_WIDTH, 0, 0)
+}
+
+// "Fixed widths: the bytes."
+fn fixed_value(s: &[u8], node: u32, j: usize) -> Value
+    requires { ⌜ Part (now s) node j 1 ⌝ }
+    requires { ⌜ layoutOf (codeOf (now s) node) ≡ FixedWidth ⌝ }
+    ensures { λ r. ⌜ Made (now (s .entry)) (λ sub. fixedRow (now (s .entry)) node j) r ⌝ }
+{
+    let width = element_width(s, node);
+    leaf(0, 0, buffer_place(s, node, 0) + j * width, width)
+}
+
+// "Text, binary ..: u32 length, bytes."
+fn variable_value(s: &[u8], node: u32, j: usize) -> Value
+    requires { ⌜ Part (now s) node j 1 ⌝ }
+    requires { ⌜ layoutOf (codeOf (now s) node) ≡ VariableSize ⌝ }
+    ensures { λ r. ⌜ Made (now (s .entry)) (λ sub. variableRow (now (s .entry)) node j) r ⌝ }
+{
+    let from = offset_at(s, node, j);
+    let size = offset_at(s, node, j + 1) - from;
+    leaf(size, COUNT_WIDTH, buffer_place(s, node, 1) + from, size)
+}
+
+// "views: u32 length, bytes."
+fn view_value(s: &[u8], node: u32, j: usize) -> Value
+    requires { ⌜ Part (now s) node j 1 ⌝ }
+    requires { ⌜ layoutOf (codeOf (now s) node) ≡ View ⌝ }
+    ensures { λ r. ⌜ Made (now (s .entry)) (λ sub. viewRow (now (s .entry)) node j) r ⌝ }
+{
+    let view = buffer_place(s, node, 0) + j * VIEW_SIZE;
+    let size = le32(s, view);
+    leaf(size, COUNT_WIDTH, data_place(s, node, view, size), size)
+}
+
+// "List kinds and Map: u32 count, child rows."
+fn list_value(s: &[u8], node: u32, j: usize) -> Value
+    requires { ⌜ Part (now s) node j 1 ⌝ }
+    requires { ⌜ layoutOf (codeOf (now s) node) ≡ Lists ⌝ }
+    ensures { λ r. ⌜ Made (now (s .entry)) (λ sub. listRow sub (now (s .entry)) node j) r ⌝ }
+{
+    let from = offset_at(s, node, j);
+    let count = offset_at(s, node, j + 1) - from;
+    nested(count, COUNT_WIDTH, first_child(s, node), 1, from, count)
+}
+
+fn list_view_value(s: &[u8], node: u32, j: usize) -> Value
+    requires { ⌜ Part (now s) node j 1 ⌝ }
+    requires { ⌜ layoutOf (codeOf (now s) node) ≡ ListView ⌝ }
+    ensures { λ r. ⌜ Made (now (s .entry)) (λ sub. listViewRow sub (now (s .entry)) node j) r ⌝ }
+{
+    let from = offset_at(s, node, j);
+    let count = nth(s, buffer_place(s, node, 1), element_width(s, node), j);
+    nested(count, COUNT_WIDTH, first_child(s, node), 1, from, count)
+}
+
+// "Fixed lists ..: child rows."
+fn fixed_list_value(s: &[u8], node: u32, j: usize) -> Value
+    requires { ⌜ Part (now s) node j 1 ⌝ }
+    requires { ⌜ layoutOf (codeOf (now s) node) ≡ FixedList ⌝ }
+    ensures { λ r. ⌜ Made (now (s .entry)) (λ sub. fixedListRow sub (now (s .entry)) node j) r ⌝ }
+{
+    let count = p1(s, node);
+    nested(0, 0, first_child(s, node), 1, j * count, count)
+}
+
+// "Structs: child rows."
+fn struct_value(s: &[u8], node: u32, j: usize) -> Value
+    requires { ⌜ Part (now s) node j 1 ⌝ }
+    requires { ⌜ layoutOf (codeOf (now s) node) ≡ Struct ⌝ }
+    ensures { λ r. ⌜ Made (now (s .entry)) (λ sub. structRow sub (now (s .entry)) node j) r ⌝ }
+{
+    nested(0, 0, first_child(s, node), child_count(s, node), j, 1)
+}
+
+// "Union: the id byte, child row."
+fn dense_value(s: &[u8], node: u32, j: usize) -> Value
+    requires { ⌜ Part (now s) node j 1 ⌝ }
+    requires { ⌜ layoutOf (codeOf (now s) node) ≡ DenseUnion ⌝ }
+    ensures { λ r. ⌜ Made (now (s .entry)) (λ sub. denseRow sub (now (s .entry)) node j) r ⌝ }
+{
+    let id = byte(s, buffer_place(s, node, 0) + j);
+    let row = nth(s, buffer_place(s, node, 1), 4, j);
+    nested(wide(id), ID_WIDTH, child_with_id(s, node, id), 1, row, 1)
+}
+
+fn sparse_value(s: &[u8], node: u32, j: usize) -> Value
+    requires { ⌜ Part (now s) node j 1 ⌝ }
+    requires { ⌜ layoutOf (codeOf (now s) node) ≡ SparseUnion ⌝ }
+    ensures { λ r. ⌜ Made (now (s .entry)) (λ sub. sparseRow sub (now (s .entry)) node j) r ⌝ }
+{
+    let id = byte(s, buffer_place(s, node, 0) + j);
+    nested(wide(id), ID_WIDTH, child_with_id(s, node, id), 1, j, 1)
+}
+
+// "Dictionary, runs: the row of the values child."
+fn dictionary_value(s: &[u8], node: u32, j: usize) -> Value
+    requires { ⌜ Part (now s) node j 1 ⌝ }
+    requires { ⌜ layoutOf (codeOf (now s) node) ≡ Dictionary ⌝ }
+    ensures { λ r. ⌜ Made (now (s .entry)) (λ sub. dictionaryRow sub (now (s .entry)) node j) r ⌝ }
+{
+    nested(0, 0, first_child(s, node), 1, offset_at(s, node, j), 1)
+}
+
+fn run_value(s: &[u8], node: u32, j: usize) -> Value
+    requires { ⌜ Part (now s) node j 1 ⌝ }
+    requires { ⌜ layoutOf (codeOf (now s) node) ≡ Runs ⌝ }
+    ensures { λ r. ⌜ Made (now (s .entry)) (λ sub. runRow sub (now (s .entry)) node j) r ⌝ }
+{
+    nested(0, 0, first_child(s, node) + 1, 1, run_of(s, node, j), 1)
+}
+
+// What the value at element j of a node is made of.
+pub fn value_at(s: &[u8], node: u32, j: usize) -> Value
+    requires { ⌜ Part (now s) node j 1 ⌝ }
+    ensures { λ r. ⌜ Made (now (s .entry)) (λ sub. valueAt (layoutOf (codeOf (now (s .entry)) node)) sub (now (s .entry)) node j) r ⌝ }
+{
+    let layout = TypeCode::layout(code(s, node));
+    match layout {
+        Layout::Null => leaf(0, 0, 0, 0),
+        Layout::Boolean => boolean_value(s, node, j),
+        Layout::FixedWidth => fixed_value(s, node, j),
+        Layout::VariableSize => variable_value(s, node, j),
+        Layout::View => view_value(s, node, j),
+        Layout::List => list_value(s, node, j),
+        Layout::ListView => list_view_value(s, node, j),
+        Layout::FixedList => fixed_list_value(s, node, j),
+        Layout::Struct => struct_value(s, node, j),
+        Layout::DenseUnion => dense_value(s, node, j),
+        Layout::SparseUnion => sparse_value(s, node, j),
+        Layout::Dictionary => dictionary_value(s, node, j),
+        Layout::Runs => run_value(s, node, j),
+    }
+}

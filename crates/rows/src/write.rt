@@ -1,0 +1,84 @@
+// The bytes of rows, put into a lent buffer that has room for them.
+use crate::output::put_byte;
+use crate::output::put_bytes;
+use crate::output::put_number;
+use crate::value::Value;
+use crate::value::value_at;
+use image::element::is_valid;
+use image::record::offset;
+ghost use mathlib.Core.Path.{_≡_};
+ghost use Prim.Native.Nat.{_+_, _≤_};
+ghost use lib.ListN.{length};
+ghost use Rattle.image.specs.Row.{rowAt, range};
+ghost use Rattle.image.specs.RowBytes.{rowBytes, rowsBytes};
+ghost use Rattle.values.specs.Parts.{Side};
+ghost use Rattle.rows.specs.Output.{ownBytes, over, Fits};
+
+// The first byte of a row.
+const NULL: u8 = 0;
+
+const NOT_NULL: u8 = 1;
+
+// What a value has before its child rows, put at a place of the buffer; the answer is the place after it.
+fn put_own(s: &[u8], v: Value, out: &mut [u8], at: usize) -> usize
+    requires { ⌜ v .place + v .size ≤ length (now s) ⌝ }
+    requires { ⌜ Fits (now out) at (ownBytes (now s) v) ⌝ }
+    ensures { λ r. ⌜ r ≡ at + length (ownBytes (now (s .entry)) v) ⌝ }
+    ensures { λ _. ⌜ now (out .exit) ≡ over (now (out .entry)) at (ownBytes (now (s .entry)) v) ⌝ }
+{
+    let number = at + 1;
+    let bytes = number + v.width;
+    put_byte(out, at, NOT_NULL);
+    put_number(out, number, v.head, v.width);
+    put_bytes(out, bytes, s, v.place, v.size);
+    bytes + v.size
+}
+
+// Row i of a node, put at a place of the buffer; the answer is the place after it.
+fn write_row(s: &[u8], node: u32, i: usize, depth: usize, out: &mut [u8], at: usize) -> usize
+    requires { ⌜ Side (now s) node i 1 ⌝ }
+    requires { ⌜ Fits (now out) at (rowBytes (rowAt depth (now s) node i)) ⌝ }
+    ensures { λ r. ⌜ r ≡ at + length (rowBytes (rowAt depth (now (s .entry)) node i)) ⌝ }
+    ensures { λ _. ⌜ now (out .exit) ≡ over (now (out .entry)) at (rowBytes (rowAt depth (now (s .entry)) node i)) ⌝ }
+{
+    if depth == 0 {
+        put_byte(out, at, NULL);
+        return at + 1;
+    }
+    if !is_valid(s, node, i) {
+        put_byte(out, at, NULL);
+        return at + 1;
+    }
+    let v = value_at(s, node, offset(s, node) + i);
+    let mut next = put_own(s, v, out, at);
+    let mut c: u32 = 0;
+    while c < v.parts {
+        next = write_rows(s, v.child + c, v.start, v.count, depth - 1, out, next);
+        c += 1;
+    }
+    next
+}
+
+// n rows of a node from row i on, put at a place of the buffer; the answer is the place after them.
+pub fn write_rows(
+    s: &[u8],
+    node: u32,
+    i: usize,
+    n: usize,
+    depth: usize,
+    out: &mut [u8],
+    at: usize,
+) -> usize
+    requires { ⌜ Side (now s) node i n ⌝ }
+    requires { ⌜ Fits (now out) at (rowsBytes (range (rowAt depth (now s) node) i n)) ⌝ }
+    ensures { λ r. ⌜ r ≡ at + length (rowsBytes (range (rowAt depth (now (s .entry)) node) i n)) ⌝ }
+    ensures { λ _. ⌜ now (out .exit) ≡ over (now (out .entry)) at (rowsBytes (range (rowAt depth (now (s .entry)) node) i n)) ⌝ }
+{
+    let mut next = at;
+    let mut k: usize = 0;
+    while k < n {
+        next = write_row(s, node, i + k, depth, out, next);
+        k += 1;
+    }
+    next
+}
