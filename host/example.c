@@ -1,0 +1,83 @@
+/* A small host: two tables of three Int8 rows, the middle one null, with other bytes under the null. It checks both,
+ * compares them, writes their rows, and prints what it found. */
+#include "editions.h"
+
+#include <stdio.h>
+#include <string.h>
+
+/* An image under construction. */
+struct image {
+    uint8_t bytes[256];
+    size_t length;
+};
+
+static void put(struct image *image, size_t width, uint32_t value)
+{
+    for (size_t k = 0; k < width; k++)
+        image->bytes[image->length++] = (uint8_t)(value >> 8 * k);
+}
+
+/* One node of Int8 with a bitmap: the header, the node's record, its buffer's entry, the values, the bitmap. */
+static void int8_table(struct image *image, const uint8_t *values, uint32_t count, uint8_t bitmap)
+{
+    const uint32_t data = 4 + 44 + 8;
+    image->length = 0;
+    put(image, 2, 1);            /* nodes */
+    put(image, 2, 1);            /* buffers */
+    put(image, 1, 2);            /* type code: Int8 */
+    put(image, 1, 2);            /* flags: has a bitmap */
+    put(image, 1, 0);            /* type id */
+    put(image, 1, 0);            /* name length */
+    put(image, 4, 0);            /* p1 */
+    put(image, 4, 0);            /* p2 */
+    put(image, 4, count);        /* length */
+    put(image, 4, 0);            /* offset */
+    put(image, 4, 0);            /* name place */
+    put(image, 4, data + count); /* bitmap place */
+    put(image, 4, 1);            /* bitmap length */
+    put(image, 4, 0);            /* first bit */
+    put(image, 2, 1);            /* first child */
+    put(image, 2, 0);            /* children */
+    put(image, 2, 0);            /* first buffer */
+    put(image, 2, 1);            /* buffers */
+    put(image, 4, data);         /* the buffer: place and length */
+    put(image, 4, count);
+    for (uint32_t k = 0; k < count; k++)
+        put(image, 1, values[k]);
+    put(image, 1, bitmap);
+}
+
+static void report(const char *what, uint64_t answer)
+{
+    if (editions_refusal(answer) != 0)
+        printf("%s: refused by %u, side %u, node %u\n", what, editions_refusal(answer), editions_side(answer),
+               editions_node(answer));
+    else
+        printf("%s: %lu\n", what, (unsigned long)editions_value(answer));
+}
+
+int main(void)
+{
+    const uint8_t january[] = {5, 0, 7};
+    const uint8_t june[] = {5, 9, 7};
+    struct image left, right;
+    uint8_t rows[16];
+
+    int8_table(&left, january, 3, 5);
+    int8_table(&right, june, 3, 5);
+    report("check the left table", editions_check(left.bytes, left.length));
+    report("check the right table", editions_check(right.bytes, right.length));
+    report("compare", editions_compare(left.bytes, left.length, right.bytes, right.length));
+
+    uint64_t answer = editions_write(left.bytes, left.length, 0, 3, rows, sizeof rows);
+    report("write the left rows", answer);
+    printf("the bytes:");
+    for (uint32_t k = 0; k < editions_value(answer); k++)
+        printf(" %02x", rows[k]);
+    printf("\n");
+
+    report("write into four bytes", editions_write(left.bytes, left.length, 0, 3, rows, 4));
+    left.bytes[4] = 44; /* no such type code */
+    report("compare a damaged table", editions_compare(left.bytes, left.length, right.bytes, right.length));
+    return 0;
+}

@@ -1,0 +1,385 @@
+"""Random columns: a type, rows of that type, and the many layouts that an image may give them.
+
+A `Type` is what two images must have in common to be comparable; a row is a plain value (None, bytes, lists, pairs); `lay`
+gives rows a layout: offsets, first bits, garbage under nulls, keys and runs and views in any order. Two layouts of the same
+rows make equal tables.
+"""
+
+from model import BOOLEAN, DENSE_UNION, DICTIONARY, FIXED_SIZE_BINARY, FIXED_SIZE_LIST, LIST_VIEWS, LISTS, MAP, NULL, OFFSET_WIDTH
+from model import P1, RUN_END_ENCODED, SPARSE_UNION, STRUCT, TEXTS, UNIONS, VIEWS, WIDTHS
+
+LEAVES = [NULL, BOOLEAN, *range(2, 33)]
+NESTED = [*range(33, 44)]
+
+
+def number(width, value):
+    return (value % 256**width).to_bytes(width, "little")
+
+
+class Type:
+    def __init__(self, code, p1=0, p2=0, children=(), name=b"", nullable=False, id=0):
+        self.code, self.p1, self.p2, self.children = code, p1, p2, list(children)
+        self.name, self.nullable, self.id = name, nullable, id
+
+    def copy(self, **changes):
+        made = Type(self.code, self.p1, self.p2, [child.copy() for child in self.children], self.name, self.nullable, self.id)
+        for field, value in changes.items():
+            setattr(made, field, value)
+        return made
+
+    def width(self):
+        if self.code == FIXED_SIZE_BINARY:
+            return self.p1
+        return WIDTHS[self.p1 if self.code == DICTIONARY else self.code]
+
+    def all(self):
+        return [self] + [below for child in self.children for below in child.all()]
+
+
+def random_type(rng, depth=3, code=None):
+    """A type of at most that depth."""
+    if code is None:
+        code = rng.choice(LEAVES if depth <= 1 else LEAVES + NESTED * 3)
+    made = Type(code, name=rng.randbytes(rng.choice([0, 0, 1, 3, 64])), nullable=rng.random() < 0.5)
+    low, high = P1.get(code, (0, 0))
+    made.p1 = rng.choice([0, 1, 2, 3, 7, 16]) if code in (FIXED_SIZE_BINARY,) else rng.choice([0, 1, 2, 3]) if code == FIXED_SIZE_LIST else rng.randint(low, high)
+    if 15 <= code <= 18:
+        made.p2 = rng.choice([-128, -1, 0, 5, 127])
+    if code == MAP:
+        made.children = [Type(STRUCT, name=b"entries", children=[random_type(rng, max(depth - 2, 1)) for _ in range(2)])]
+    elif code == RUN_END_ENCODED:
+        made.children = [Type(rng.choice([3, 4, 5]), name=b"run_ends"), random_type(rng, depth - 1)]
+    elif code in UNIONS:
+        ids = sorted(rng.sample(range(128), rng.randint(1, 3)))
+        made.children = [random_type(rng, depth - 1).copy(id=id) for id in ids]
+    elif code == STRUCT:
+        made.children = [random_type(rng, depth - 1) for _ in range(rng.randint(0, 3))]
+    elif code in NESTED:
+        made.children = [random_type(rng, depth - 1)]
+    return made
+
+
+def has_bitmap(type):
+    return type.code not in (NULL, DENSE_UNION, SPARSE_UNION, RUN_END_ENCODED)
+
+
+def random_row(rng, type, nulls=0.2):
+    """None is a null row. A Dictionary's and a run's value is a list of one row, since that row may be null by itself."""
+    code = type.code
+    if has_bitmap(type) and rng.random() < nulls:
+        return None
+    if code == NULL:
+        return b""
+    if code == BOOLEAN:
+        return rng.randint(0, 1)
+    if code in TEXTS or code in VIEWS:
+        return rng.choice([b"", b"a", b"b", b"ab", rng.randbytes(rng.choice([1, 4, 12, 13, 20]))])
+    if code in LISTS or code in LIST_VIEWS:
+        return [random_row(rng, type.children[0], nulls) for _ in range(rng.choice([0, 1, 2, 3]))]
+    if code == FIXED_SIZE_LIST:
+        return [random_row(rng, type.children[0], nulls) for _ in range(type.p1)]
+    if code == STRUCT:
+        return [random_row(rng, child, nulls) for child in type.children]
+    if code in UNIONS:
+        child = rng.choice(type.children)
+        return (child.id, random_row(rng, child, nulls))
+    if code in (DICTIONARY, RUN_END_ENCODED):
+        return [random_row(rng, type.children[-1], nulls)]
+    few = [bytes(type.width()), b"\x01".ljust(type.width(), b"\x00")[: type.width()], b"\x80".rjust(type.width(), b"\x00")[: type.width()]]
+    return rng.choice(few + [rng.randbytes(type.width())])
+
+
+class Node:
+    """A laid out column: what its record says, and the bytes of its buffers."""
+
+    def __init__(self, type, length, offset, buffers, children=(), bitmap=None, first_bit=0):
+        self.type, self.length, self.offset = type, length, offset
+        self.buffers, self.children = list(buffers), list(children)
+        self.bitmap, self.first_bit = bitmap, first_bit
+
+
+def lay(rng, type, rows, plain=False):
+    """A node whose rows are these. `plain` leaves out what only makes a layout unusual."""
+    code = type.code
+    odd = 0.0 if plain else 0.5
+    offset = rng.choice([1, 2, 5, 9]) if rng.random() < odd else 0
+    before = [random_row(rng, type, 0.0) for _ in range(offset)]
+    # what stands under a null: any value of the type
+    stored = before + [random_row(rng, type, 0.0) if row is None else row for row in rows]
+    e = len(stored)
+    bitmap, first_bit = None, 0
+    if has_bitmap(type) and (None in rows or rng.random() < odd):
+        first_bit = rng.choice([0, 1, 3, 8, 13]) if rng.random() < odd else 0
+        bits = [rng.randint(0, 1) for _ in range(first_bit)] + [int(row is not None) for row in rows]
+        bits += [rng.randint(0, 1) for _ in range(-len(bits) % 8)]
+        bitmap = bytes(sum(bits[k + b] << b for b in range(8)) for k in range(0, len(bits), 8))
+        bitmap += rng.randbytes(1) if rng.random() < odd else b""
+    node = Node(type, len(rows), offset, [], (), bitmap, first_bit)
+    judged = [offset <= j and rows[j - offset] is not None for j in range(e)]
+    spare = rng.randint(1, 3) if rng.random() < odd else 0
+    if code == NULL:
+        pass
+    elif code == BOOLEAN:
+        bits = stored + [rng.randint(0, 1) for _ in range(-e % 8)]
+        node.buffers = [bytes(sum(bits[k + b] << b for b in range(8)) for k in range(0, e, 8))]
+    elif code in TEXTS:
+        start = rng.randbytes(rng.choice([0, 3])) if rng.random() < odd else b""
+        ends, data = [len(start)], start
+        for text in stored:
+            data += text
+            ends.append(len(data))
+        node.buffers = [b"".join(number(OFFSET_WIDTH[code], end) for end in ends), data + rng.randbytes(spare)]
+    elif code in VIEWS:
+        node.buffers = lay_views(rng, stored, judged, odd)
+    elif code in LISTS:
+        child = type.children[0]
+        below = [random_row(rng, child) for _ in range(rng.choice([0, 2]))] if rng.random() < odd else []
+        ends = [len(below)]
+        for row in stored:
+            below += row
+            ends.append(len(below))
+        below += [random_row(rng, child) for _ in range(spare)]
+        node.buffers = [b"".join(number(OFFSET_WIDTH[code], end) for end in ends)]
+        node.children = [lay(rng, child, below, plain)]
+    elif code in LIST_VIEWS:
+        node.buffers, node.children = lay_list_views(rng, type, stored, odd, plain)
+    elif code == FIXED_SIZE_LIST:
+        child = type.children[0]
+        below = [row for rows in stored for row in rows] + [random_row(rng, child) for _ in range(spare)]
+        node.children = [lay(rng, child, below, plain)]
+    elif code == STRUCT:
+        for k, child in enumerate(type.children):
+            below = [row[k] for row in stored] + [random_row(rng, child) for _ in range(rng.randint(0, spare))]
+            node.children.append(lay(rng, child, below, plain))
+    elif code in UNIONS:
+        node.buffers, node.children = lay_union(rng, type, stored, offset, spare, plain)
+    elif code == DICTIONARY:
+        node.buffers, node.children = lay_dictionary(rng, type, stored, judged, odd, plain)
+    elif code == RUN_END_ENCODED:
+        node.children = lay_runs(rng, type, stored, odd, plain)
+    else:
+        node.buffers = [b"".join(stored) + rng.randbytes(spare)]
+    return node
+
+
+def lay_views(rng, stored, judged, odd):
+    data = [bytearray(rng.randbytes(rng.randint(0, 3))) for _ in range(rng.randint(1, 3))]
+    views = b""
+    for text, counts in zip(stored, judged):
+        if not counts and rng.random() < odd:
+            views += rng.randbytes(16)
+        elif len(text) <= 12:
+            views += number(4, len(text)) + text.ljust(12, b"\x00")
+        else:
+            k = rng.randrange(len(data))
+            views += number(4, len(text)) + text[:4] + number(4, k) + number(4, len(data[k]))
+            data[k] += text + rng.randbytes(rng.choice([0, 2]))
+    return [views] + [bytes(part) for part in data]
+
+
+def lay_list_views(rng, type, stored, odd, plain):
+    child, width = type.children[0], OFFSET_WIDTH[type.code]
+    below, places = [], [None] * len(stored)
+    order = list(range(len(stored)))
+    if rng.random() < odd:
+        rng.shuffle(order)
+    for j in order:
+        row = stored[j]
+        shared = [at for at in range(len(below) + 1 - len(row)) if below[at : at + len(row)] == row]
+        if shared and rng.random() < odd:
+            places[j] = rng.choice(shared)
+        else:
+            if rng.random() < odd:
+                below.append(random_row(rng, child))
+            places[j] = len(below)
+            below += row
+    buffers = [b"".join(number(width, x) for x in column) for column in (places, [len(row) for row in stored])]
+    return buffers, [lay(rng, child, below, plain)]
+
+
+def lay_union(rng, type, stored, offset, spare, plain):
+    ids = [id for id, _ in stored]
+    if type.code == SPARSE_UNION:
+        children = []
+        for child in type.children:
+            below = [row if id == child.id else random_row(rng, child) for id, row in stored]
+            children.append(lay(rng, child, below + [random_row(rng, child) for _ in range(rng.randint(0, spare))], plain))
+        buffers = []
+    else:
+        below = {child.id: [random_row(rng, child) for _ in range(rng.randint(0, spare))] for child in type.children}
+        offsets = [0] * len(stored)
+        order = list(range(len(stored)))
+        if not plain:
+            rng.shuffle(order)
+        for j in order:
+            id, row = stored[j]
+            offsets[j] = len(below[id])
+            below[id].append(row)
+        children = [lay(rng, child, below[child.id], plain) for child in type.children]
+        buffers = [b"".join(number(4, x) for x in offsets)]
+    if not plain:
+        # ids before the offset are not judged
+        ids[:offset] = [rng.randrange(256) for _ in range(offset)]
+    return [bytes(ids)] + buffers, children
+
+
+def lay_dictionary(rng, type, stored, judged, odd, plain):
+    child, width = type.children[0], type.width()
+    values = [random_row(rng, child) for _ in range(rng.randint(0, 2))] if rng.random() < odd else []
+    for row in stored:
+        if row[0] not in values or rng.random() < odd / 2:
+            values.append(row[0])
+    if rng.random() < odd:
+        rng.shuffle(values)
+    values = values[:127]
+    keys = []
+    for row, counts in zip(stored, judged):
+        if counts:
+            keys.append(rng.choice([k for k, value in enumerate(values) if value == row[0]]))
+        else:
+            keys.append(rng.randrange(256) if rng.random() < odd else 0)
+    return [b"".join(number(width, key) for key in keys)], [lay(rng, child, values, plain)]
+
+
+def lay_runs(rng, type, stored, odd, plain):
+    ends_type, child = type.children
+    ends, values = [], []
+    for j, row in enumerate(stored):
+        if values and values[-1] == row[0] and not rng.random() < odd / 2:
+            ends[-1] = j + 1
+        else:
+            ends.append(j + 1)
+            values.append(row[0])
+    if ends and rng.random() < odd:
+        ends[-1] += rng.randint(0, 4)
+    if rng.random() < odd / 2:
+        ends.append((ends[-1] if ends else 0) + 2)
+        values.append(random_row(rng, child))
+    width = WIDTHS[ends_type.code]
+    offset = rng.choice([1, 3]) if rng.random() < odd else 0
+    stored_ends = rng.randbytes(offset * width) + b"".join(number(width, end) for end in ends)
+    return [Node(ends_type, len(ends), offset, [stored_ends]), lay(rng, child, values, plain)]
+
+
+def image(rng, root, plain=False):
+    """The bytes of a laid out column: nodes depth by depth, then the buffers, bitmaps and names, in any order and apart."""
+    nodes, level = [], [root]
+    while level:
+        nodes += level
+        level = [child for node in level for child in node.children]
+    count = sum(len(node.buffers) for node in nodes)
+    place = 4 + 44 * len(nodes) + 8 * count
+    parts = [part for node in nodes for part in (*node.buffers, node.bitmap, node.type.name) if part]
+    if not plain:
+        rng.shuffle(parts)
+    places, data = {}, b""
+    for part in parts:
+        if part in places and not plain:
+            continue
+        data += rng.randbytes(rng.choice([0, 0, 0, 1, 5])) if not plain else b""
+        places[part] = place + len(data)
+        data += part
+    garbage = (lambda width: 0) if plain else (lambda width: rng.randrange(256**width))
+    records, entries, child, buffer = b"", b"", 1, 0
+    for node in nodes:
+        t = node.type
+        records += bytes([t.code, t.nullable + 2 * (node.bitmap is not None), t.id, len(t.name)])
+        records += number(4, t.p1) + number(4, t.p2) + number(4, node.length) + number(4, node.offset)
+        records += number(4, places[t.name] if t.name else garbage(4))
+        if node.bitmap is None:
+            records += number(4, garbage(4)) + number(4, garbage(4)) + number(4, garbage(4))
+        else:
+            records += number(4, places.get(node.bitmap, 0)) + number(4, len(node.bitmap)) + number(4, node.first_bit)
+        records += number(2, child) + number(2, len(node.children)) + number(2, buffer) + number(2, len(node.buffers))
+        for stored in node.buffers:
+            entries += number(4, places.get(stored, 0)) + number(4, len(stored))
+        child += len(node.children)
+        buffer += len(node.buffers)
+    return number(2, len(nodes)) + number(2, count) + records + entries + data
+
+
+def change_row(rng, type, row):
+    """A row that differs in one place, at any depth; the row itself where it has no other value."""
+    code = type.code
+    if row is None or (has_bitmap(type) and rng.random() < 0.15):
+        return random_row(rng, type, 0.0) if row is None else None
+    if code == NULL:
+        return row
+    if code == BOOLEAN:
+        return 1 - row
+    if code in TEXTS or code in VIEWS:
+        if row and rng.random() < 0.7:
+            k = rng.randrange(len(row))
+            return row[:k] + bytes([row[k] ^ (1 << rng.randrange(8))]) + row[k + 1 :]
+        return row + b"x"
+    if code in LISTS or code in LIST_VIEWS:
+        if row and rng.random() < 0.7:
+            k = rng.randrange(len(row))
+            return row[:k] + [change_row(rng, type.children[0], row[k])] + row[k + 1 :]
+        return row + [random_row(rng, type.children[0])]
+    if code in UNIONS:
+        child = next(child for child in type.children if child.id == row[0])
+        if rng.random() < 0.3:
+            other = rng.choice(type.children)
+            return (other.id, random_row(rng, other))
+        return (row[0], change_row(rng, child, row[1]))
+    if code in (FIXED_SIZE_LIST, STRUCT, DICTIONARY, RUN_END_ENCODED):
+        if not row:
+            return row
+        k = rng.randrange(len(row))
+        child = type.children[k] if code == STRUCT else type.children[-1]
+        return row[:k] + [change_row(rng, child, row[k])] + row[k + 1 :]
+    if not row:
+        return row
+    k = rng.randrange(len(row))
+    return row[:k] + bytes([row[k] ^ (1 << rng.randrange(8))]) + row[k + 1 :]
+
+
+def change_type(rng, type):
+    """A type that differs in one of code, p1, p2, a name, a nullable flag or an id, somewhere in the tree."""
+    made = type.copy()
+    node = rng.choice(made.all())
+    what = rng.randrange(5)
+    if what == 0:
+        node.name = rng.randbytes(rng.choice([0, 1, 2]))
+    elif what == 1:
+        node.nullable = not node.nullable
+    elif what == 2 and node.code in P1 and node.code not in (FIXED_SIZE_BINARY, FIXED_SIZE_LIST, DICTIONARY):
+        node.p1 = rng.randint(*P1[node.code])
+    elif what == 3 and 15 <= node.code <= 18:
+        node.p2 = rng.choice([-128, 0, 1, 127])
+    elif node.code in UNIONS and node.children:
+        child = node.children[-1]
+        if child.id < 127:
+            child.id += 1
+    return made
+
+
+def relabelled(old, new, row):
+    """A row of a type as one of another that differs in labels alone: ids change with their children's."""
+    if row is None:
+        return None
+    if old.code in UNIONS:
+        k = next(k for k, child in enumerate(old.children) if child.id == row[0])
+        return (new.children[k].id, relabelled(old.children[k], new.children[k], row[1]))
+    if old.code in NESTED:
+        children = range(len(row)) if old.code == STRUCT else [-1] * len(row)
+        return [relabelled(old.children[k], new.children[k], below) for k, below in zip(children, row)]
+    return row
+
+
+def damage(rng, data):
+    """An image with a few bytes changed, cut or added."""
+    data = bytearray(data)
+    for _ in range(rng.choice([1, 1, 1, 2, 4])):
+        what = rng.randrange(6)
+        if what == 0 and len(data) > 1:
+            del data[rng.randrange(len(data)) :]
+        elif what == 1:
+            data += rng.randbytes(rng.randint(1, 8))
+        elif data:
+            # half of the changes hit the header and the tables
+            end = min(len(data), 4 + 44 * data[0] + 8) if rng.random() < 0.6 else len(data)
+            at = rng.randrange(end)
+            data[at] = rng.choice([0, 1, 255, data[at] ^ (1 << rng.randrange(8)), rng.randrange(256)])
+    return bytes(data)

@@ -1,0 +1,222 @@
+/* The three calls as a host uses them: on the model's cases, at the largest size, on empty slices, and with output buffers
+ * that fit exactly or are one byte short. */
+#define _DEFAULT_SOURCE
+#include "../../host/editions.h"
+#include "memory.h"
+
+#define LONGEST_IMAGE 16777216u
+#define MOST 65536u
+
+static unsigned long failures, calls;
+
+static void expect(const char *what, unsigned long which, uint64_t got, uint64_t wanted)
+{
+    calls++;
+    if (got != wanted) {
+        failures++;
+        if (failures < 20)
+            printf("%s %lu: %016llx and not %016llx\n", what, which, (unsigned long long)got, (unsigned long long)wanted);
+    }
+}
+
+static uint64_t answer_of(unsigned refusal, unsigned side, unsigned node, uint64_t value)
+{
+    return refusal | (uint64_t)side << 8 | (uint64_t)node << 16 | value << 32;
+}
+
+/* Reading the file of cases. */
+struct cursor {
+    const uint8_t *at;
+};
+
+static uint64_t number(struct cursor *c, unsigned width)
+{
+    uint64_t value = 0;
+    for (unsigned k = 0; k < width; k++)
+        value |= (uint64_t)*c->at++ << 8 * k;
+    return value;
+}
+
+static const uint8_t *bytes(struct cursor *c, size_t *length)
+{
+    *length = number(c, 4);
+    const uint8_t *start = c->at;
+    c->at += *length;
+    return start;
+}
+
+static void model_cases(const char *path)
+{
+    FILE *file = fopen(path, "rb");
+    if (!file || fseek(file, 0, SEEK_END) != 0) {
+        perror(path);
+        exit(1);
+    }
+    long size = ftell(file);
+    rewind(file);
+    uint8_t *whole = malloc((size_t)size);
+    if (!whole || fread(whole, 1, (size_t)size, file) != (size_t)size) {
+        perror(path);
+        exit(1);
+    }
+    fclose(file);
+    struct lent first = lent_pages(MOST), second = lent_pages(MOST), third = lent_pages(MOST);
+    struct cursor c = {whole};
+    for (unsigned long which = 0; c.at < whole + size; which++) {
+        int at_end = which % 4 != 0;
+        unsigned call = (unsigned)number(&c, 1);
+        size_t left_length, right_length, written_length;
+        const uint8_t *stored = bytes(&c, &left_length);
+        if (left_length > MOST) {
+            printf("case %lu: an image of %zu bytes\n", which, left_length);
+            exit(1);
+        }
+        uint8_t *left = lent_bytes(first, left_length, at_end);
+        memcpy(left, stored, left_length);
+        if (call == 0) {
+            uint64_t wanted = number(&c, 8);
+            expect("check", which, editions_check(left, left_length), wanted);
+        } else if (call == 1) {
+            stored = bytes(&c, &right_length);
+            uint8_t *right = lent_bytes(second, right_length, at_end);
+            memcpy(right, stored, right_length);
+            uint64_t wanted = number(&c, 8);
+            expect("compare", which, editions_compare(left, left_length, right, right_length), wanted);
+            if (memcmp(right, stored, right_length) != 0)
+                expect("the right image after", which, 1, 0);
+        } else {
+            uint32_t start = (uint32_t)number(&c, 4), count = (uint32_t)number(&c, 4), room = (uint32_t)number(&c, 4);
+            uint64_t wanted = number(&c, 8);
+            stored = bytes(&c, &written_length);
+            uint8_t *out = lent_bytes(third, room, at_end);
+            for (uint32_t k = 0; k < room; k++)
+                out[k] = (uint8_t)(k * 7 + 3);
+            expect("write", which, editions_write(left, left_length, start, count, out, room), wanted);
+            if (memcmp(out, stored, written_length) != 0)
+                expect("the written bytes", which, 1, 0);
+            for (size_t k = written_length; k < room; k++)
+                if (out[k] != (uint8_t)(k * 7 + 3)) {
+                    expect("the bytes past them", which, k, 0);
+                    break;
+                }
+        }
+    }
+    free(whole);
+}
+
+/* A table of so many Int8 rows that its image has that many bytes. */
+static void int8_image(uint8_t *image, uint32_t length)
+{
+    uint32_t rows = length - 56;
+    memset(image, 0, 56);
+    image[0] = 1;
+    image[2] = 1;
+    image[4] = 2;
+    image[40] = 1;
+    image[46] = 1;
+    for (unsigned k = 0; k < 4; k++) {
+        image[16 + k] = (uint8_t)(rows >> 8 * k);
+        image[48 + k] = (uint8_t)(56u >> 8 * k);
+        image[52 + k] = (uint8_t)(rows >> 8 * k);
+    }
+    for (uint32_t k = 0; k < rows; k++)
+        image[56 + k] = (uint8_t)(k * 31 + (k >> 8));
+}
+
+static void largest(void)
+{
+    struct lent first = lent_pages(LONGEST_IMAGE + 1), second = lent_pages(LONGEST_IMAGE + 1);
+    uint8_t *left = lent_bytes(first, LONGEST_IMAGE, 1), *right = lent_bytes(second, LONGEST_IMAGE, 1);
+    int8_image(left, LONGEST_IMAGE);
+    int8_image(right, LONGEST_IMAGE);
+    expect("largest check", 0, editions_check(left, LONGEST_IMAGE), 0);
+    expect("largest compare", 0, editions_compare(left, LONGEST_IMAGE, right, LONGEST_IMAGE), answer_of(0, 0, 0, 1));
+    right[LONGEST_IMAGE - 1] ^= 1;
+    expect("largest compare", 1, editions_compare(left, LONGEST_IMAGE, right, LONGEST_IMAGE), 0);
+    uint32_t rows = LONGEST_IMAGE - 56;
+    uint8_t *out = malloc((size_t)2 * rows);
+    if (!out)
+        exit(1);
+    expect("largest write", 0, editions_write(left, LONGEST_IMAGE, 0, rows, out, (size_t)2 * rows), answer_of(0, 0, 0, 2u * rows));
+    unsigned long wrong = 0;
+    for (uint32_t k = 0; k < rows; k++)
+        wrong += out[2 * (size_t)k] != 1 || out[2 * (size_t)k + 1] != left[56 + k];
+    expect("largest write's bytes", 0, wrong, 0);
+    out[0] = 77;
+    expect("largest write, one short", 0, editions_write(left, LONGEST_IMAGE, 0, rows, out, (size_t)2 * rows - 1),
+           answer_of(EDITIONS_OUTPUT, 0, 0, 0));
+    expect("largest write, one short, unchanged", 0, out[0], 77);
+    expect("past the rows", 0, editions_write(left, LONGEST_IMAGE, rows, 1, out, 2), answer_of(EDITIONS_RANGE, 0, 0, 0));
+    expect("past the rows", 1, editions_write(left, LONGEST_IMAGE, UINT32_MAX, UINT32_MAX, out, 2), answer_of(EDITIONS_RANGE, 0, 0, 0));
+    free(out);
+    /* one byte more than the most */
+    left = lent_bytes(first, LONGEST_IMAGE + 1, 1);
+    int8_image(left, LONGEST_IMAGE);
+    expect("too large", 0, editions_check(left, LONGEST_IMAGE + 1), answer_of(EDITIONS_SHORT, 0, 0, 0));
+    expect("too large", 1, editions_compare(right, LONGEST_IMAGE, left, LONGEST_IMAGE + 1), answer_of(EDITIONS_SHORT, EDITIONS_RIGHT, 0, 0));
+}
+
+static void empty(void)
+{
+    uint8_t image[57], out[4] = {1, 2, 3, 4};
+    int8_image(image, sizeof image);
+    expect("no image", 0, editions_check(NULL, 0), answer_of(EDITIONS_SHORT, 0, 0, 0));
+    expect("no image", 1, editions_check(image, 0), answer_of(EDITIONS_SHORT, 0, 0, 0));
+    expect("no image", 2, editions_compare(NULL, 0, NULL, 0), answer_of(EDITIONS_SHORT, 0, 0, 0));
+    expect("no right image", 0, editions_compare(image, sizeof image, NULL, 0), answer_of(EDITIONS_SHORT, EDITIONS_RIGHT, 0, 0));
+    expect("no image to write", 0, editions_write(NULL, 0, 0, 0, NULL, 0), answer_of(EDITIONS_SHORT, 0, 0, 0));
+    expect("no rows into nothing", 0, editions_write(image, sizeof image, 0, 0, NULL, 0), 0);
+    expect("a row into nothing", 0, editions_write(image, sizeof image, 0, 1, NULL, 0), answer_of(EDITIONS_OUTPUT, 0, 0, 0));
+    expect("a row into one byte", 0, editions_write(image, sizeof image, 0, 1, out, 1), answer_of(EDITIONS_OUTPUT, 0, 0, 0));
+    expect("unchanged", 0, out[0], 1);
+    expect("a row into two bytes", 0, editions_write(image, sizeof image, 0, 1, out, 2), answer_of(0, 0, 0, 2));
+    expect("the byte past it", 0, out[2], 3);
+}
+
+/* 15 list views, each of which covers all 64 rows of its child: a row takes 64 ^ 15 bytes, and 43 is said at once. */
+static void nested_views(void)
+{
+    enum { DEPTH = 15, ROWS = 64 };
+    static uint8_t image[4 + 44 * (DEPTH + 1) + 8 * (2 * DEPTH + 1) + 8 * ROWS + ROWS];
+    uint32_t views = 4 + 44 * (DEPTH + 1) + 8 * (2 * DEPTH + 1);
+    image[0] = DEPTH + 1;
+    image[2] = 2 * DEPTH + 1;
+    for (unsigned node = 0; node <= DEPTH; node++) {
+        uint8_t *record = image + 4 + 44 * node;
+        record[0] = node < DEPTH ? 35 : 2;
+        record[12] = ROWS;
+        record[36] = (uint8_t)(node + 1);
+        record[38] = node < DEPTH;
+        record[40] = (uint8_t)(2 * node);
+        record[42] = node < DEPTH ? 2 : 1;
+        uint8_t *entry = image + 4 + 44 * (DEPTH + 1) + 8 * 2 * node;
+        for (unsigned k = 0; k < 4; k++) {
+            entry[k] = (uint8_t)((views + (node < DEPTH ? 0 : 8 * ROWS)) >> 8 * k);
+            entry[4 + k] = (uint8_t)((node < DEPTH ? 4u * ROWS : ROWS) >> 8 * k);
+            if (node < DEPTH) {
+                entry[8 + k] = (uint8_t)((views + 4 * ROWS) >> 8 * k);
+                entry[12 + k] = (uint8_t)((4u * ROWS) >> 8 * k);
+            }
+        }
+    }
+    for (unsigned row = 0; row < ROWS; row++)
+        image[views + 4 * ROWS + 4 * row] = ROWS;
+    static uint8_t out[100000];
+    expect("nested views", 0, editions_check(image, sizeof image), 0);
+    expect("nested views", 1, editions_write(image, sizeof image, 0, 1, out, sizeof out), answer_of(EDITIONS_OUTPUT, 0, 0, 0));
+    expect("nested views", 2, editions_write(image, sizeof image, 0, ROWS, out, sizeof out), answer_of(EDITIONS_OUTPUT, 0, 0, 0));
+}
+
+int main(int argc, char **argv)
+{
+    if (argc != 2) {
+        fprintf(stderr, "usage: test CASES\n");
+        return 2;
+    }
+    model_cases(argv[1]);
+    largest();
+    empty();
+    nested_views();
+    printf("host: %lu calls, %lu failed\n", calls, failures);
+    return failures != 0;
+}

@@ -1,0 +1,565 @@
+"""A model of document 01, written from its sentences: the image check, types, rows, row bytes, and the session.
+
+It is the second opinion that the proved program is held to, so it shares nothing with it: numbers are Python's, rows are
+tuples, and speed is no aim.
+"""
+
+NULL, BOOLEAN = 0, 1
+UTF8, BINARY, LARGE_UTF8, LARGE_BINARY, FIXED_SIZE_BINARY, UTF8_VIEW, BINARY_VIEW = 26, 27, 28, 29, 30, 31, 32
+LIST, LARGE_LIST, LIST_VIEW, LARGE_LIST_VIEW, FIXED_SIZE_LIST, STRUCT = 33, 34, 35, 36, 37, 38
+DENSE_UNION, SPARSE_UNION, DICTIONARY, MAP, RUN_END_ENCODED = 39, 40, 41, 42, 43
+
+LONGEST_IMAGE = 16_777_216
+MOST_ELEMENTS = 1_073_741_824
+
+# the widths of the codes 2 to 25
+WIDTHS = {2: 1, 3: 2, 4: 4, 5: 8, 6: 1, 7: 2, 8: 4, 9: 8, 10: 2, 11: 4, 12: 8, 13: 4, 14: 8}
+WIDTHS |= {15: 4, 16: 8, 17: 16, 18: 32, 19: 4, 20: 8, 21: 8, 22: 8, 23: 4, 24: 8, 25: 16}
+
+# (lowest, highest) p1 of the codes that use it
+P1 = {15: (1, 9), 16: (1, 18), 17: (1, 38), 18: (1, 76), 19: (0, 1), 20: (2, 3), 21: (0, 3), 22: (0, 3)}
+P1 |= {30: (0, 16_777_216), 37: (0, 16_777_216), 41: (2, 9), 42: (0, 1)}
+
+OFFSET_WIDTH = {UTF8: 4, BINARY: 4, LARGE_UTF8: 8, LARGE_BINARY: 8, LIST: 4, LARGE_LIST: 8, LIST_VIEW: 4, LARGE_LIST_VIEW: 8, MAP: 4}
+
+TEXTS = {UTF8, BINARY, LARGE_UTF8, LARGE_BINARY}
+VIEWS = {UTF8_VIEW, BINARY_VIEW}
+LISTS = {LIST, LARGE_LIST, MAP}
+LIST_VIEWS = {LIST_VIEW, LARGE_LIST_VIEW}
+UNIONS = {DENSE_UNION, SPARSE_UNION}
+
+
+def unsigned(data, at, width):
+    return int.from_bytes(data[at : at + width], "little")
+
+
+def signed(data, at, width):
+    return int.from_bytes(data[at : at + width], "little", signed=True)
+
+
+class Fault(Exception):
+    """A refusal: its number, and the node of 10 to 18."""
+
+    def __init__(self, number, node=0):
+        super().__init__(number, node)
+        self.number, self.node = number, node
+
+
+class Record:
+    def __init__(self, data, node):
+        at = 4 + 44 * node
+        self.code, self.flags, self.id, self.name_length = data[at : at + 4]
+        self.p1, self.p2 = signed(data, at + 4, 4), signed(data, at + 8, 4)
+        self.length, self.offset, self.name_place = (unsigned(data, at + k, 4) for k in (12, 16, 20))
+        self.bitmap_place, self.bitmap_length, self.first_bit = (unsigned(data, at + k, 4) for k in (24, 28, 32))
+        self.first_child, self.child_count, self.first_buffer, self.buffer_count = (unsigned(data, at + k, 2) for k in (36, 38, 40, 42))
+        self.elements = self.length + self.offset
+        self.has_bitmap = self.flags & 2 != 0
+        self.nullable = self.flags & 1 != 0
+
+
+class Image:
+    """An image whose header and tables are whole."""
+
+    def __init__(self, data):
+        self.data = data
+        if len(data) < 4 or len(data) > LONGEST_IMAGE:
+            raise Fault(10)
+        n, m = unsigned(data, 0, 2), unsigned(data, 2, 2)
+        if not 1 <= n <= 256 or m > 1024 or len(data) < 4 + 44 * n + 8 * m:
+            raise Fault(10)
+        self.nodes = [Record(data, node) for node in range(n)]
+        self.entries = [(unsigned(data, 4 + 44 * n + 8 * k, 4), unsigned(data, 8 + 44 * n + 8 * k, 4)) for k in range(m)]
+
+    def children(self, node):
+        record = self.nodes[node]
+        return range(record.first_child, record.first_child + record.child_count)
+
+    def buffer(self, node, k):
+        """The place and the length of buffer k of a node."""
+        return self.entries[self.nodes[node].first_buffer + k]
+
+    def number(self, node, k, width, j):
+        """Element j of buffer k as an unsigned number."""
+        return unsigned(self.data, self.buffer(node, k)[0] + j * width, width)
+
+    def valid(self, node, i):
+        record = self.nodes[node]
+        if not record.has_bitmap:
+            return True
+        bit = record.first_bit + i
+        return self.data[record.bitmap_place + bit // 8] >> (bit % 8) & 1 == 1
+
+    # The faults, in the order of their numbers. Each gives the nodes that have it.
+
+    def fault_11(self, node):
+        r = self.nodes[node]
+        if r.code > 43 or r.flags > 3:
+            return True
+        low, high = P1.get(r.code, (0, 0))
+        if not low <= r.p1 <= high:
+            return True
+        if not (-128 <= r.p2 <= 127 if 15 <= r.code <= 18 else r.p2 == 0):
+            return True
+        return r.has_bitmap and r.code in (NULL, DENSE_UNION, SPARSE_UNION, RUN_END_ENCODED)
+
+    def fault_12(self, node):
+        r, nodes = self.nodes[node], self.nodes
+        total = 1 + sum(x.child_count for x in nodes)
+        if node == 0 and total != len(nodes):
+            return True
+        if r.code in (LIST, LARGE_LIST, LIST_VIEW, LARGE_LIST_VIEW, FIXED_SIZE_LIST, DICTIONARY, MAP):
+            wrong = r.child_count != 1
+        elif r.code == RUN_END_ENCODED:
+            wrong = r.child_count != 2
+        elif r.code in (STRUCT, DENSE_UNION, SPARSE_UNION):
+            wrong = False
+        else:
+            wrong = r.child_count != 0
+        if wrong:
+            return True
+        start = 1 + sum(x.child_count for x in nodes[:node])
+        if r.first_child != start or not r.first_child > node or start + r.child_count > len(nodes):
+            return True
+        parent = self.parent(node)
+        if self.depth(node) > 16:
+            return True
+        if r.id != 0 and (parent is None or nodes[parent].code not in UNIONS):
+            return True
+        if r.code in UNIONS:
+            ids = [nodes[c].id for c in self.children(node)]
+            if any(x > 127 for x in ids) or any(x >= y for x, y in zip(ids, ids[1:])):
+                return True
+        if r.code == MAP:
+            entries = nodes[r.first_child]
+            if entries.code != STRUCT or entries.child_count != 2:
+                return True
+        if r.code == RUN_END_ENCODED:
+            ends = nodes[r.first_child]
+            if ends.code not in (3, 4, 5) or ends.has_bitmap:
+                return True
+        return False
+
+    def parent(self, node):
+        """The node that a node is a child of, by the formula for the numbering; none for the root or where none has it."""
+        start = 1
+        for k, x in enumerate(self.nodes):
+            if start <= node < start + x.child_count:
+                return k
+            start += x.child_count
+        return None
+
+    def depth(self, node):
+        depth, seen = 1, 0
+        while node != 0 and seen <= len(self.nodes):
+            above = self.parent(node)
+            if above is None or above >= node:
+                return 17
+            node, depth, seen = above, depth + 1, seen + 1
+        return depth
+
+    def fault_13(self, node):
+        r = self.nodes[node]
+        return r.name_length > 64 or (r.name_length > 0 and r.name_place + r.name_length > len(self.data))
+
+    def fault_14(self, node):
+        r = self.nodes[node]
+        if node == 0 and sum(x.buffer_count for x in self.nodes) != len(self.entries):
+            return True
+        if r.code in (NULL, FIXED_SIZE_LIST, STRUCT, RUN_END_ENCODED):
+            wrong = r.buffer_count != 0
+        elif r.code in TEXTS or r.code in LIST_VIEWS or r.code == DENSE_UNION:
+            wrong = r.buffer_count != 2
+        elif r.code in VIEWS:
+            wrong = r.buffer_count < 1
+        else:
+            wrong = r.buffer_count != 1
+        start = sum(x.buffer_count for x in self.nodes[:node])
+        if wrong or r.first_buffer != start or start + r.buffer_count > len(self.entries):
+            return True
+        size = len(self.data)
+        if any(place + length > size for place, length in (self.buffer(node, k) for k in range(r.buffer_count))):
+            return True
+        if r.has_bitmap and r.bitmap_place + r.bitmap_length > size:
+            return True
+        if r.elements > MOST_ELEMENTS:
+            return True
+        whole = []
+        if r.code in OFFSET_WIDTH:
+            whole.append((0, OFFSET_WIDTH[r.code]))
+        if r.code in LIST_VIEWS:
+            whole.append((1, OFFSET_WIDTH[r.code]))
+        if r.code == DENSE_UNION:
+            whole.append((1, 4))
+        if r.code == DICTIONARY:
+            whole.append((0, WIDTHS[r.p1]))
+        if r.code in VIEWS:
+            whole.append((0, 16))
+        return any(self.buffer(node, k)[1] % width for k, width in whole)
+
+    def fault_15(self, node):
+        r, e = self.nodes[node], self.nodes[node].elements
+        if r.has_bitmap and r.first_bit + r.length > 8 * r.bitmap_length:
+            return True
+        lengths = [self.buffer(node, k)[1] for k in range(r.buffer_count)]
+        if r.code == BOOLEAN:
+            return 8 * lengths[0] < e
+        if r.code in TEXTS or r.code in LISTS:
+            return lengths[0] < (e + 1) * OFFSET_WIDTH[r.code]
+        if r.code in LIST_VIEWS:
+            return min(lengths) < e * OFFSET_WIDTH[r.code]
+        if r.code in VIEWS:
+            return lengths[0] < 16 * e
+        if r.code == DENSE_UNION:
+            return lengths[0] < e or lengths[1] < 4 * e
+        if r.code == SPARSE_UNION:
+            return lengths[0] < e
+        if r.code == DICTIONARY:
+            return lengths[0] < e * WIDTHS[r.p1]
+        if r.code == FIXED_SIZE_BINARY:
+            return lengths[0] < e * r.p1
+        return r.code in WIDTHS and lengths[0] < e * WIDTHS[r.code]
+
+    def fault_16(self, node):
+        r = self.nodes[node]
+        lengths = [self.nodes[c].length for c in self.children(node)]
+        if r.code in (STRUCT, SPARSE_UNION):
+            return any(length < r.elements for length in lengths)
+        if r.code == FIXED_SIZE_LIST:
+            return lengths[0] < r.elements * r.p1
+        return r.code == RUN_END_ENCODED and lengths[0] != lengths[1]
+
+    def fault_17(self, node):
+        r = self.nodes[node]
+        width = OFFSET_WIDTH.get(r.code)
+        if r.code in TEXTS or r.code in LISTS:
+            end = self.buffer(node, 1)[1] if r.code in TEXTS else self.nodes[r.first_child].length
+            place = self.buffer(node, 0)[0]
+            offsets = [signed(self.data, place + j * width, width) for j in range(r.elements + 1)]
+            return any(not 0 <= x <= end for x in offsets) or any(x > y for x, y in zip(offsets, offsets[1:]))
+        if r.code in LIST_VIEWS:
+            end = self.nodes[r.first_child].length
+            places = [self.buffer(node, k)[0] for k in (0, 1)]
+            for j in range(r.elements):
+                offset, size = (signed(self.data, place + j * width, width) for place in places)
+                if offset < 0 or size < 0 or offset + size > end:
+                    return True
+        return False
+
+    def fault_18(self, node):
+        r = self.nodes[node]
+        if r.code in UNIONS:
+            by_id = {self.nodes[c].id: c for c in self.children(node)}
+            for j in range(r.offset, r.elements):
+                child = by_id.get(self.number(node, 0, 1, j))
+                if child is None:
+                    return True
+                if r.code == DENSE_UNION:
+                    if not 0 <= signed(self.data, self.buffer(node, 1)[0] + 4 * j, 4) < self.nodes[child].length:
+                        return True
+        elif r.code == DICTIONARY:
+            read = signed if r.p1 <= 5 else unsigned
+            width, place = WIDTHS[r.p1], self.buffer(node, 0)[0]
+            end = self.nodes[r.first_child].length
+            for i in range(r.length):
+                if self.valid(node, i) and not 0 <= read(self.data, place + (r.offset + i) * width, width) < end:
+                    return True
+        elif r.code in VIEWS:
+            return any(self.valid(node, i) and self.bad_view(node, r.offset + i) for i in range(r.length))
+        elif r.code == RUN_END_ENCODED:
+            ends = self.run_ends(node)
+            if any(x <= 0 for x in ends) or any(x >= y for x, y in zip(ends, ends[1:])):
+                return True
+            return ends[-1] < r.elements if ends else r.elements != 0
+        return False
+
+    def bad_view(self, node, j):
+        data, at = self.data, self.buffer(node, 0)[0] + 16 * j
+        length = unsigned(data, at, 4)
+        if length <= 12:
+            return any(data[at + 4 + length : at + 16])
+        buffer, offset = unsigned(data, at + 8, 4), unsigned(data, at + 12, 4)
+        if 1 + buffer >= self.nodes[node].buffer_count:
+            return True
+        place, size = self.buffer(node, 1 + buffer)
+        return offset + length > size or data[at + 4 : at + 8] != data[place + offset : place + offset + 4]
+
+    def run_ends(self, node):
+        child = self.nodes[node].first_child
+        r = self.nodes[child]
+        width, place = WIDTHS[r.code], self.buffer(child, 0)[0]
+        return [signed(self.data, place + (r.offset + k) * width, width) for k in range(r.length)]
+
+    def check(self):
+        for number in range(11, 19):
+            for node in range(len(self.nodes)):
+                if getattr(self, f"fault_{number}")(node):
+                    raise Fault(number, node)
+
+    # Rows. None is a null row; ("bytes", ..), ("text", ..), ("rows", ..), ("list", ..) and ("union", id, row) the others.
+
+    def row(self, node, i):
+        if not self.valid(node, i):
+            return None
+        r = self.nodes[node]
+        j = r.offset + i
+        data, first = self.data, r.first_child
+        if r.code == NULL:
+            return ("bytes", b"")
+        if r.code == BOOLEAN:
+            return ("bytes", bytes([data[self.buffer(node, 0)[0] + j // 8] >> (j % 8) & 1]))
+        if r.code in WIDTHS or r.code == FIXED_SIZE_BINARY:
+            width = WIDTHS.get(r.code, r.p1)
+            place = self.buffer(node, 0)[0] + j * width
+            return ("bytes", bytes(data[place : place + width]))
+        if r.code in TEXTS:
+            width, place = OFFSET_WIDTH[r.code], self.buffer(node, 1)[0]
+            return ("text", bytes(data[place + self.number(node, 0, width, j) : place + self.number(node, 0, width, j + 1)]))
+        if r.code in VIEWS:
+            at = self.buffer(node, 0)[0] + 16 * j
+            length = unsigned(data, at, 4)
+            place = at + 4 if length <= 12 else self.buffer(node, 1 + unsigned(data, at + 8, 4))[0] + unsigned(data, at + 12, 4)
+            return ("text", bytes(data[place : place + length]))
+        if r.code in LISTS:
+            width = OFFSET_WIDTH[r.code]
+            return ("list", self.rows(first, self.number(node, 0, width, j), self.number(node, 0, width, j + 1)))
+        if r.code in LIST_VIEWS:
+            width = OFFSET_WIDTH[r.code]
+            start = self.number(node, 0, width, j)
+            return ("list", self.rows(first, start, start + self.number(node, 1, width, j)))
+        if r.code == FIXED_SIZE_LIST:
+            return ("rows", self.rows(first, j * r.p1, (j + 1) * r.p1))
+        if r.code == STRUCT:
+            return ("rows", tuple(self.row(c, j) for c in self.children(node)))
+        if r.code in UNIONS:
+            id = self.number(node, 0, 1, j)
+            child = next(c for c in self.children(node) if self.nodes[c].id == id)
+            return ("union", id, self.row(child, self.number(node, 1, 4, j) if r.code == DENSE_UNION else j))
+        if r.code == DICTIONARY:
+            return ("rows", (self.row(first, self.number(node, 0, WIDTHS[r.p1], j)),))
+        run = next(k for k, end in enumerate(self.run_ends(node)) if end > j)
+        return ("rows", (self.row(first + 1, run),))
+
+    def rows(self, node, start, end):
+        return tuple(self.row(node, i) for i in range(start, end))
+
+    # Row bytes, a part at a time, so that a reader may stop.
+
+    def written(self, node, i):
+        if not self.valid(node, i):
+            yield b"\x00"
+            return
+        yield b"\x01"
+        r = self.nodes[node]
+        j = r.offset + i
+        first, width = r.first_child, OFFSET_WIDTH.get(r.code)
+        ranges = []
+        if r.code in TEXTS or r.code in VIEWS:
+            text = self.row(node, i)[1]
+            yield len(text).to_bytes(4, "little") + text
+        elif r.code in LISTS or r.code in LIST_VIEWS:
+            start = self.number(node, 0, width, j)
+            count = self.number(node, 0, width, j + 1) - start if r.code in LISTS else self.number(node, 1, width, j)
+            yield count.to_bytes(4, "little")
+            ranges = [(first, start, count)]
+        elif r.code == FIXED_SIZE_LIST:
+            ranges = [(first, j * r.p1, r.p1)]
+        elif r.code == STRUCT:
+            ranges = [(child, j, 1) for child in self.children(node)]
+        elif r.code in UNIONS:
+            id = self.number(node, 0, 1, j)
+            yield bytes([id])
+            child = next(c for c in self.children(node) if self.nodes[c].id == id)
+            ranges = [(child, self.number(node, 1, 4, j) if r.code == DENSE_UNION else j, 1)]
+        elif r.code == DICTIONARY:
+            ranges = [(first, self.number(node, 0, WIDTHS[r.p1], j), 1)]
+        elif r.code == RUN_END_ENCODED:
+            ranges = [(first + 1, next(k for k, end in enumerate(self.run_ends(node)) if end > j), 1)]
+        else:
+            yield self.row(node, i)[1]
+        for child, start, count in ranges:
+            for k in range(start, start + count):
+                yield from self.written(child, k)
+
+
+def types_agree(a, b, x=0, y=0, place="root"):
+    """The types of node x of one image and of node y of the other; the place says which labels of their children count."""
+    r, s = a.nodes[x], b.nodes[y]
+    if (r.code, r.p1, r.p2, r.child_count) != (s.code, s.p1, s.p2, s.child_count):
+        return False
+    name = flag = r.code != DICTIONARY
+    below = "deeper"
+    if place == "root" and r.code == MAP:
+        name = flag = False
+        below = "entries"
+    elif place == "entries":
+        name = False
+    for c, d in zip(a.children(x), b.children(y)):
+        u, v = a.nodes[c], b.nodes[d]
+        if name and a.data[u.name_place :][: u.name_length] != b.data[v.name_place :][: v.name_length]:
+            return False
+        if flag and u.nullable != v.nullable:
+            return False
+        if r.code in UNIONS and u.id != v.id:
+            return False
+        if not types_agree(a, b, c, d, below):
+            return False
+    return True
+
+
+# The calls. An answer is (number, side, node, value).
+
+
+def checked(data):
+    image = Image(data)
+    image.check()
+    return image
+
+
+def both(left, right):
+    images = []
+    for side, data in enumerate((left, right)):
+        try:
+            images.append(checked(data))
+        except Fault as fault:
+            return None, (fault.number, side, fault.node, 0)
+    return images, None
+
+
+def check(data):
+    try:
+        checked(data)
+    except Fault as fault:
+        return (fault.number, 0, fault.node, 0)
+    return (0, 0, 0, 0)
+
+
+def compare(left, right):
+    images, refused = both(left, right)
+    if refused:
+        return refused
+    a, b = images
+    n = a.nodes[0].length
+    same = types_agree(a, b) and n == b.nodes[0].length and a.rows(0, 0, n) == b.rows(0, 0, n)
+    return (0, 0, 0, int(same))
+
+
+def compare_range(left, right, i, j, n):
+    images, refused = both(left, right)
+    if refused:
+        return refused
+    a, b = images
+    if not types_agree(a, b):
+        return (20, 0, 0, 0)
+    for side, (image, start) in enumerate(((a, i), (b, j))):
+        if start + n > image.nodes[0].length:
+            return (21, side, 0, 0)
+    return (0, 0, 0, int(a.rows(0, i, i + n) == b.rows(0, j, j + n)))
+
+
+def write(data, i, n, room):
+    """The answer, and the bytes that are written."""
+    try:
+        image = checked(data)
+    except Fault as fault:
+        return (fault.number, 0, fault.node, 0), b""
+    if i + n > image.nodes[0].length:
+        return (21, 0, 0, 0), b""
+    written = b""
+    for k in range(i, i + n):
+        for part in image.written(0, k):
+            written += part
+            if len(written) > room:
+                return (43, 0, 0, 0), b""
+    return (0, 0, 0, len(written)), written
+
+
+class Session:
+    STORE, OUTPUT = 24576, 64
+
+    def __init__(self):
+        self.stores, self.closed = [b"", b""], [False, False]
+
+    def reply(self, line):
+        """The reply to a line, without its line feed."""
+        try:
+            return self.obey(frame_of(line)).hex()
+        except Fault as fault:
+            number, node = fault.number, fault.node
+            tail = node.to_bytes(2, "little") if 10 <= number <= 18 else bytes([node]) if number == 21 else b""
+            return (bytes([number]) + tail).hex()
+
+    def obey(self, frame):
+        kind, body = frame[0], frame[1:]
+        if kind in (1, 2):
+            side = kind - 1
+            if self.closed[side]:
+                raise Fault(41)
+            if len(self.stores[side]) + len(body) > self.STORE:
+                raise Fault(40)
+            self.stores[side] += body
+        elif kind == 3:
+            side = body[0]
+            if self.closed[side]:
+                raise Fault(41)
+            try:
+                checked(self.stores[side])
+            except Fault:
+                self.stores[side] = b""
+                raise
+            self.closed[side] = True
+        elif kind == 7:
+            self.stores[body[0]], self.closed[body[0]] = b"", False
+        elif kind in (4, 5):
+            if not all(self.closed):
+                raise Fault(42)
+            numbers = [unsigned(body, k, 4) for k in range(0, len(body), 4)]
+            answer = compare(*self.stores) if kind == 4 else compare_range(*self.stores, *numbers)
+            number, side, node, value = answer
+            if number:
+                raise Fault(number, side if number == 21 else node)
+            return bytes([0, value])
+        else:
+            side = body[0]
+            if not self.closed[side]:
+                raise Fault(42)
+            (number, _, node, _), written = write(self.stores[side], unsigned(body, 1, 4), unsigned(body, 5, 4), self.OUTPUT)
+            if number:
+                raise Fault(number, side if number == 21 else node)
+            return b"\x00" + written
+        return b"\x00"
+
+
+def frame_of(line):
+    """The bytes of a line that is 1 to 65 bytes of lower-case hexadecimal, one space allowed between bytes, and a frame."""
+    frame, at = bytearray(), 0
+    while True:
+        pair = line[at : at + 2]
+        if len(pair) < 2 or any(c not in b"0123456789abcdef" for c in pair):
+            raise Fault(1)
+        frame.append(int(pair, 16))
+        at += 2
+        if at == len(line):
+            break
+        if line[at] == 0x20:
+            at += 1
+    if len(frame) > 65:
+        raise Fault(1)
+    kind, length = frame[0], len(frame)
+    if not 1 <= kind <= 7:
+        raise Fault(2)
+    lengths = {3: 2, 4: 1, 5: 13, 6: 10, 7: 2}
+    if length < 2 if kind in (1, 2) else length != lengths[kind]:
+        raise Fault(3)
+    if kind in (3, 6, 7) and frame[1] > 1:
+        raise Fault(3)
+    return bytes(frame)
+
+
+def replies(data):
+    """What the program prints for an input."""
+    session = Session()
+    lines = data.split(b"\n")
+    if lines[-1] == b"":
+        lines.pop()
+    return "".join(session.reply(line) + "\n" for line in lines).encode()
