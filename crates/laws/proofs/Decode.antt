@@ -15,6 +15,7 @@ use Rattle.image.specs.Row.{Row, Rows, null, fixed, sized, joined, counted, tag
 use Rattle.image.specs.RowBytes.{count, rowBytes, rowsBytes}
 use Rattle.image.proofs.Bools.{and-left, and-right}
 use Rattle.laws.specs.Shape.{Shape, Shapes, bytes, text, inTurn, many, oneOf, end, shape, shapeWith, fits, fitEach, fitAll}
+use Rattle.laws.proofs.Lengths.{number-length}
 
 -- the number that is read back from its bytes
 behind-first : (w b i : ℕ) (s : List ℕ) → numberAt w (b ∷ s) (suc i) ≡ numberAt w s i
@@ -28,11 +29,6 @@ number-back zero n x lt = omega arith
 number-back (suc w) n x lt =
     let p : 256 ^ suc w ≡ 256 * 256 ^ w = omega arith in
     rw (behind-first w (n % 256) 0 (numberBytes w (n / 256) ++ x), number-back w (n / 256) x (omega arith)) (omega arith)
-
-number-length : (w n : ℕ) → length (numberBytes w n) ≡ w
-unfolding numberBytes
-number-length zero n = refl
-number-length (suc w) n = ap suc (number-length w (n / 256))
 
 -- The reader. What it reads is a row or rows, and the bytes that are left over.
 abbrev Got : Type 0

@@ -17,7 +17,8 @@ use Rattle.laws.proofs.Sound.{rowsEqual-is}
 use Rattle.laws.proofs.Accepted.{accepted}
 use Rattle.laws.proofs.Alike.{types-alike}
 use Rattle.laws.proofs.Decode.{rows-back}
-use Rattle.laws.proofs.Stored.{range-count, range-fits, stored-fits}
+use Rattle.laws.proofs.Lengths.{range-count}
+use Rattle.laws.proofs.Stored.{range-fits, stored-fits}
 use Rattle.laws.proofs.OneShape.{one-shape}
 
 -- the rows of a table have its root's shape

@@ -5,6 +5,7 @@ pub mod Codes
 pub mod Accepted
 pub mod Fuel
 pub mod Alike
+pub mod Lengths
 pub mod Decode
 pub mod Stored
 pub mod OneShape

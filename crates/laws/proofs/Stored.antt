@@ -1,13 +1,12 @@
 -- Every row of an accepted image has the shape of its node.
 -- By induction over the depth and by the layouts: the child rows that a row names lie within the children, and acceptance
 -- bounds texts and lists far below 2 ^ 32.
-use mathlib.Core.Path.{_≡_, refl, sym, ap, subst}
+use mathlib.Core.Path.{_≡_, refl, sym, subst}
 use mathlib.Core.Bool.{Bool, true, false, cond}
 use mathlib.Core.List.{List}
 use Prim.Native.Nat.{ℕ, zero, suc, _+_, _*_, _-_, _≤_, _<_}
 use native.Mathlib.Nat.{add-zero, add-suc, suc-add, mul-le-mul-right, suc-mul}
 use native.Mathlib.Omega.{arith}
-use lib.ListN.{length}
 use lib.Dec.{eqb, ltb}
 use borrow.Author.Tests.{eq-eqb, lt-ltb, ltb-true, ltb-false}
 use Rattle.image.specs.declared.type_code.Layout.{Layout}
@@ -23,19 +22,9 @@ use Rattle.image.proofs.Bools.{and-true}
 use Rattle.image.proofs.Ranges.{first-from}
 use Rattle.laws.specs.Accepted.{AcceptedImage, Node, ViewInside}
 use Rattle.laws.specs.Shape.{Shape, Shapes, text, many, oneOf, shapeWith, fits, fitEach, fitAll, shapes, noId, valueShape, shapeOf}
+use Rattle.laws.proofs.Lengths.{bytes-length, range-count}
 
-bytes-length : (s : List ℕ) (i n : ℕ) → length (bytesAt s i n) ≡ n
-unfolding bytesAt
-bytes-length s i zero = refl
-bytes-length s i (suc n) = ap suc (bytes-length s (suc i) n)
-
--- Ranges of rows.
-pub range-count : (g : ℕ → Row) (i n : ℕ) → count (range g i n) ≡ n
-unfolding range count
-range-count g i zero = refl
-range-count g i (suc n) = ap suc (range-count g (suc i) n)
-
--- each row has the shape: all have
+-- each row of a range has the shape: all have
 pub range-fits : (g : ℕ → Row) (h : Shape) (i n : ℕ) → ((c : ℕ) → i ≤ c → c < i + n → fits (g c) h ≡ true) → fitAll (range g i n) h ≡ true
 unfolding range fits
 range-fits g h i zero each = refl

@@ -4,7 +4,6 @@ use mathlib.Core.Path.{_≡_, refl, ap}
 use mathlib.Core.List.{List, [], _∷_, _++_}
 use Prim.Native.Nat.{ℕ, zero, suc, _+_, _-_, _/_, _%_, _≤_, _<_}
 use native.Mathlib.Omega.{arith}
-use lib.ListN.{length}
 use Rattle.image.specs.Bytes.{byteAt, numberBytes, bytesAt}
 use Rattle.image.specs.Row.{Row, range}
 use Rattle.image.specs.RowBytes.{rowBytes, rowsBytes}
@@ -58,14 +57,3 @@ unfolding numberBytes
 number-next w k rest lt =
     let b : w - k ≡ suc (w - (k + 1)) = omega arith in
     rw b
-
--- how many bytes
-pub number-length : (w x : ℕ) → length (numberBytes w x) ≡ w
-unfolding numberBytes
-number-length zero x = refl
-number-length (suc w) x = ap suc (number-length w (x / 256))
-
-pub bytes-length : (s : List ℕ) (i n : ℕ) → length (bytesAt s i n) ≡ n
-unfolding bytesAt
-bytes-length s i zero = refl
-bytes-length s i (suc n) = ap suc (bytes-length s (suc i) n)

@@ -15,13 +15,14 @@ use Rattle.image.specs.TypeCode.{layoutOf}
 use Rattle.image.specs.Element.{elementWidth, elementAt, viewLength}
 use Rattle.image.specs.Row.{fixed, booleanRow, fixedRow, variableRow, viewRow}
 use Rattle.image.specs.RowBytes.{rowBytes}
+use Rattle.laws.proofs.Lengths.{bytes-length}
 use Rattle.values.specs.Parts.{Part, Elements, Spanned, Shown}
 use Rattle.values.proofs.Fixed.{spanned, spanned-small}
 use Rattle.values.proofs.Texts.{text-inside, text-up}
 use Rattle.values.proofs.Views.{view-place}
 use Rattle.rows.specs.declared.value.Value.{Value}
 use Rattle.rows.specs.Value.{leafValue, Made}
-use Rattle.rows.proofs.Made.{bytes-length, leaf-made}
+use Rattle.rows.proofs.Made.{leaf-made}
 
 -- Null: nothing
 pub null-made : (s : List ℕ) {v : Value} → v ≡ leafValue 0 0 0 0 → Made s (λ sub. fixed []) v

@@ -1,6 +1,6 @@
 -- A row is made of a number in front and either bytes of the image or child rows.
 -- What is left out of a value gives no bytes, and child rows of one child, or one row of each of several, are those of a range.
-use mathlib.Core.Path.{_≡_, refl, sym, ap, subst, _∙_}
+use mathlib.Core.Path.{_≡_, refl, sym, subst, _∙_}
 use mathlib.Core.List.{List, _∷_, _++_, append-nil}
 use Prim.Native.Nat.{ℕ, zero, suc, _+_, _≤_, _<_}
 use native.Mathlib.Omega.{arith}
@@ -10,21 +10,10 @@ use Rattle.image.specs.Bytes.{numberBytes, bytesAt}
 use Rattle.image.specs.Record.{nodeCount, codeOf, lengthOf}
 use Rattle.image.specs.TypeCode.{layoutOf}
 use Rattle.image.specs.Row.{Row, range, valueAt}
-use Rattle.image.specs.RowBytes.{rowBytes, rowsBytes, count}
+use Rattle.image.specs.RowBytes.{rowBytes, rowsBytes}
 use Rattle.laws.specs.Accepted.{AcceptedImage}
 use Rattle.rows.specs.declared.value.Value.{Value}
-use Rattle.rows.specs.Value.{leafValue, nestedValue, partsBytes, valueBytes, Made}
-
--- how many bytes, how many rows
-pub bytes-length : (s : List ℕ) (i n : ℕ) → length (bytesAt s i n) ≡ n
-unfolding bytesAt
-bytes-length s i zero = refl
-bytes-length s i (suc n) = ap suc (bytes-length s (suc i) n)
-
-pub range-count : (g : ℕ → Row) (i n : ℕ) → count (range g i n) ≡ n
-unfolding count range
-range-count g i zero = refl
-range-count g i (suc n) = ap suc (range-count g (suc i) n)
+use Rattle.rows.specs.Value.{leafValue, nestedValue, partsBytes, ownBytes, valueBytes, Made}
 
 -- the bytes of rows of one child, and of one row of each child
 pub one-child : (sub : ℕ → ℕ → Row) (c i n : ℕ) → rowsBytes (range (sub c) i n) ≡ partsBytes sub c 1 i n
@@ -44,9 +33,9 @@ each-child sub c (suc parts) i = rw (append-nil (rowBytes (sub c i)), each-child
 pub leaf-made : (s : List ℕ) (row : Row) (head width place size : ℕ)
     → rowBytes row ≡ 1 ∷ (numberBytes width head ++ bytesAt s place size) → width ≤ 4 → place + size ≤ length s
     → Made s (λ sub. row) (leafValue head width place size)
-unfolding valueBytes partsBytes
+unfolding valueBytes ownBytes partsBytes
 leaf-made s row head width place size bytes narrow inside = record {
-  bytes = λ sub. bytes ∙ rw (append-nil (bytesAt s place size));
+  bytes = λ sub. bytes ∙ sym (append-nil _);
   narrow = narrow;
   inside = inside;
   parts = λ c lt. absurd (omega arith);
@@ -58,9 +47,9 @@ pub nested-made : (s : List ℕ) (row : (ℕ → ℕ → Row) → Row) (head wid
     → child + parts ≤ nodeCount s → ((c : ℕ) → c < parts → start + count ≤ lengthOf s (child + c)) → width ≤ 4
     → ((sub : ℕ → ℕ → Row) → rowBytes (row sub) ≡ 1 ∷ (numberBytes width head ++ partsBytes sub child parts start count))
     → Made s row (nestedValue head width child parts start count)
-unfolding valueBytes bytesAt
+unfolding valueBytes ownBytes bytesAt
 nested-made s row head width child parts start count image nodes rows narrow bytes = record {
-  bytes = bytes;
+  bytes = λ sub. bytes sub ∙ rw (append-nil (numberBytes width head));
   narrow = narrow;
   inside = omega arith;
   parts = λ c lt. record { image = image; node = omega arith; rows = rows c lt };

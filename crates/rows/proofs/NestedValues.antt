@@ -1,13 +1,13 @@
 -- The values of child rows: lists, list views, fixed-size lists, Structs, unions, Dictionaries and runs.
 -- Each is the child rows that the definition of its row names, and acceptance keeps them within the child.
-use mathlib.Core.Path.{_≡_, refl, ap, _∙_}
+use mathlib.Core.Path.{_≡_, refl, ap, subst, _∙_}
 use mathlib.Core.List.{List}
 use Prim.Native.Nat.{ℕ, suc, _+_, _*_, _-_, _%_, _≤_, _<_}
 use native.Mathlib.Nat.{one-mul, mod-eq-of-lt}
 use native.Mathlib.Numerals.{add-one}
 use native.Mathlib.Omega.{arith}
 use borrow.Author.Tests.{lt-ltb}
-use Rattle.image.specs.declared.type_code.Layout.the-variants.{List as Lists, ListView, FixedList, Struct, DenseUnion, SparseUnion, Dictionary, Runs}
+use Rattle.image.specs.declared.type_code.Layout.the-variants.{List as Lists, ListView, FixedList, Struct, Dictionary, Runs}
 use Rattle.image.specs.declared.type_code.Count.the-variants.{Exactly}
 use Rattle.image.specs.Bytes.{numberBytes}
 use Rattle.image.specs.Record.{nodeCount, codeOf, p1Of, lengthOf, firstChild, childCount}
@@ -17,13 +17,14 @@ use Rattle.image.specs.Reads.{Read}
 use Rattle.image.specs.Row.{range, listRow, listViewRow, fixedListRow, structRow, unionRow, denseRow, sparseRow, dictionaryRow, runRow}
 use Rattle.image.specs.RowBytes.{rowBytes}
 use Rattle.laws.specs.Accepted.{IdKnown}
+use Rattle.laws.proofs.Lengths.{range-count}
 use Rattle.values.specs.Parts.{Part}
 use Rattle.values.proofs.Nodes.{child-node, first-child-node, part-node}
-use Rattle.values.proofs.ChildRows.{fixed-list-within, fixed-list-small, key-below, dense-known, dense-within, sparse-known, sparse-within}
+use Rattle.values.proofs.ChildRows.{fixed-list-within, fixed-list-small, key-below}
 use Rattle.values.proofs.RunEnds.{run-first, runs-cover}
 use Rattle.rows.specs.declared.value.Value.{Value}
 use Rattle.rows.specs.Value.{nestedValue, Made}
-use Rattle.rows.proofs.Made.{range-count, one-row, each-child, nested-made, child-made}
+use Rattle.rows.proofs.Made.{one-row, each-child, nested-made, child-made}
 
 -- the child of a node of one child
 module _ {s : List ℕ} {k j : ℕ} (r : Part s k j 1) where
@@ -83,7 +84,7 @@ struct-made {s} {k} {j} r struct fc fm ev =
 
 -- unions: the id and the row of the child that it names
 module _ {s : List ℕ} {k j id head c : ℕ} {v : Value} (r : Part s k j 1) (ei : id ≡ typeIdAt s k j) (eh : Read id 8 head) (fc : Read (childWithId s k id) 17 c) where
-  union-made : (i : ℕ) → IdKnown s k j → i < lengthOf s (childWithId s k (typeIdAt s k j)) → v ≡ nestedValue head 1 c 1 i 1 → Made s (λ sub. unionRow sub s k (typeIdAt s k j) i) v
+  pub union-made : (i : ℕ) → IdKnown s k j → i < lengthOf s (childWithId s k (typeIdAt s k j)) → v ≡ nestedValue head 1 c 1 i 1 → Made s (λ sub. unionRow sub s k (typeIdAt s k j) i) v
   unfolding rowBytes numberBytes
   union-made i known within ev =
       let ec : c ≡ childWithId s k (typeIdAt s k j) = fc .value ∙ ap (childWithId s k) ei in
@@ -94,13 +95,13 @@ module _ {s : List ℕ} {k j id head c : ℕ} {v : Value} (r : Part s k j 1) (ei
       (child-made s (λ sub. unionRow sub s k (typeIdAt s k j) i) (typeIdAt s k j) 1 (childWithId s k (typeIdAt s k j)) i 1 (r .image) node (omega arith) (omega arith)
       (λ sub. rw (lt-ltb _ _ (known .high), small, ← one-row sub (childWithId s k (typeIdAt s k j)) i)))
 
-  pub dense-made : {i : ℕ} → layoutOf (codeOf s k) ≡ DenseUnion → i ≡ denseOffsetAt s k j → v ≡ nestedValue head 1 c 1 i 1 → Made s (λ sub. denseRow sub s k j) v
-  unfolding denseRow
-  dense-made dense e ev = union-made (denseOffsetAt s k j) (dense-known r dense) (dense-within r dense) (rw e at ev)
+pub dense-made : {s : List ℕ} (k j : ℕ) {row : ℕ} {v : Value} → row ≡ denseOffsetAt s k j → Made s (λ sub. unionRow sub s k (typeIdAt s k j) row) v → Made s (λ sub. denseRow sub s k j) v
+unfolding denseRow
+dense-made {s} k j {v = v} e = subst (λ (i : ℕ). Made s (λ sub. unionRow sub s k (typeIdAt s k j) i) v) e
 
-  pub sparse-made : layoutOf (codeOf s k) ≡ SparseUnion → v ≡ nestedValue head 1 c 1 j 1 → Made s (λ sub. sparseRow sub s k j) v
-  unfolding sparseRow
-  sparse-made sparse ev = union-made j (sparse-known r sparse) (sparse-within r sparse) ev
+pub sparse-made : {s : List ℕ} (k j : ℕ) {v : Value} → Made s (λ sub. unionRow sub s k (typeIdAt s k j) j) v → Made s (λ sub. sparseRow sub s k j) v
+unfolding sparseRow
+sparse-made k j m = m
 
 -- Dictionaries and runs: the row of the values child
 pub key-made : {s : List ℕ} {k j key c : ℕ} {v : Value} → Part s k j 1 → layoutOf (codeOf s k) ≡ Dictionary → key ≡ elementAt s k j → Read (firstChild s k) 16 c

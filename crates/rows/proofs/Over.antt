@@ -9,9 +9,11 @@ use lib.Seq.{length-take-le, take-at, drop-at, drop-drop, set-split}
 use Rattle.image.specs.Bytes.{byteAt, numberBytes, bytesAt}
 use Rattle.image.specs.Row.{rowAt}
 use Rattle.image.specs.RowBytes.{rowBytes}
+use Rattle.laws.proofs.Lengths.{number-length, bytes-length}
 use Rattle.rows.specs.declared.value.Value.{Value}
-use Rattle.rows.specs.Output.{over, Fits, ownBytes}
-use Rattle.rows.proofs.Joined.{joined, joined-start, joined-next, joined-end, bytes-joined, number-next, number-length, bytes-length}
+use Rattle.rows.specs.Output.{over, Fits}
+use Rattle.rows.specs.Value.{ownBytes}
+use Rattle.rows.proofs.Joined.{joined, joined-start, joined-next, joined-end, bytes-joined, number-next}
 use Rattle.rows.proofs.RowParts.{ValueOf, childrenBytes, own-length}
 
 -- nothing, one byte
@@ -21,7 +23,7 @@ over-none out at =
     let e : at + 0 ≡ at = omega arith in
     rw e (take-append-drop at out)
 
-pub over-one : (out : List ℕ) (at x : ℕ) → at < length out → set out at x ≡ over out at (x ∷ [])
+over-one : (out : List ℕ) (at x : ℕ) → at < length out → set out at x ≡ over out at (x ∷ [])
 unfolding over
 over-one out at x lt =
     let e : at + 1 ≡ suc at = omega arith in
@@ -185,11 +187,12 @@ module _ {out bytes : List ℕ} {at : ℕ} (fits : Fits out at bytes) (e : bytes
   null-length : length bytes ≡ 1
   null-length = ap length e
 
-  pub null-fits : at < length out
+  pub null-fits : at + 1 ≤ length out
   null-fits = omega (arith, fits .within, null-length)
 
-  pub null-put : {after : List ℕ} → after ≡ over out at (0 ∷ []) → (at + 1 ≡ at + length bytes) × (after ≡ over out at bytes)
-  null-put f = put-last (put-as (put-start fits) e) f refl
+  pub null-put : {end : ℕ} {after : List ℕ} → (end ≡ at + 1) × (after ≡ over out at (numberBytes 1 0)) → (end ≡ at + length bytes) × (after ≡ over out at bytes)
+  unfolding numberBytes
+  null-put f = put-last (put-as (put-start fits) e) (f .1) (f .0)
 
 -- the bytes that are left, as pieces
 pub pieces-from : {p : ℕ → List ℕ} {i n : ℕ} {out₀ whole out : List ℕ} {at next : ℕ} → ToPut out₀ at whole out next (joined p i n) → PiecesToPut p i n out next out next 0
@@ -204,13 +207,14 @@ module _ (s : List ℕ) (v : Value) {out : List ℕ} {at : ℕ} (fits : Fits out
   unfolding ownBytes
   own-start = put-start fits
 
-  pub own-put : {marked headed own : List ℕ} → marked ≡ over out at (1 ∷ []) → headed ≡ over marked (at + 1) (numberBytes (v .width) (v .head)) → own ≡ over headed (at + 1 + v .width) (bytesAt s (v .place) (v .size))
-      → (at + 1 + v .width + v .size ≡ at + length (ownBytes s v)) × (own ≡ over out at (ownBytes s v))
-  own-put e f g =
+  pub own-put : {number place end : ℕ} {marked headed own : List ℕ} → (number ≡ at + 1) × (marked ≡ over out at (numberBytes 1 1)) → (place ≡ number + v .width) × (headed ≡ over marked number (numberBytes (v .width) (v .head))) → (end ≡ place + v .size) × (own ≡ over headed place (bytesAt s (v .place) (v .size)))
+      → (end ≡ at + length (ownBytes s v)) × (own ≡ over out at (ownBytes s v))
+  unfolding numberBytes
+  own-put {number} {place} e f g =
       put-last
-      (put-more (numberBytes (v .width) (v .head)) (bytesAt s (v .place) (v .size)) (put-more (1 ∷ []) _ own-start e refl) f (ap (λ (n : ℕ). at + 1 + n) (sym (number-length (v .width) (v .head)))))
-      g
-      (ap (λ (n : ℕ). at + 1 + v .width + n) (sym (bytes-length s (v .place) (v .size))))
+      (put-more _ _ (put-more (1 ∷ []) _ own-start (e .1) (e .0)) (f .1) (f .0 ∙ ap (λ (n : ℕ). number + n) (sym (number-length (v .width) (v .head)))))
+      (g .1)
+      (g .0 ∙ ap (λ (n : ℕ). place + n) (sym (bytes-length s (v .place) (v .size))))
 
 -- A value: its own bytes, then its child rows.
 module _ {depth : ℕ} {s : List ℕ} {k i : ℕ} {v : Value} (r : ValueOf depth s k i v) {out : List ℕ} {at : ℕ} (fits : Fits out at (rowBytes (rowAt depth s k i))) where

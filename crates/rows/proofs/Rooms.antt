@@ -64,9 +64,6 @@ room-moved room n x = cases (ltb room n) refl
 pub record ToMeasure (room all left n : ℕ) : Type 0 where
   pub same : roomAfter left n ≡ roomAfter room all
 
-pub measure-start : {room all : ℕ} → ToMeasure room all room all
-measure-start = record { same = refl }
-
 module _ {room all left n : ℕ} (t : ToMeasure room all left n) (x rest : ℕ) (e : n ≡ x + rest) where
   -- x of them fit
   pub measure-fit : {next : ℕ} → left ≡ next + x → ToMeasure room all next rest

@@ -1,11 +1,12 @@
 -- The bytes of a row: one byte if it is null, else those of what it is made of; and what reading it asks for.
 -- A row is null or a value, by its bit; a value's bytes are known whatever the child rows are, so at those of the next depth.
-use mathlib.Core.Path.{_≡_, refl, ap, _∙_}
-use mathlib.Core.Bool.{true, false}
-use mathlib.Core.List.{List, [], _∷_, _++_, append-assoc}
+use mathlib.Core.Path.{_≡_, refl, sym, ap, _∙_}
+use mathlib.Core.Bool.{Bool, true, false, not}
+use mathlib.Core.List.{List, [], _∷_, _++_}
 use Prim.Native.Nat.{ℕ, zero, suc, _+_, _-_, _≤_, _<_}
 use native.Mathlib.Omega.{arith}
 use lib.ListN.{length, length-append}
+use borrow.Author.Tests.{not-true, not-false}
 use Rattle.image.specs.Bytes.{numberBytes, bytesAt}
 use Rattle.image.specs.Record.{codeOf, offsetOf, elementsOf}
 use Rattle.image.specs.TypeCode.{layoutOf}
@@ -13,12 +14,12 @@ use Rattle.image.specs.Element.{valid}
 use Rattle.image.specs.Reads.{Read}
 use Rattle.image.specs.Row.{Row, null, fixed, sized, joined as joinedRow, counted, tagged, range, valueAt, rowAt}
 use Rattle.image.specs.RowBytes.{rowBytes, rowsBytes}
+use Rattle.laws.proofs.Lengths.{number-length, bytes-length}
 use Rattle.values.specs.Parts.{Side, Part}
 use Rattle.values.proofs.Fixed.{side-small}
 use Rattle.rows.specs.declared.value.Value.{Value}
-use Rattle.rows.specs.Output.{ownBytes}
-use Rattle.rows.specs.Value.{valueBytes, Made}
-use Rattle.rows.proofs.Joined.{joined, parts-joined, number-length, bytes-length}
+use Rattle.rows.specs.Value.{isNull, ownBytes, valueBytes, Made}
+use Rattle.rows.proofs.Joined.{joined, parts-joined}
 
 -- every row has a byte
 pub row-some : (r : Row) → 0 < length (rowBytes r)
@@ -30,15 +31,34 @@ row-some (joinedRow rs) = omega arith
 row-some (counted rs) = omega arith
 row-some (tagged id r) = omega arith
 
--- a null, with no depth left or by its bit
-pub row-ended : (depth : ℕ) (s : List ℕ) (k i : ℕ) → depth ≡ 0 → rowBytes (rowAt depth s k i) ≡ 0 ∷ []
-unfolding rowAt rowBytes
-row-ended depth s k i e = rw e
+-- whether a row is null
+pub ended-null : (depth : ℕ) (s : List ℕ) (k i : ℕ) → depth ≡ 0 → true ≡ isNull depth s k i
+unfolding isNull
+ended-null depth s k i e = rw e
 
-pub row-null : (depth : ℕ) (s : List ℕ) (k i : ℕ) → valid s k i ≡ false → rowBytes (rowAt depth s k i) ≡ 0 ∷ []
-unfolding rowAt rowBytes
+pub bit-null : (depth : ℕ) (s : List ℕ) (k i : ℕ) {b : Bool} → (depth ≡ 0 → ⊥) → b ≡ valid s k i → not b ≡ isNull depth s k i
+unfolding isNull
+bit-null zero s k i deep e = absurd (deep refl)
+bit-null (suc depth) s k i deep e = ap not e
+
+-- a null is one byte
+pub row-null : (depth : ℕ) (s : List ℕ) (k i : ℕ) → isNull depth s k i ≡ true → rowBytes (rowAt depth s k i) ≡ 0 ∷ []
+unfolding isNull rowAt rowBytes
 row-null zero s k i e = refl
-row-null (suc depth) s k i e = rw e
+row-null (suc depth) s k i e = rw (not-true (valid s k i) e)
+
+-- what is not null has a depth left and its bit set
+not-ended : (depth : ℕ) (s : List ℕ) (k i : ℕ) → isNull depth s k i ≡ false → depth ≡ 0 → ⊥
+unfolding isNull
+not-ended zero s k i e z =
+    let differ : _≡_ {A = ℕ} 0 1 = cc in
+    omega arith
+not-ended (suc depth) s k i e z = omega arith
+
+not-null : (depth : ℕ) (s : List ℕ) (k i : ℕ) → isNull depth s k i ≡ false → valid s k i ≡ true
+unfolding isNull
+not-null zero s k i e = cc
+not-null (suc depth) s k i e = not-false (valid s k i) e
 
 -- the rows of child c of a value, of which `sub c i` is row i
 abbrev pub childBytes : (ℕ → ℕ → Row) → Value → ℕ → List ℕ
@@ -48,8 +68,9 @@ childBytes sub v c = rowsBytes (range (sub c) (v .start) (v .count))
 abbrev pub childrenBytes : ℕ → List ℕ → Value → List ℕ
 childrenBytes depth s v = joined (childBytes (rowAt (depth - 1) s) v) (v .child) (v .parts)
 
--- A row is a value that is made so: its own bytes, then its child rows.
+-- A row is a value that is made so: its own bytes, then its child rows, one depth less.
 pub record ValueOf (depth : ℕ) (s : List ℕ) (k i : ℕ) (v : Value) : Type 0 where
+  pub deep : depth ≡ 0 → ⊥
   pub bytes : rowBytes (rowAt depth s k i) ≡ ownBytes s v ++ childrenBytes depth s v
   pub narrow : v .width ≤ 4
   pub inside : v .place + v .size ≤ length s
@@ -57,19 +78,15 @@ pub record ValueOf (depth : ℕ) (s : List ℕ) (k i : ℕ) (v : Value) : Type 0
   pub few : v .child + v .parts ≤ 65536
 
 made-bytes : (sub : ℕ → ℕ → Row) (s : List ℕ) (v : Value) → valueBytes sub s v ≡ ownBytes s v ++ joined (childBytes sub v) (v .child) (v .parts)
-unfolding valueBytes ownBytes
-made-bytes sub s v =
-    rw (
-      parts-joined sub (v .child) (v .parts) (v .start) (v .count),
-      append-assoc (numberBytes (v .width) (v .head)) (bytesAt s (v .place) (v .size)) (joined (childBytes sub v) (v .child) (v .parts)),
-    )
+unfolding valueBytes
+made-bytes sub s v = rw (parts-joined sub (v .child) (v .parts) (v .start) (v .count))
 
-value-row : (depth : ℕ) (s : List ℕ) (k i : ℕ) → (depth ≡ 0 → ⊥) → valid s k i ≡ true → rowAt depth s k i ≡ valueAt (layoutOf (codeOf s k)) (rowAt (depth - 1) s) s k (offsetOf s k + i)
-unfolding rowAt
-value-row zero s k i deep is = absurd (deep refl)
-value-row (suc depth) s k i deep is =
+value-row : (depth : ℕ) (s : List ℕ) (k i : ℕ) → isNull depth s k i ≡ false → rowAt depth s k i ≡ valueAt (layoutOf (codeOf s k)) (rowAt (depth - 1) s) s k (offsetOf s k + i)
+unfolding isNull rowAt
+value-row zero s k i e = cc
+value-row (suc depth) s k i e =
     let less : suc depth - 1 ≡ depth = omega arith in
-    rw (is, less)
+    rw (not-false (valid s k i) e, less)
 
 -- rows of a node
 module _ {s : List ℕ} {k i n : ℕ} (r : Side s k i n) where
@@ -80,23 +97,24 @@ module _ {s : List ℕ} {k i n : ℕ} (r : Side s k i n) where
   side-row {h} lt = record { image = r .image; node = r .node; rows = omega (arith, r .rows) }
 
 -- a row of a node that is not null
-module _ {s : List ℕ} {k i : ℕ} (r : Side s k i 1) (is : valid s k i ≡ true) {o : ℕ} (at : Read (offsetOf s k) 32 o) where
-  pub part-row : Part s k (o + i) 1
+module _ (depth : ℕ) {s : List ℕ} {k i : ℕ} (r : Side s k i 1) {b : Bool} (eb : b ≡ isNull depth s k i) (is : b ≡ false) {o : ℕ} (at : Read (offsetOf s k) 32 o) where
+  pub row-part : Part s k (o + i) 1
   unfolding elementsOf
-  part-row = record {
+  row-part = record {
     image = r .image;
     node = r .node;
     low = omega (arith, at .value);
     high = omega (arith, at .value, r .rows);
     not-null = λ x low high.
         let e : i ≡ x = omega (arith, at .value) in
-        rw e at is;
+        rw e at (not-null depth s k i (sym eb ∙ is));
   }
 
-  pub value-of : {depth : ℕ} {v : Value} → (depth ≡ 0 → ⊥) → Made s (λ sub. valueAt (layoutOf (codeOf s k)) sub s k (o + i)) v → ValueOf depth s k i v
-  value-of {depth} {v} deep m = record {
+  pub value-of : {v : Value} → Made s (λ sub. valueAt (layoutOf (codeOf s k)) sub s k (o + i)) v → ValueOf depth s k i v
+  value-of {v} m = record {
+    deep = not-ended depth s k i (sym eb ∙ is);
     bytes =
-        ap rowBytes (value-row depth s k i deep is)
+        ap rowBytes (value-row depth s k i (sym eb ∙ is))
         ∙ rw (at .value) at (m .bytes (rowAt (depth - 1) s))
         ∙ made-bytes (rowAt (depth - 1) s) s v;
     narrow = m .narrow;

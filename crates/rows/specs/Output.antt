@@ -1,13 +1,11 @@
 -- What a buffer holds after bytes were put into it, and the room that is left of a buffer.
 use mathlib.Core.Bool.{cond}
-use mathlib.Core.List.{List, _∷_, _++_}
+use mathlib.Core.List.{List, _++_}
 use Prim.Native.Nat.{ℕ, _+_, _-_, _≤_}
 use lib.ListN.{length, take, drop}
 use lib.Dec.{ltb}
-use Rattle.image.specs.Bytes.{numberBytes, bytesAt}
 use Rattle.rows.specs.declared.measure.Room.{Room}
 use Rattle.rows.specs.declared.measure.Room.the-variants.{Left, Short}
-use Rattle.rows.specs.declared.value.Value.{Value}
 
 -- a buffer with bytes put over what it held from a place on
 unfoldable pub over : List ℕ → ℕ → List ℕ → List ℕ
@@ -20,7 +18,3 @@ roomAfter room n = cond (ltb room n) Short (Left (room - n))
 -- so many bytes fit into a buffer from a place on
 pub record Fits (out : List ℕ) (at : ℕ) (bytes : List ℕ) : Type 0 where
   pub within : at + length bytes ≤ length out
-
--- what a value has before its child rows: 01, the number in front, the image's bytes
-unfoldable pub ownBytes : List ℕ → Value → List ℕ
-ownBytes s v = 1 ∷ (numberBytes (v .width) (v .head) ++ bytesAt s (v .place) (v .size))

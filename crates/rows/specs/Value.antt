@@ -1,13 +1,20 @@
 -- What a row that is not null is made of, and the bytes that this gives.
 use mathlib.Core.Path.{_≡_}
+use mathlib.Core.Bool.{Bool, true, not}
 use mathlib.Core.List.{List, [], _∷_, _++_}
-use Prim.Native.Nat.{ℕ, zero, suc, _+_, _≤_, _<_, _^_}
+use Prim.Native.Nat.{ℕ, zero, suc, _+_, _≤_, _<_}
 use lib.ListN.{length}
 use Rattle.image.specs.Bytes.{numberBytes, bytesAt}
+use Rattle.image.specs.Element.{valid}
 use Rattle.image.specs.Row.{Row, range}
 use Rattle.image.specs.RowBytes.{rowBytes, rowsBytes}
 use Rattle.values.specs.Parts.{Side}
 use Rattle.rows.specs.declared.value.Value.{Value}
+
+-- a row is null: no depth is left, or its bit is 0
+unfoldable pub isNull : ℕ → List ℕ → ℕ → ℕ → Bool
+isNull zero s k i = true
+isNull (suc depth) s k i = not (valid s k i)
 
 -- a value without child rows
 abbrev pub leafValue : ℕ → ℕ → ℕ → ℕ → Value
@@ -22,10 +29,13 @@ unfoldable pub partsBytes : (ℕ → ℕ → Row) → ℕ → ℕ → ℕ → �
 partsBytes sub c zero i n = []
 partsBytes sub c (suc parts) i n = rowsBytes (range (sub c) i n) ++ partsBytes sub (suc c) parts i n
 
--- the bytes of a row that is made so: 01, the number in front, the image's bytes, the child rows
+-- what a value has before its child rows: 01, the number in front, the image's bytes
+unfoldable pub ownBytes : List ℕ → Value → List ℕ
+ownBytes s v = 1 ∷ (numberBytes (v .width) (v .head) ++ bytesAt s (v .place) (v .size))
+
+-- the bytes of a row that is made so: its own, then the child rows
 unfoldable pub valueBytes : (ℕ → ℕ → Row) → List ℕ → Value → List ℕ
-valueBytes sub s v =
-    1 ∷ (numberBytes (v .width) (v .head) ++ (bytesAt s (v .place) (v .size) ++ partsBytes sub (v .child) (v .parts) (v .start) (v .count)))
+valueBytes sub s v = ownBytes s v ++ partsBytes sub (v .child) (v .parts) (v .start) (v .count)
 
 -- A row is made so, whatever the child rows are; the image's bytes lie inside, and the child rows are rows of nodes.
 pub record Made (s : List ℕ) (row : (ℕ → ℕ → Row) → Row) (v : Value) : Type 0 where

@@ -1,7 +1,7 @@
 // How many bytes rows take. Measuring stops once the room of the output is used up: each row takes at least one byte, so
 // its cost is bounded by the room and not by the table.
+use crate::value::is_null;
 use crate::value::value_at;
-use image::element::is_valid;
 use image::record::offset;
 ghost use mathlib.Core.Path.{_≡_};
 ghost use lib.ListN.{length};
@@ -26,10 +26,7 @@ fn measure_row(s: &[u8], node: u32, i: usize, depth: usize, room: usize) -> Room
     if room == 0 {
         return Room::Short;
     }
-    if depth == 0 {
-        return Room::Left(room - 1);
-    }
-    if !is_valid(s, node, i) {
+    if is_null(s, node, i, depth) {
         return Room::Left(room - 1);
     }
     let v = value_at(s, node, offset(s, node) + i);

@@ -1,22 +1,14 @@
-// Bytes put into a lent buffer.
+// Bytes put into a lent buffer. Each function answers the place after what it put.
 ghost use mathlib.Core.Path.{_≡_};
-ghost use mathlib.Core.List.{[], _∷_};
-ghost use Prim.Native.Nat.{_+_, _≤_, _<_};
+ghost use Prim.Native.Nat.{_+_, _≤_};
 ghost use lib.ListN.{length};
 ghost use Rattle.image.specs.Bytes.{numberBytes, bytesAt};
 ghost use Rattle.rows.specs.Output.{over};
 
-// One byte.
-pub fn put_byte(out: &mut [u8], at: usize, x: u8)
-    requires { ⌜ at < length (now out) ⌝ }
-    ensures { λ _. ⌜ now (out .exit) ≡ over (now (out .entry)) at (x ∷ []) ⌝ }
-{
-    out[at] = x;
-}
-
 // The w bytes of a number, the lowest first.
-pub fn put_number(out: &mut [u8], at: usize, x: usize, w: usize)
+pub fn put_number(out: &mut [u8], at: usize, x: usize, w: usize) -> usize
     requires { ⌜ at + w ≤ length (now out) ⌝ }
+    ensures { λ r. ⌜ r ≡ at + w ⌝ }
     ensures { λ _. ⌜ now (out .exit) ≡ over (now (out .entry)) at (numberBytes w x) ⌝ }
 {
     let mut rest = x;
@@ -26,11 +18,13 @@ pub fn put_number(out: &mut [u8], at: usize, x: usize, w: usize)
         rest = rest / 256;
         k += 1;
     }
+    at + w
 }
 
 // n bytes of an image from a place on.
-pub fn put_bytes(out: &mut [u8], at: usize, s: &[u8], place: usize, n: usize)
+pub fn put_bytes(out: &mut [u8], at: usize, s: &[u8], place: usize, n: usize) -> usize
     requires { ⌜ (at + n ≤ length (now out)) × (place + n ≤ length (now s)) ⌝ }
+    ensures { λ r. ⌜ r ≡ at + n ⌝ }
     ensures { λ _. ⌜ now (out .exit) ≡ over (now (out .entry)) at (bytesAt (now (s .entry)) place n) ⌝ }
 {
     let mut k: usize = 0;
@@ -38,4 +32,5 @@ pub fn put_bytes(out: &mut [u8], at: usize, s: &[u8], place: usize, n: usize)
         out[at + k] = s[place + k];
         k += 1;
     }
+    at + n
 }

@@ -7,6 +7,7 @@ use image::bytes::nth;
 use image::bytes::wide;
 use image::element::child_with_id;
 use image::element::element_width;
+use image::element::is_valid;
 use image::element::offset_at;
 use image::record::buffer_place;
 use image::record::child_count;
@@ -18,12 +19,15 @@ use image::type_code::TypeCode;
 use values::byte_view::data_place;
 use values::runs::run_of;
 ghost use mathlib.Core.Path.{_≡_};
+ghost use Prim.Native.Nat.{_<_, _^_};
 ghost use Rattle.image.specs.declared.type_code.Layout.the-variants.{Boolean, FixedWidth, VariableSize, View, List as Lists, ListView, FixedList, Struct, DenseUnion, SparseUnion, Dictionary, Runs};
-ghost use Rattle.image.specs.Record.{codeOf};
+ghost use Rattle.image.specs.Record.{codeOf, lengthOf};
 ghost use Rattle.image.specs.TypeCode.{layoutOf};
-ghost use Rattle.image.specs.Row.{booleanRow, fixedRow, variableRow, viewRow, listRow, listViewRow, fixedListRow, structRow, denseRow, sparseRow, dictionaryRow, runRow, valueAt};
+ghost use Rattle.image.specs.Element.{typeIdAt, childWithId};
+ghost use Rattle.image.specs.Row.{booleanRow, fixedRow, variableRow, viewRow, listRow, listViewRow, fixedListRow, structRow, unionRow, denseRow, sparseRow, dictionaryRow, runRow, valueAt};
+ghost use Rattle.laws.specs.Accepted.{IdKnown};
 ghost use Rattle.values.specs.Parts.{Part};
-ghost use Rattle.rows.specs.Value.{leafValue, nestedValue, Made};
+ghost use Rattle.rows.specs.Value.{leafValue, nestedValue, isNull, Made};
 
 pub struct Value {
     // the number in front: a text's length, a list's count, a union's id, a Boolean's bit
@@ -163,15 +167,23 @@ fn struct_value(s: &[u8], node: u32, j: usize) -> Value
     nested(0, 0, first_child(s, node), child_count(s, node), j, 1)
 }
 
-// "Union: the id byte, child row."
+// "Union: the id byte, child row." The row is one of the child that the id names.
+fn union_value(s: &[u8], node: u32, j: usize, row: usize) -> Value
+    requires { ⌜ Part (now s) node j 1 ⌝ }
+    requires { ⌜ IdKnown (now s) node j ⌝ }
+    requires { ⌜ row < lengthOf (now s) (childWithId (now s) node (typeIdAt (now s) node j)) ⌝ }
+    ensures { λ r. ⌜ Made (now (s .entry)) (λ sub. unionRow sub (now (s .entry)) node (typeIdAt (now (s .entry)) node j) row) r ⌝ }
+{
+    let id = byte(s, buffer_place(s, node, 0) + j);
+    nested(wide(id), ID_WIDTH, child_with_id(s, node, id), 1, row, 1)
+}
+
 fn dense_value(s: &[u8], node: u32, j: usize) -> Value
     requires { ⌜ Part (now s) node j 1 ⌝ }
     requires { ⌜ layoutOf (codeOf (now s) node) ≡ DenseUnion ⌝ }
     ensures { λ r. ⌜ Made (now (s .entry)) (λ sub. denseRow sub (now (s .entry)) node j) r ⌝ }
 {
-    let id = byte(s, buffer_place(s, node, 0) + j);
-    let row = nth(s, buffer_place(s, node, 1), 4, j);
-    nested(wide(id), ID_WIDTH, child_with_id(s, node, id), 1, row, 1)
+    union_value(s, node, j, nth(s, buffer_place(s, node, 1), 4, j))
 }
 
 fn sparse_value(s: &[u8], node: u32, j: usize) -> Value
@@ -179,8 +191,7 @@ fn sparse_value(s: &[u8], node: u32, j: usize) -> Value
     requires { ⌜ layoutOf (codeOf (now s) node) ≡ SparseUnion ⌝ }
     ensures { λ r. ⌜ Made (now (s .entry)) (λ sub. sparseRow sub (now (s .entry)) node j) r ⌝ }
 {
-    let id = byte(s, buffer_place(s, node, 0) + j);
-    nested(wide(id), ID_WIDTH, child_with_id(s, node, id), 1, j, 1)
+    union_value(s, node, j, j)
 }
 
 // "Dictionary, runs: the row of the values child."
@@ -198,6 +209,17 @@ fn run_value(s: &[u8], node: u32, j: usize) -> Value
     ensures { λ r. ⌜ Made (now (s .entry)) (λ sub. runRow sub (now (s .entry)) node j) r ⌝ }
 {
     nested(0, 0, first_child(s, node) + 1, 1, run_of(s, node, j), 1)
+}
+
+// Row i of a node is null: its bitmap bit is 0, or no depth is left.
+pub fn is_null(s: &[u8], node: u32, i: usize, depth: usize) -> bool
+    requires { ⌜ i < 2 ^ 34 ⌝ }
+    ensures { λ r. ⌜ r ≡ isNull depth (now (s .entry)) node i ⌝ }
+{
+    if depth == 0 {
+        return true;
+    }
+    !is_valid(s, node, i)
 }
 
 // What the value at element j of a node is made of.

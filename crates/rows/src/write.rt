@@ -1,10 +1,9 @@
 // The bytes of rows, put into a lent buffer that has room for them.
-use crate::output::put_byte;
 use crate::output::put_bytes;
 use crate::output::put_number;
 use crate::value::Value;
+use crate::value::is_null;
 use crate::value::value_at;
-use image::element::is_valid;
 use image::record::offset;
 ghost use mathlib.Core.Path.{_≡_};
 ghost use Prim.Native.Nat.{_+_, _≤_};
@@ -12,12 +11,15 @@ ghost use lib.ListN.{length};
 ghost use Rattle.image.specs.Row.{rowAt, range};
 ghost use Rattle.image.specs.RowBytes.{rowBytes, rowsBytes};
 ghost use Rattle.values.specs.Parts.{Side};
-ghost use Rattle.rows.specs.Output.{ownBytes, over, Fits};
+ghost use Rattle.rows.specs.Output.{over, Fits};
+ghost use Rattle.rows.specs.Value.{ownBytes};
 
 // The first byte of a row.
-const NULL: u8 = 0;
+const MARK_WIDTH: usize = 1;
 
-const NOT_NULL: u8 = 1;
+const NULL: usize = 0;
+
+const NOT_NULL: usize = 1;
 
 // What a value has before its child rows, put at a place of the buffer; the answer is the place after it.
 fn put_own(s: &[u8], v: Value, out: &mut [u8], at: usize) -> usize
@@ -26,12 +28,9 @@ fn put_own(s: &[u8], v: Value, out: &mut [u8], at: usize) -> usize
     ensures { λ r. ⌜ r ≡ at + length (ownBytes (now (s .entry)) v) ⌝ }
     ensures { λ _. ⌜ now (out .exit) ≡ over (now (out .entry)) at (ownBytes (now (s .entry)) v) ⌝ }
 {
-    let number = at + 1;
-    let bytes = number + v.width;
-    put_byte(out, at, NOT_NULL);
-    put_number(out, number, v.head, v.width);
-    put_bytes(out, bytes, s, v.place, v.size);
-    bytes + v.size
+    let number = put_number(out, at, NOT_NULL, MARK_WIDTH);
+    let bytes = put_number(out, number, v.head, v.width);
+    put_bytes(out, bytes, s, v.place, v.size)
 }
 
 // Row i of a node, put at a place of the buffer; the answer is the place after it.
@@ -41,13 +40,8 @@ fn write_row(s: &[u8], node: u32, i: usize, depth: usize, out: &mut [u8], at: us
     ensures { λ r. ⌜ r ≡ at + length (rowBytes (rowAt depth (now (s .entry)) node i)) ⌝ }
     ensures { λ _. ⌜ now (out .exit) ≡ over (now (out .entry)) at (rowBytes (rowAt depth (now (s .entry)) node i)) ⌝ }
 {
-    if depth == 0 {
-        put_byte(out, at, NULL);
-        return at + 1;
-    }
-    if !is_valid(s, node, i) {
-        put_byte(out, at, NULL);
-        return at + 1;
+    if is_null(s, node, i, depth) {
+        return put_number(out, at, NULL, MARK_WIDTH);
     }
     let v = value_at(s, node, offset(s, node) + i);
     let mut next = put_own(s, v, out, at);

@@ -1,5 +1,6 @@
 -- `put_bytes` puts bytes of an image over the buffer.
 -- The loop keeps that the bytes from byte k on, put after those that were put, give the whole.
+use mathlib.Core.Path.{refl}
 use Prim.Native.Nat.{_-_}
 use native.Mathlib.Omega.{arith}
 use borrow.Author.Needs.{needs}
@@ -37,11 +38,14 @@ loop-less c = search needs
 loop-again : tie.Need-loop-again Inv-loop μ-loop
 loop-again c = bytes-more (c .before .before .loop .inv) (c .before .loop-test .taken)
 
+add-result : tie.Need-add-result Inv-loop μ-loop
+add-result c = search needs
+
 same-length : tie.Need-same-length Inv-loop μ-loop
 same-length c = c .before .loop .inv .put .put .long
 
 returns : tie.Need-returns Inv-loop μ-loop
-returns c = bytes-done (c .before .loop .inv) (c .loop-test .left)
+returns c = (refl, bytes-done (c .before .loop .inv) (c .loop-test .left))
 
 pub put-bytes-spec : {M : Type 1} → statement M
 put-bytes-spec =
@@ -57,5 +61,6 @@ put-bytes-spec =
     add-k
     loop-less
     loop-again
+    add-result
     same-length
     returns)

@@ -1,5 +1,6 @@
 -- `put_number` puts the bytes of a number over the buffer.
 -- The loop keeps that the bytes of what is left of the number, put after those that were put, give the whole.
+use mathlib.Core.Path.{refl}
 use Prim.Native.Nat.{_-_}
 use native.Mathlib.Omega.{arith}
 use borrow.Author.Needs.{needs}
@@ -34,11 +35,14 @@ loop-less c = search needs
 loop-again : tie.Need-loop-again Inv-loop μ-loop
 loop-again c = number-more (c .before .loop .inv) (c .loop-test .taken)
 
+add-result : tie.Need-add-result Inv-loop μ-loop
+add-result c = search needs
+
 same-length : tie.Need-same-length Inv-loop μ-loop
 same-length c = c .before .loop .inv .put .long
 
 returns : tie.Need-returns Inv-loop μ-loop
-returns c = number-done (c .before .loop .inv) (c .loop-test .left)
+returns c = (refl, number-done (c .before .loop .inv) (c .loop-test .left))
 
 pub put-number-spec : {M : Type 1} → statement M
 put-number-spec =
@@ -53,5 +57,6 @@ put-number-spec =
     add-k
     loop-less
     loop-again
+    add-result
     same-length
     returns)

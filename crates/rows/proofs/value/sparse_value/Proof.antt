@@ -1,41 +1,15 @@
 -- `sparse_value` gives the id and the row of the child that it names, at the same place.
 -- The id of a row names a child, and each child is long enough.
-use native.Mathlib.Omega.{arith}
-use borrow.Author.Needs.{needs}
-use Rattle.values.proofs.Nodes.{id-read, part-small}
+use Rattle.values.proofs.ChildRows.{sparse-known, sparse-within}
 use Rattle.rows.proofs.NestedValues.{sparse-made}
 use Rattle.rows.proofs.value.sparse_value.Statement.{statement}
 use Rattle.rows.proofs.value.sparse_value.Tie as tie
 
-buffer-place-requires : tie.Need-buffer-place-requires
-buffer-place-requires c κs = search needs
-
-add-byte : tie.Need-add-byte
-add-byte c = omega (arith, part-small (c .before .before .pre .0), c .buffer-place .ensures .small)
-
-byte-requires : tie.Need-byte-requires
-byte-requires c κs = search needs
-
-wide-requires : tie.Need-wide-requires
-wide-requires c κs = search needs
-
-child-with-id-requires : tie.Need-child-with-id-requires
-child-with-id-requires c κs = search needs
-
-nested-requires : tie.Need-nested-requires
-nested-requires c κs = search needs
+union-value-requires : tie.Need-union-value-requires
+union-value-requires c κs = (c .before .pre .0, (sparse-known (c .before .pre .0) (c .before .pre .1), sparse-within (c .before .pre .0) (c .before .pre .1)))
 
 returns : tie.Need-returns
-returns c = sparse-made (c .before .before .before .before .before .before .pre .0) (id-read _ _ _ (c .before .before .before .before .buffer-place .ensures) (c .before .before .before .byte .ensures)) (c .before .before .wide .ensures) (c .before .child-with-id .ensures) (c .before .before .before .before .before .before .pre .1) (c .nested .ensures)
+returns c = sparse-made _ _ (c .union-value .ensures)
 
 pub sparse-value-spec : {M : Type 1} → statement M
-sparse-value-spec =
-    tie.close
-    (tie.spec
-    buffer-place-requires
-    add-byte
-    byte-requires
-    wide-requires
-    child-with-id-requires
-    nested-requires
-    returns)
+sparse-value-spec = tie.close (tie.spec union-value-requires returns)

@@ -3,23 +3,20 @@
 use Prim.Native.Nat.{ℕ, _-_}
 use native.Mathlib.Omega.{arith}
 use borrow.Author.Needs.{needs}
-use borrow.Author.Tests.{not-true, not-false}
-use mathlib.Core.Path.{_≡_, sym, _∙_}
-use mathlib.Core.Bool.{true}
-use Rattle.image.specs.Element.{valid}
+use mathlib.Core.Path.{sym, _∙_}
 use Rattle.image.specs.Row.{rowAt}
-use Rattle.rows.proofs.RowParts.{ValueOf, childBytes, row-ended, row-null, side-few, part-row, value-of}
+use Rattle.rows.proofs.RowParts.{ValueOf, childBytes, row-null, side-few, row-part, value-of}
 use Rattle.rows.proofs.Rooms.{PiecesToMeasure, measuring-start, measuring-more, measuring-short, measuring-done, none-short, null-left, value-short, value-left}
 use Rattle.rows.proofs.measure.measure_row.Reads as measure-row
 use Rattle.rows.proofs.measure.measure_rows.Reads as measure-rows
-use Rattle.image.proofs.element.is_valid.Reads as is-valid-reads
 use Rattle.image.proofs.record.offset.Reads as offset-reads
+use Rattle.rows.proofs.value.is_null.Reads as is-null-reads
 use Rattle.rows.proofs.value.value_at.Reads as value-at-reads
 use Rattle.rows.proofs.measure.+measure_row+measure_rows.Lts-measure_row as lts
 use Rattle.rows.proofs.measure.+measure_row+measure_rows.Proof.Measures.{measure-row-at, measure-rows-below}
 
 abbrev calls : ℕ → lts.Claims
-calls t = (is-valid-reads.Asked, is-valid-reads.Learnt, offset-reads.Asked, offset-reads.Learnt, value-at-reads.Asked, value-at-reads.Learnt, measure-rows-below t, measure-rows.Post)
+calls t = (is-null-reads.Asked, is-null-reads.Learnt, offset-reads.Asked, offset-reads.Learnt, value-at-reads.Asked, value-at-reads.Learnt, measure-rows-below t, measure-rows.Post)
 
 abbrev Inv-loop : lts.InvT-loop
 Inv-loop s node i depth room v own left₀ c₀ left c = ValueOf depth s node i v × PiecesToMeasure (childBytes (rowAt (depth - 1) s) v) (v .child) (v .parts) left₀ left c
@@ -27,60 +24,51 @@ Inv-loop s node i depth room v own left₀ c₀ left c = ValueOf depth s node i 
 abbrev μ-loop : lts.MeasureT-loop
 μ-loop s node i depth room v own left₀ c₀ left c = v .parts - c
 
--- what the places of the body tell
-not-null : (t : ℕ) (c : lts.Else3 (calls t) (measure-row-at t) measure-row.Post Inv-loop μ-loop) → valid (c .before .before .before .before .before .args .s .now) (c .before .before .before .before .before .args .node) (c .before .before .before .before .before .args .i) ≡ true
-not-null t c = sym (c .before .is-valid .ensures) ∙ not-false (c .before .is-valid .result) (c .if3 .left)
-
-value : (t : ℕ) (c : lts.After-value-at (calls t) (measure-row-at t) measure-row.Post Inv-loop μ-loop) → ValueOf (c .before .before .before .before .before .before .before .args .depth) (c .before .before .before .before .before .before .before .args .s .now) (c .before .before .before .before .before .before .before .args .node) (c .before .before .before .before .before .before .before .args .i) (c .value-at .result)
-value t c = value-of (c .before .before .before .before .before .before .before .pre .1) (not-null t (c .before .before)) (c .before .offset .ensures) (c .before .before .before .before .if2 .left) (c .value-at .ensures)
+-- the row is a value
+value : (t : ℕ) (c : lts.After-value-at (calls t) (measure-row-at t) measure-row.Post Inv-loop μ-loop) → ValueOf (c .before .before .before .before .before .before .args .depth) (c .before .before .before .before .before .before .args .s .now) (c .before .before .before .before .before .before .args .node) (c .before .before .before .before .before .before .args .i) (c .value-at .result)
+value t c = value-of _ (c .before .before .before .before .before .before .pre .1) (c .before .before .before .is-null .ensures) (c .before .before .if2 .left) (c .before .offset .ensures) (c .value-at .ensures)
 
 returns : (t : ℕ) → lts.Need-returns (calls t) (measure-row-at t) measure-row.Post Inv-loop μ-loop
 returns t c = none-short (c .before .before .args .room) _ (c .if1 .taken)
 
-sub-t12 : (t : ℕ) → lts.Need-sub-t12 (calls t) (measure-row-at t) measure-row.Post Inv-loop μ-loop
-sub-t12 t c = search needs
+is-null-requires : (t : ℕ) → lts.Need-is-null-requires (calls t) (measure-row-at t) measure-row.Post Inv-loop μ-loop
+is-null-requires t c κs = omega (arith, side-few (c .before .before .pre .1))
+
+sub-t13 : (t : ℕ) → lts.Need-sub-t13 (calls t) (measure-row-at t) measure-row.Post Inv-loop μ-loop
+sub-t13 t c = search needs
 
 returns-2 : (t : ℕ) → lts.Need-returns-2 (calls t) (measure-row-at t) measure-row.Post Inv-loop μ-loop
-returns-2 t c = null-left (c .before .before .before .args .room) _ (row-ended _ _ _ _ (c .if2 .taken)) (c .before .if1 .left)
-
-is-valid-requires : (t : ℕ) → lts.Need-is-valid-requires (calls t) (measure-row-at t) measure-row.Post Inv-loop μ-loop
-is-valid-requires t c κs = omega (arith, side-few (c .before .before .before .pre .1))
-
-sub-t14 : (t : ℕ) → lts.Need-sub-t14 (calls t) (measure-row-at t) measure-row.Post Inv-loop μ-loop
-sub-t14 t c = search needs
-
-returns-3 : (t : ℕ) → lts.Need-returns-3 (calls t) (measure-row-at t) measure-row.Post Inv-loop μ-loop
-returns-3 t c = null-left (c .before .before .before .before .before .args .room) _ (row-null _ _ _ _ (sym (c .before .is-valid .ensures) ∙ not-true (c .before .is-valid .result) (c .if3 .taken))) (c .before .before .before .if1 .left)
+returns-2 t c = null-left (c .before .before .before .before .args .room) _ (row-null _ _ _ _ (sym (c .before .is-null .ensures) ∙ c .if2 .taken)) (c .before .before .if1 .left)
 
 offset-requires : (t : ℕ) → lts.Need-offset-requires (calls t) (measure-row-at t) measure-row.Post Inv-loop μ-loop
 offset-requires t c κs = search needs
 
 add-value-at : (t : ℕ) → lts.Need-add-value-at (calls t) (measure-row-at t) measure-row.Post Inv-loop μ-loop
-add-value-at t c = omega (arith, side-few (c .before .before .before .before .before .before .pre .1), c .offset .ensures .value)
+add-value-at t c = omega (arith, side-few (c .before .before .before .before .before .pre .1), c .offset .ensures .value)
 
 value-at-requires : (t : ℕ) → lts.Need-value-at-requires (calls t) (measure-row-at t) measure-row.Post Inv-loop μ-loop
-value-at-requires t c κs = part-row (c .before .before .before .before .before .before .pre .1) (not-null t (c .before)) (c .offset .ensures)
+value-at-requires t c κs = row-part _ (c .before .before .before .before .before .pre .1) (c .before .before .is-null .ensures) (c .before .if2 .left) (c .offset .ensures)
 
 add-own : (t : ℕ) → lts.Need-add-own (calls t) (measure-row-at t) measure-row.Post Inv-loop μ-loop
 add-own t c = omega (arith, c .before .value-at .ensures .narrow)
 
 add-own-2 : (t : ℕ) → lts.Need-add-own-2 (calls t) (measure-row-at t) measure-row.Post Inv-loop μ-loop
-add-own-2 t c = omega (arith, c .before .before .value-at .ensures .narrow, c .before .before .value-at .ensures .inside, c .before .before .before .before .before .before .before .before .before .good .0 .1)
+add-own-2 t c = omega (arith, c .before .before .value-at .ensures .narrow, c .before .before .value-at .ensures .inside, c .before .before .before .before .before .before .before .before .good .0 .1)
 
-returns-4 : (t : ℕ) → lts.Need-returns-4 (calls t) (measure-row-at t) measure-row.Post Inv-loop μ-loop
-returns-4 t c = value-short (value t (c .before .before .before)) (c .before .before .before .before .before .before .before .before .before .before .args .room) (c .if4 .taken)
+returns-3 : (t : ℕ) → lts.Need-returns-3 (calls t) (measure-row-at t) measure-row.Post Inv-loop μ-loop
+returns-3 t c = value-short (value t (c .before .before .before)) (c .before .before .before .before .before .before .before .before .before .args .room) (c .if3 .taken)
 
 loop-holds : (t : ℕ) → lts.Need-loop-holds (calls t) (measure-row-at t) measure-row.Post Inv-loop μ-loop
 loop-holds t c = (value t (c .before .before .before), measuring-start _ _ _)
 
 add-measure-rows : (t : ℕ) → lts.Need-add-measure-rows (calls t) (measure-row-at t) measure-row.Post Inv-loop μ-loop
-add-measure-rows t c = omega (arith, c .before .before .before .loop .inv .0 .few, c .before .if5 .taken)
+add-measure-rows t c = omega (arith, c .before .before .before .loop .inv .0 .few, c .before .if4 .taken)
 
 sub-measure-rows : (t : ℕ) → lts.Need-sub-measure-rows (calls t) (measure-row-at t) measure-row.Post Inv-loop μ-loop
-sub-measure-rows t c = search needs
+sub-measure-rows t c = omega (arith, c .before .before .before .loop .inv .0 .deep)
 
 measure-rows-requires : (t : ℕ) → lts.Need-measure-rows-requires (calls t) (measure-row-at t) measure-row.Post Inv-loop μ-loop
-measure-rows-requires t c κs = (omega (arith, c .before .before .before .before .before .before .before .before .before .before .before .before .before .before .pre .0, c .before .before .before .before .before .before .before .before .before .before .before .if2 .left), c .before .before .before .loop .inv .0 .parts (c .before .before .before .loop .c) (c .before .if5 .taken))
+measure-rows-requires t c κs = (omega (arith, c .before .before .before .before .before .before .before .before .before .before .before .before .before .pre .0, c .before .before .before .loop .inv .0 .deep), c .before .before .before .loop .inv .0 .parts (c .before .before .before .loop .c) (c .before .if4 .taken))
 
 enum-known-rest : (t : ℕ) → lts.Need-enum-known-rest (calls t) (measure-row-at t) measure-row.Post Inv-loop μ-loop
 enum-known-rest t c = search needs
@@ -88,44 +76,42 @@ enum-known-rest t c = search needs
 enum-told : (t : ℕ) → lts.Need-enum-told (calls t) (measure-row-at t) measure-row.Post Inv-loop μ-loop
 enum-told t c = search needs
 
-returns-5 : (t : ℕ) → lts.Need-returns-5 (calls t) (measure-row-at t) measure-row.Post Inv-loop μ-loop
-returns-5 t c = measuring-short (c .before .before .before .before .before .before .loop .inv .1) (c .before .before .before .before .if5 .taken) (sym (c .enum-told .given .1) ∙ c .before .before .measure-rows .ensures) ∙ value-left (c .before .before .before .before .before .before .loop .inv .0) (c .before .before .before .before .before .before .before .before .before .before .before .before .before .before .before .before .before .args .room) (c .before .before .before .before .before .before .before .if4 .left)
+returns-4 : (t : ℕ) → lts.Need-returns-4 (calls t) (measure-row-at t) measure-row.Post Inv-loop μ-loop
+returns-4 t c = measuring-short (c .before .before .before .before .before .before .loop .inv .1) (c .before .before .before .before .if4 .taken) (sym (c .enum-told .given .1) ∙ c .before .before .measure-rows .ensures) ∙ value-left (c .before .before .before .before .before .before .loop .inv .0) (c .before .before .before .before .before .before .before .before .before .before .before .before .before .before .before .before .args .room) (c .before .before .before .before .before .before .before .if3 .left)
 
 add-c : (t : ℕ) → lts.Need-add-c (calls t) (measure-row-at t) measure-row.Post Inv-loop μ-loop
-add-c t c = omega (arith, c .before .before .before .before .before .before .before .loop .inv .0 .few, c .before .before .before .before .before .if5 .taken)
+add-c t c = omega (arith, c .before .before .before .before .before .before .before .loop .inv .0 .few, c .before .before .before .before .before .if4 .taken)
 
 loop-less : (t : ℕ) → lts.Need-loop-less (calls t) (measure-row-at t) measure-row.Post Inv-loop μ-loop
 loop-less t c = search needs
 
 loop-again : (t : ℕ) → lts.Need-loop-again (calls t) (measure-row-at t) measure-row.Post Inv-loop μ-loop
-loop-again t c = (c .before .before .before .before .before .before .before .loop .inv .0, measuring-more (c .before .before .before .before .before .before .before .loop .inv .1) (c .before .before .before .before .before .if5 .taken) (sym (c .before .rest .given .1) ∙ c .before .before .before .measure-rows .ensures))
+loop-again t c = (c .before .before .before .before .before .before .before .loop .inv .0, measuring-more (c .before .before .before .before .before .before .before .loop .inv .1) (c .before .before .before .before .before .if4 .taken) (sym (c .before .rest .given .1) ∙ c .before .before .before .measure-rows .ensures))
 
-returns-6 : (t : ℕ) → lts.Need-returns-6 (calls t) (measure-row-at t) measure-row.Post Inv-loop μ-loop
-returns-6 t c = measuring-done (c .before .before .loop .inv .1) (c .if5 .left) ∙ value-left (c .before .before .loop .inv .0) (c .before .before .before .before .before .before .before .before .before .before .before .before .before .args .room) (c .before .before .before .if4 .left)
+returns-5 : (t : ℕ) → lts.Need-returns-5 (calls t) (measure-row-at t) measure-row.Post Inv-loop μ-loop
+returns-5 t c = measuring-done (c .before .before .loop .inv .1) (c .if4 .left) ∙ value-left (c .before .before .loop .inv .0) (c .before .before .before .before .before .before .before .before .before .before .before .before .args .room) (c .before .before .before .if3 .left)
 
 pub proof : {M : Type 1} (t : ℕ) → lts.Closed (calls t) (measure-row-at t) measure-row.Post M
 proof t =
     lts.spec (calls t) (measure-row-at t) measure-row.Post Inv-loop μ-loop
     (returns t)
-    (sub-t12 t)
+    (is-null-requires t)
+    (sub-t13 t)
     (returns-2 t)
-    (is-valid-requires t)
-    (sub-t14 t)
-    (returns-3 t)
     (offset-requires t)
     (add-value-at t)
     (value-at-requires t)
     (add-own t)
     (add-own-2 t)
-    (returns-4 t)
+    (returns-3 t)
     (loop-holds t)
     (add-measure-rows t)
     (sub-measure-rows t)
     (measure-rows-requires t)
     (enum-known-rest t)
     (enum-told t)
-    (returns-5 t)
+    (returns-4 t)
     (add-c t)
     (loop-less t)
     (loop-again t)
-    (returns-6 t)
+    (returns-5 t)
