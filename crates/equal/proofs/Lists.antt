@@ -4,14 +4,15 @@
 use mathlib.Core.Path.{_≡_, sym, _∙_}
 use mathlib.Core.Bool.{true, false}
 use mathlib.Core.List.{List}
-use Prim.Native.Nat.{ℕ, zero, suc, _+_, _-_, _<_, _≤_}
+use Prim.Native.Nat.{ℕ, zero, suc, _+_, _*_, _-_, _<_, _≤_}
 use native.Mathlib.Omega.{arith}
 use native.Mathlib.Nat.{zero-add}
+use lib.ListN.{length}
 use borrow.Author.Tests.{eqb-true, eqb-false}
 use Rattle.image.specs.declared.type_code.Layout.the-variants.{List as Lists}
-use Rattle.image.specs.Record.{codeOf, lengthOf, firstChild, childCount}
-use Rattle.image.specs.TypeCode.{layoutOf}
-use Rattle.image.specs.Element.{elementWidth, elementAt}
+use Rattle.image.specs.Record.{codeOf, lengthOf, firstChild, childCount, bufferCount}
+use Rattle.image.specs.TypeCode.{layoutOf, bufferRule}
+use Rattle.image.specs.Element.{elementWidth, elementPlace, elementAt}
 use Rattle.image.specs.Reads.{Read}
 use Rattle.image.specs.Row.{Row, listRow, rowAt}
 use Rattle.image.specs.Equality.{rowEqual}
@@ -19,7 +20,7 @@ use Rattle.values.specs.Pairs.{all, rangeEqual, spanAt, sameSpan}
 use Rattle.values.specs.Parts.{Sides, Parts, Spans}
 use Rattle.values.proofs.Steps.{sameRow, by-rows}
 use Rattle.values.proofs.Blocks.{all-at, all-weaker, Rise, blocks}
-use Rattle.values.proofs.Nodes.{part-node, part-small}
+use Rattle.values.proofs.Nodes.{part-node, part-small, part-offsets}
 use Rattle.equal.proofs.Rows.{lengths-differ}
 use Rattle.equal.proofs.Child.{layout-right, widths-same, count-left, first-sides}
 
@@ -72,6 +73,18 @@ module _ {a b : List ℕ} {k l i j n d : ℕ} (r : Parts a b k l i j n d) (lists
   rise-right : Rise (elementAt b l) j n
   rise-right h le lt = part-node (r .right) .places .lists (layout-right r lists) .rise h (omega (arith, r .right .high))
 
+  offsets-left : elementPlace a k i + (n + 1) * elementWidth a k ≤ length a
+  offsets-left =
+      let node = part-node (r .left) in
+      let one : bufferCount a k ≡ 1 = node .buffers .exactly 1 (rw lists) in
+      part-offsets (r .left) (omega arith) (node .enough .lists lists)
+
+  offsets-right : elementPlace b l j + (n + 1) * elementWidth b l ≤ length b
+  offsets-right =
+      let node = part-node (r .right) in
+      let one : bufferCount b l ≡ 1 = node .buffers .exactly 1 (rw (layout-right r lists)) in
+      part-offsets (r .right) (omega arith) (node .enough .lists (layout-right r lists))
+
   -- what the comparison of lengths asks for
   pub list-spans : Spans a b k l i j n
   list-spans = record {
@@ -81,6 +94,8 @@ module _ {a b : List ℕ} {k l i j n d : ℕ} (r : Parts a b k l i j n d) (lists
     right = rise-right;
     left-small = omega (arith, part-small (r .left));
     right-small = omega (arith, part-small (r .right));
+    left-inside = offsets-left;
+    right-inside = offsets-right;
   }
 
   -- offsets are read within a word

@@ -3,6 +3,7 @@ use crate::equal_range;
 use image::record::first_child;
 use values::runs::run_end;
 use values::runs::run_of;
+use values::runs::same_runs;
 ghost use mathlib.Core.Path.{_≡_};
 ghost use Prim.Native.Nat.{_+_, _<_, _≤_, _^_, min};
 ghost use Rattle.image.specs.declared.type_code.Layout.the-variants.{Runs};
@@ -18,7 +19,8 @@ fn least(x: usize, y: usize) -> usize
     if x < y { x } else { y }
 }
 
-// Runs: the values of overlapping runs, stepping over the shorter of the two; the stepping ends as soon as one pair differs.
+// Runs: where the runs of both sides end together, their values as one range; else the values of overlapping runs, stepping
+// over the shorter of the two; the stepping ends as soon as one pair differs.
 pub fn run_equal(
     a: &[u8],
     an: u32,
@@ -42,6 +44,10 @@ pub fn run_equal(
     }
     let mut i = run_of(a, an, s);
     let mut j = run_of(b, bn, t);
+    let runs = same_runs(a, an, b, bn, s, t, n, i, j);
+    if runs > 0 {
+        return equal_range(a, va, b, vb, i, j, runs, depth);
+    }
     'runs: while k < n {
         if !equal_range(a, va, b, vb, i, j, 1, depth) {
             equal = false;

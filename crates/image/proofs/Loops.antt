@@ -4,11 +4,12 @@ use mathlib.Core.Path.{_≡_, refl, sym, ap, _∙_}
 use mathlib.Core.Bool.{Bool, true, false, not, cond, _&&_, _||_}
 use Prim.Native.Nat.{ℕ, zero, suc, _+_, _*_, _-_, _<_, _≤_}
 use native.Mathlib.Omega.{arith}
-use native.Mathlib.Nat.{add-zero, sub-zero}
+use native.Mathlib.Nat.{add-zero, zero-add, sub-zero}
 use native.Mathlib.Numerals.{add-one}
 use lib.Dec.{leb}
 use borrow.Author.Tests.{le-leb, lt-leb}
 use Rattle.image.specs.Ranges.{any, first, sumTo, rises}
+use Rattle.image.proofs.Bools.{or-none}
 
 -- F over n numbers from i on is F over those from i + k on
 pub record Rest {A : Type 0} (F : ℕ → ℕ → A) (i n k : ℕ) : Type 0 where
@@ -34,6 +35,27 @@ module _ {A : Type 0} (F : ℕ → ℕ → A) (i n : ℕ) where
       let x : i + (k + 1) ≡ suc (i + k) = omega arith in
       record { within = omega arith; same = ahead k lt r ∙ e ∙ ap (λ (m : ℕ). F m (n - (k + 1))) (sym x) }
 
+or-assoc : (x y z : Bool) → x || (y || z) ≡ x || y || z
+or-assoc true y z = refl
+or-assoc false y z = refl
+
+any-split : (p : ℕ → Bool) (i m n : ℕ) → any p i (m + n) ≡ any p i m || any p (i + m) n
+unfolding any
+any-split p i zero n = rw (zero-add n, add-zero i)
+any-split p i (suc m) n =
+    let e : suc m + n ≡ suc (m + n) = omega arith in
+    let x : i + suc m ≡ suc i + m = omega arith in
+    rw (e, x, any-split p (suc i) m n) (or-assoc (p i) _ _)
+
+-- a test of one number more at the end
+pub any-snoc : (p : ℕ → Bool) (i k : ℕ) → any p i (k + 1) ≡ any p i k || p (i + k)
+unfolding any
+any-snoc p i k = any-split p i k 1 ∙ ap (λ (x : Bool). any p i k || x) (or-none (p (i + k)))
+
+pub any-empty : (p : ℕ → Bool) (i : ℕ) → false ≡ any p i 0
+unfolding any
+any-empty p i = refl
+
 module _ (p : ℕ → Bool) (i n : ℕ) where
   pub any-more : (k : ℕ) → k < n → Rest (any p) i n k → p (i + k) ≡ false → Rest (any p) i n (k + 1)
   unfolding any
@@ -46,6 +68,19 @@ module _ (p : ℕ → Bool) (i n : ℕ) where
   pub any-done : (k : ℕ) → n ≤ k → Rest (any p) i n k → false ≡ any p i n
   unfolding any
   any-done k le r = sym (over (any p) i n k le r)
+
+  -- m numbers at once
+  jump : (k m : ℕ) → m ≤ n - k → any p (i + k) (n - k) ≡ any p (i + k) m || any p (i + (k + m)) (n - (k + m))
+  jump k m le =
+      let e : n - k ≡ m + (n - (k + m)) = omega arith in
+      let x : i + (k + m) ≡ i + k + m = omega arith in
+      rw (e, x) (any-split p (i + k) m (n - (k + m)))
+
+  pub any-jump : (k m : ℕ) → m ≤ n - k → Rest (any p) i n k → any p (i + k) m ≡ false → Rest (any p) i n (k + m)
+  any-jump k m le r e = record { within = omega (arith, r .within); same = r .same ∙ jump k m le ∙ rw e }
+
+  pub jump-found : (k m : ℕ) → m ≤ n - k → Rest (any p) i n k → any p (i + k) m ≡ true → true ≡ any p i n
+  jump-found k m le r e = sym (r .same ∙ jump k m le ∙ rw e)
 
   pub first-more : (k : ℕ) → k < n → Rest (first p) i n k → p (i + k) ≡ false → Rest (first p) i n (k + 1)
   unfolding first

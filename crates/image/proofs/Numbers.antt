@@ -1,17 +1,18 @@
--- Laws of little-endian numbers: past the end they are 0, a byte more makes the next, and four and eight bytes written out.
--- By induction over the width; the bounds by powers of 2.
+-- Laws of little-endian numbers: 0 past the end, a byte more makes the next, four and eight bytes written out, many side by side.
+-- By induction over the width; the bounds by powers of 2 and products.
 use mathlib.Core.Path.{_≡_, refl, sym, ap, _∙_}
 use mathlib.Core.Bool.{Bool, true, false}
 use mathlib.Core.List.{List}
+use mathlib.Core.Logic.{_⊎_, inl, inr}
 use Prim.Native.Nat.{ℕ, zero, suc, _+_, _*_, _-_, _/_, _%_, _<_, _≤_, _^_}
 use native.Mathlib.Omega.{arith}
-use native.Mathlib.Nat.{pow-le-pow-right, zero-div, mul-le-mul}
+use native.Mathlib.Nat.{pow-le-pow-right, zero-div, mul-le-mul, le-refl, suc-mul}
 use lib.Pow.{pow-add}
 use native.Mathlib.Numerals.{add-one, add-two, add-three}
 use lib.Dec.{eqb, lit<, lit≤}
 use lib.ListN.{length, getD, List·getD-eq-default}
 use Rattle.image.specs.Bytes.{byteAt, numberAt, bitAt}
-use Rattle.image.specs.Reads.{Read}
+use Rattle.image.specs.Reads.{Read, Packed}
 
 pub byte-past : (s : List ℕ) (i : ℕ) → length s ≤ i → byteAt s i ≡ 0
 byte-past s i le = List·getD-eq-default s 0 {n = i} le
@@ -19,6 +20,10 @@ byte-past s i le = List·getD-eq-default s 0 {n = i} le
 -- a number read through another variable
 pub read-through : {x y r bits : ℕ} → Read x bits r → Read y bits x → Read y bits r
 read-through p q = record { value = p .value ∙ q .value; small = p .small }
+
+-- a number whose width is known
+pub read-as : {w v r : ℕ} (s : List ℕ) (i : ℕ) → w ≡ v → Read (numberAt v s i) (8 * v) r → Read (numberAt w s i) (8 * w) r
+read-as s i e p = rw e p
 
 pub number-past : (w : ℕ) (s : List ℕ) (i : ℕ) → length s ≤ i → numberAt w s i ≡ 0
 unfolding numberAt
@@ -88,3 +93,30 @@ pub times-small : (j w : ℕ) → j < 2 ^ 40 → w ≤ 8 → j * w ≤ 2 ^ 43
 times-small j w few narrow =
     let le : j ≤ 2 ^ 40 = omega arith in
     mul-le-mul le narrow
+
+-- numbers that lie side by side inside n bytes: there are at most n, fewer lie inside too, and so does each of them
+pub packed-few : {n place w count : ℕ} → Packed n place w count → count ≤ n
+packed-few {n} {place} {w} {count} p = cases (p .whole)
+  where
+    cases : (w ≡ 4) ⊎ (w ≡ 8) → count ≤ n
+    cases (inl e) =
+        let h : place + count * 4 ≤ n = rw (← e) (p .inside) in
+        omega arith
+    cases (inr e) =
+        let h : place + count * 8 ≤ n = rw (← e) (p .inside) in
+        omega arith
+
+pub packed-fewer : {n place w count : ℕ} (m : ℕ) → m ≤ count → Packed n place w count → Packed n place w m
+packed-fewer {n} {place} {w} {count} m le p =
+    let h : m * w ≤ count * w = mul-le-mul le (le-refl w) in
+    record { whole = p .whole; inside = omega (arith, p .inside) }
+
+pub packed-last : {n place w : ℕ} (j : ℕ) → Packed n place w (j + 1) → place + j * w + w ≤ n
+packed-last {n} {place} {w} j p =
+    let h : (j + 1) * w ≡ j * w + w = rw (add-one j) (suc-mul j w) in
+    omega (arith, p .inside)
+
+-- a width of 4 or 8 that is not 4
+pub not-four : {w : ℕ} → (w ≡ 4) ⊎ (w ≡ 8) → (w ≡ 4 → ⊥) → w ≡ 8
+not-four (inl e) ne = absurd (ne e)
+not-four (inr e) ne = e

@@ -1,7 +1,8 @@
 -- What a reader's contract says of its result.
 use mathlib.Core.Path.{_≡_}
 use mathlib.Core.List.{List}
-use Prim.Native.Nat.{ℕ, _<_, _≤_, _^_}
+use mathlib.Core.Logic.{_⊎_}
+use Prim.Native.Nat.{ℕ, _+_, _*_, _<_, _≤_, _^_}
 use lib.ListN.{length, getD}
 use Rattle.image.specs.Element.{childWithId}
 
@@ -15,6 +16,11 @@ pub record Nth (place w j : ℕ) : Type 0 where
   pub near : place < 2 ^ 40
   pub narrow : w ≤ 8
   pub few : j < 2 ^ 40
+
+-- of n bytes those from a place on hold so many numbers of w bytes, and w is 4 or 8
+pub record Packed (n place w count : ℕ) : Type 0 where
+  pub whole : (w ≡ 4) ⊎ (w ≡ 8)
+  pub inside : place + count * w ≤ n
 
 -- a table of the children of union k by their type ids: entry id is the child that has it, or the children's end
 pub record ById (s : List ℕ) (k : ℕ) (table : List ℕ) : Type 0 where

@@ -1,8 +1,9 @@
 // Bytes, little-endian numbers and bits of a slice. Past the slice's end every byte reads as 0.
 ghost use mathlib.Core.Path.{_≡_};
 ghost use Prim.Native.Nat.{_+_, _*_, _≤_};
+ghost use lib.ListN.{length};
 ghost use Rattle.image.specs.Bytes.{byteAt, numberAt, bitAt};
-ghost use Rattle.image.specs.Reads.{Read, Nth};
+ghost use Rattle.image.specs.Reads.{Read, Nth, Packed};
 
 // The byte at a place.
 pub fn byte(s: &[u8], i: usize) -> u8
@@ -46,27 +47,44 @@ fn by_bytes(s: &[u8], i: usize, w: usize) -> usize
     x
 }
 
+// The number that the four bytes at a place make, which lie inside: one load.
+pub fn quad(s: &[u8], i: usize) -> usize
+    requires { ⌜ i + 4 ≤ length (now s) ⌝ }
+    ensures { λ r. ⌜ Read (numberAt 4 (now (s .entry)) i) 32 r ⌝ }
+{
+    wide(s[i]) + 256 * wide(s[i + 1]) + 65536 * wide(s[i + 2]) + 16777216 * wide(s[i + 3])
+}
+
+// The number that the eight bytes at a place make, which lie inside: one load.
+pub fn octet(s: &[u8], i: usize) -> usize
+    requires { ⌜ i + 8 ≤ length (now s) ⌝ }
+    ensures { λ r. ⌜ Read (numberAt 8 (now (s .entry)) i) 64 r ⌝ }
+{
+    quad(s, i) + 4294967296 * quad(s, i + 4)
+}
+
 // The number that the four bytes at a place make.
 pub fn le32(s: &[u8], i: usize) -> usize
     ensures { λ r. ⌜ Read (numberAt 4 (now (s .entry)) i) 32 r ⌝ }
 {
-    if s.len() < 4 {
-        return by_bytes(s, i, 4);
+    if 4 <= s.len() {
+        if i <= s.len() - 4 {
+            return quad(s, i);
+        }
     }
-    if s.len() - 4 < i {
-        return by_bytes(s, i, 4);
-    }
-    wide(s[i]) + 256 * wide(s[i + 1]) + 65536 * wide(s[i + 2]) + 16777216 * wide(s[i + 3])
+    by_bytes(s, i, 4)
 }
 
 // The number that the eight bytes at a place make.
 pub fn le64(s: &[u8], i: usize) -> usize
     ensures { λ r. ⌜ Read (numberAt 8 (now (s .entry)) i) 64 r ⌝ }
 {
-    if s.len() <= i {
-        return 0;
+    if 8 <= s.len() {
+        if i <= s.len() - 8 {
+            return octet(s, i);
+        }
     }
-    le32(s, i) + 4294967296 * le32(s, i + 4)
+    by_bytes(s, i, 8)
 }
 
 // The number that the w bytes at a place make.
@@ -74,11 +92,17 @@ pub fn number(s: &[u8], i: usize, w: usize) -> usize
     requires { ⌜ w ≤ 8 ⌝ }
     ensures { λ r. ⌜ Read (numberAt w (now (s .entry)) i) (8 * w) r ⌝ }
 {
-    match w {
-        4 => le32(s, i),
-        8 => le64(s, i),
-        _ => by_bytes(s, i, w),
+    if w <= s.len() {
+        if i <= s.len() - w {
+            if w == 4 {
+                return quad(s, i);
+            }
+            if w == 8 {
+                return octet(s, i);
+            }
+        }
     }
+    by_bytes(s, i, w)
 }
 
 // Number j of those of w bytes that stand one after the other from a place on.
@@ -87,6 +111,17 @@ pub fn nth(s: &[u8], place: usize, w: usize, j: usize) -> usize
     ensures { λ r. ⌜ Read (numberAt w (now (s .entry)) (place + j * w)) (8 * w) r ⌝ }
 {
     number(s, place + j * w, w)
+}
+
+// The same where w is 4 or 8 and the number lies inside: no test but that of w, which a loop makes once.
+pub fn nth_inside(s: &[u8], place: usize, w: usize, j: usize) -> usize
+    requires { ⌜ Packed (length (now s)) place w (j + 1) ⌝ }
+    ensures { λ r. ⌜ Read (numberAt w (now (s .entry)) (place + j * w)) (8 * w) r ⌝ }
+{
+    if w == 4 {
+        return quad(s, place + j * w);
+    }
+    octet(s, place + j * w)
 }
 
 // Bit j of the bits that start at a place.

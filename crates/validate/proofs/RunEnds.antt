@@ -30,7 +30,8 @@ sign-least w low high = leb-true 1 (signBit w) (and-left _ _ (signs w low high))
 pub sign-most : (w : ℕ) → 1 ≤ w → w ≤ 8 → signBit w ≤ 2 ^ 63
 sign-most w low high = leb-true (signBit w) (2 ^ 63) (and-right (leb 1 (signBit w)) _ (signs w low high))
 
-shift : (b o j w : ℕ) → b + o * w + j * w ≡ b + (o + j) * w
+-- a number past a start
+pub shift : (b o j w : ℕ) → b + o * w + j * w ≡ b + (o + j) * w
 shift b o j w = add-assoc b (o * w) (j * w) ∙ ap (λ (x : ℕ). b + x) (sym (add-mul o j w))
 
 -- what was read of runs

@@ -1,7 +1,9 @@
 // 18: in its rows a node names a child, a key, a view or a dense offset that is not there, or its run ends are wrong.
+use crate::rise::is_packed;
 use crate::rise::rise;
 use image::bytes::byte;
 use image::bytes::le32;
+use image::bytes::nth_inside;
 use image::bytes::number;
 use image::bytes::wide;
 use image::element::children_by_id;
@@ -14,6 +16,7 @@ use image::record::child_count;
 use image::record::code;
 use image::record::elements;
 use image::record::first_child;
+use image::record::has_bitmap;
 use image::record::length;
 use image::record::offset;
 use image::record::p1;
@@ -22,11 +25,15 @@ use image::type_code::TypeCode;
 ghost use mathlib.Core.Path.{_≡_};
 ghost use mathlib.Core.Bool.{_||_, not};
 ghost use Prim.Native.Nat.{_+_, _*_, _<_, _≤_, _^_};
+ghost use lib.ListN.{length};
 ghost use Rattle.image.specs.Ranges.{any};
+ghost use Rattle.image.specs.Reads.{Packed};
 ghost use Rattle.image.specs.Record.{lengthOf};
 ghost use Rattle.image.specs.Element.{elementWidth, viewLength};
-ghost use Rattle.validate.specs.Strides.{KeyLimit};
+ghost use Rattle.validate.specs.Strides.{KeyLimit, Keys, numberIn, reaches};
 ghost use Rattle.image.specs.Faults.{fault18, denseStray, sparseStray, keyStray, viewStray, viewFault, padded, strayed, runEndsRise, runEndsShort};
+
+const BLOCK: usize = 64;
 
 const VIEW_SIZE: usize = 16;
 
@@ -93,16 +100,55 @@ fn key_limit(image: &[u8], node: u32, width: usize) -> usize
     if sign < rows { sign } else { rows }
 }
 
-// A row of a Dictionary that is not null has a key outside the values.
-fn keys_astray(image: &[u8], node: u32) -> bool
-    requires { ⌜ elementWidth (now image) node ≤ 8 ⌝ }
+// One of 64 numbers from number k on is not below the limit. There is no way out of the loop, so that the compiler
+// compares many at once.
+fn reach_in_block(image: &[u8], place: usize, width: usize, limit: usize, k: usize) -> bool
+    requires { ⌜ Packed (length (now image)) place width (k + 64) ⌝ }
+    ensures { λ r. ⌜ r ≡ any (reaches limit (numberIn (now (image .entry)) place width width)) k 64 ⌝ }
+{
+    let mut found = false;
+    let mut j: usize = 0;
+    while j < BLOCK {
+        found = found | (limit <= nth_inside(image, place, width, k + j));
+        j += 1;
+    }
+    found
+}
+
+// One of n numbers is not below the limit.
+fn reach_among(image: &[u8], place: usize, width: usize, limit: usize, n: usize) -> bool
+    requires { ⌜ Packed (length (now image)) place width n ⌝ }
+    ensures { λ r. ⌜ r ≡ any (reaches limit (numberIn (now (image .entry)) place width width)) 0 n ⌝ }
+{
+    let mut k: usize = 0;
+    while BLOCK <= n - k {
+        if reach_in_block(image, place, width, limit, k) {
+            return true;
+        }
+        k += BLOCK;
+    }
+    while k < n {
+        if limit <= nth_inside(image, place, width, k) {
+            return true;
+        }
+        k += 1;
+    }
+    false
+}
+
+// A row of a Dictionary that is not null has a key outside the values, row by row.
+fn keys_astray_each(
+    image: &[u8],
+    node: u32,
+    width: usize,
+    limit: usize,
+    keys: usize,
+    from: usize,
+    rows: usize,
+) -> bool
+    requires { ⌜ Keys (now image) node width limit keys from rows ⌝ }
     ensures { λ r. ⌜ r ≡ any (keyStray (now (image .entry)) node) 0 (lengthOf (now (image .entry)) node) ⌝ }
 {
-    let width = element_width(image, node);
-    let limit = key_limit(image, node, width);
-    let keys = buffer_place(image, node, 0);
-    let from = offset(image, node);
-    let rows = length(image, node);
     let mut i: usize = 0;
     while i < rows {
         if is_valid(image, node, i) {
@@ -113,6 +159,25 @@ fn keys_astray(image: &[u8], node: u32) -> bool
         i += 1;
     }
     false
+}
+
+// A row of a Dictionary that is not null has a key outside the values.
+fn keys_astray(image: &[u8], node: u32) -> bool
+    requires { ⌜ elementWidth (now image) node ≤ 8 ⌝ }
+    ensures { λ r. ⌜ r ≡ any (keyStray (now (image .entry)) node) 0 (lengthOf (now (image .entry)) node) ⌝ }
+{
+    let width = element_width(image, node);
+    let limit = key_limit(image, node, width);
+    let keys = buffer_place(image, node, 0);
+    let from = offset(image, node);
+    let rows = length(image, node);
+    if !has_bitmap(image, node) {
+        let place = keys + from * width;
+        if is_packed(image, place, width, rows) {
+            return reach_among(image, place, width, limit, rows);
+        }
+    }
+    keys_astray_each(image, node, width, limit, keys, from, rows)
 }
 
 // Of the 12 bytes of an inline view one past its length is not zero.

@@ -8,6 +8,7 @@ pub mod Masks
 pub mod Names
 pub mod Nodes
 pub mod RunEnds
+pub mod SameRuns
 pub mod Spans
 pub mod Steps
 pub mod Texts

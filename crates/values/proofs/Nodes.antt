@@ -5,9 +5,11 @@ use mathlib.Core.Bool.{true}
 use mathlib.Core.List.{List}
 use Prim.Native.Nat.{ℕ, _+_, _*_, _-_, _<_, _≤_}
 use native.Mathlib.Omega.{arith}
+use native.Mathlib.Nat.{add-mul, mul-le-mul-right}
+use lib.ListN.{length}
 use Rattle.image.specs.declared.type_code.Layout.{Layout}
 use Rattle.image.specs.Bytes.{byteAt, numberAt}
-use Rattle.image.specs.Record.{nodeCount, lengthOf, offsetOf, firstChild, childCount, elementsOf, bufferPlace}
+use Rattle.image.specs.Record.{nodeCount, lengthOf, offsetOf, firstChild, childCount, elementsOf, bufferCount, bufferPlace, bufferLength}
 use Rattle.image.specs.TypeCode.{layoutOf}
 use Rattle.image.specs.Element.{valid, childEnd, elementWidth, elementPlace, elementAt, sizeAt, typeIdAt, denseOffsetAt}
 use Rattle.image.specs.Reads.{Read, Nth}
@@ -60,6 +62,15 @@ module _ {s : List ℕ} {k j n : ℕ} (r : Part s k j n) where
   -- where element h of the part is read
   pub part-nth : (h : ℕ) → h ≤ n → {x p w : ℕ} → Read x 32 p → w ≤ 8 → Nth p w (j + h)
   part-nth h le place narrow = record { near = omega (arith, place .small); narrow = narrow; few = omega (arith, part-small) }
+
+  -- the part's offsets and the one behind them lie inside, where the first buffer holds one more than there are elements
+  pub part-offsets : 0 < bufferCount s k → (elementsOf s k + 1) * elementWidth s k ≤ bufferLength s k 0 → elementPlace s k j + (n + 1) * elementWidth s k ≤ length s
+  unfolding elementPlace
+  part-offsets some enough =
+      let inside : bufferPlace s k 0 + bufferLength s k 0 ≤ length s = part-node .buffers .inside 0 some in
+      let all : (j + (n + 1)) * elementWidth s k ≤ (elementsOf s k + 1) * elementWidth s k = mul-le-mul-right (elementWidth s k) (omega (arith, r .high)) in
+      let e : (j + (n + 1)) * elementWidth s k ≡ j * elementWidth s k + (n + 1) * elementWidth s k = add-mul j (n + 1) (elementWidth s k) in
+      omega arith
 
   -- element h of the part, as a part
   pub part-at : (h : ℕ) → h < n → Part s k (j + h) 1

@@ -11,7 +11,7 @@ use Rattle.image.specs.declared.type_code.Layout.the-variants.{VariableSize}
 use Rattle.image.specs.Bytes.{bytesAt}
 use Rattle.image.specs.Record.{codeOf, bufferPlace, bufferLength, bufferCount, elementsOf}
 use Rattle.image.specs.TypeCode.{layoutOf, bufferRule}
-use Rattle.image.specs.Element.{elementWidth, elementAt}
+use Rattle.image.specs.Element.{elementWidth, elementPlace, elementAt}
 use Rattle.image.specs.Types.{sameBytes}
 use Rattle.image.specs.Row.{variableRow}
 use Rattle.image.specs.Equality.{rowEqual}
@@ -22,18 +22,7 @@ use Rattle.values.specs.Parts.{Part, Parts, Spans}
 use Rattle.values.proofs.Steps.{sameRow, by-rows, by-bytes}
 use Rattle.values.proofs.Blocks.{blocks, all-at, all-weaker, rise-far, equal-spans}
 use Rattle.values.proofs.Names.{other-length}
-use Rattle.values.proofs.Nodes.{part-small}
-
--- offsets of parts that rise
-pub spans-of : (a b : List ℕ) (k l i j n d enda endb : ℕ) → Parts a b k l i j n d → elementWidth a k ≤ 8 → OffsetsRise a k enda → OffsetsRise b l endb → Spans a b k l i j n
-spans-of a b k l i j n d enda endb r narrow ra rb = record {
-  narrow = narrow;
-  same = same-width a b k l (r .alike .0 .code) (r .alike .0 .p1);
-  left = λ h lo hi. ra .rise h (omega (arith, r .left .high));
-  right = λ h lo hi. rb .rise h (omega (arith, r .right .high));
-  left-small = omega (arith, part-small (r .left));
-  right-small = omega (arith, part-small (r .right));
-}
+use Rattle.values.proofs.Nodes.{part-small, part-offsets}
 
 module _ (s : List ℕ) (k i n : ℕ) (r : Part s k i n) (text : layoutOf (codeOf s k) ≡ VariableSize) where
   pub text-narrow : elementWidth s k ≤ 8
@@ -42,16 +31,36 @@ module _ (s : List ℕ) (k i n : ℕ) (r : Part s k i n) (text : layoutOf (codeO
   pub text-rises : OffsetsRise s k (bufferLength s k 1)
   text-rises = r .image .node k (r .node) .places .variable-size text
 
+  two-buffers : bufferCount s k ≡ 2
+  two-buffers = r .image .node k (r .node) .buffers .exactly 2 (rw text)
+
+  text-offsets : elementPlace s k i + (n + 1) * elementWidth s k ≤ length s
+  text-offsets = part-offsets r (omega (arith, two-buffers)) (r .image .node k (r .node) .enough .variable-size text)
+
   -- the text from the offset at i up to that at i + n lies inside
   pub text-inside : bufferPlace s k 1 + elementAt s k (i + n) ≤ length s
   text-inside =
-      let two : bufferCount s k ≡ 2 = r .image .node k (r .node) .buffers .exactly 2 (rw text) in
-      let inside : bufferPlace s k 1 + bufferLength s k 1 ≤ length s = r .image .node k (r .node) .buffers .inside 1 (omega arith) in
+      let inside : bufferPlace s k 1 + bufferLength s k 1 ≤ length s = r .image .node k (r .node) .buffers .inside 1 (omega (arith, two-buffers)) in
       let end : elementAt s k (i + n) ≤ bufferLength s k 1 = text-rises .within (i + n) (r .high) in
       omega arith
 
   pub text-up : elementAt s k i ≤ elementAt s k (i + n)
   text-up = rise-far (elementAt s k) i n (λ h lo hi. text-rises .rise h (omega (arith, r .high)))
+
+-- what the comparison of lengths asks for
+pub text-spans : {a b : List ℕ} {k l i j n d : ℕ} → Parts a b k l i j n d → layoutOf (codeOf a k) ≡ VariableSize → Spans a b k l i j n
+text-spans r left =
+    let right = sym (ap layoutOf (r .alike .0 .code)) ∙ left in
+    record {
+      narrow = text-narrow _ _ _ _ (r .left) left;
+      same = same-width _ _ _ _ (r .alike .0 .code) (r .alike .0 .p1);
+      left = λ h lo hi. text-rises _ _ _ _ (r .left) left .rise h (omega (arith, r .left .high));
+      right = λ h lo hi. text-rises _ _ _ _ (r .right) right .rise h (omega (arith, r .right .high));
+      left-small = omega (arith, part-small (r .left));
+      right-small = omega (arith, part-small (r .right));
+      left-inside = text-offsets _ _ _ _ (r .left) left;
+      right-inside = text-offsets _ _ _ _ (r .right) right;
+    }
 
 module _ (a b : List ℕ) (k l : ℕ) where
   other-text : (i j : ℕ) → sameSpan a k b l i j ≡ false → sameRow (variableRow a k) (variableRow b l) i j ≡ false

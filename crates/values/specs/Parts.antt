@@ -2,12 +2,12 @@
 use mathlib.Core.Path.{_≡_}
 use mathlib.Core.Bool.{true}
 use mathlib.Core.List.{List}
-use Prim.Native.Nat.{ℕ, suc, _+_, _*_, _≤_, _<_, _^_}
+use Prim.Native.Nat.{ℕ, suc, _+_, _-_, _*_, _≤_, _<_, _^_}
 use lib.ListN.{length}
-use Rattle.image.specs.Record.{nodeCount, codeOf, p1Of, lengthOf, offsetOf, elementsOf}
+use Rattle.image.specs.Record.{nodeCount, codeOf, p1Of, lengthOf, offsetOf, firstChild, elementsOf}
 use Rattle.image.specs.declared.type_code.Layout.the-variants.{FixedWidth, Runs}
 use Rattle.image.specs.TypeCode.{layoutOf}
-use Rattle.image.specs.Element.{valid, elementWidth, elementPlace, elementAt, viewLength, viewData}
+use Rattle.image.specs.Element.{valid, elementWidth, elementPlace, elementAt, viewLength, viewData, runEndAt, runAt}
 use Rattle.laws.specs.Accepted.{AcceptedImage, ViewInside}
 use Rattle.laws.specs.Alike.{Alike}
 use Rattle.values.specs.Pairs.{all, sameMask}
@@ -47,7 +47,7 @@ pub record Masked (a b : List ℕ) (k l i j n : ℕ) : Type 0 where
   pub p1 : p1Of a k ≡ p1Of b l
   pub masks : all (sameMask a k b l) i j n ≡ true
 
--- n offsets and one more of each of two nodes, equally wide and rising
+-- n offsets and one more of each of two nodes, equally wide, rising and inside the image
 pub record Spans (a b : List ℕ) (k l i j n : ℕ) : Type 0 where
   pub narrow : elementWidth a k ≤ 8
   pub same : elementWidth a k ≡ elementWidth b l
@@ -55,6 +55,8 @@ pub record Spans (a b : List ℕ) (k l i j n : ℕ) : Type 0 where
   pub right : (h : ℕ) → j ≤ h → h < j + n → elementAt b l h ≤ elementAt b l (suc h)
   pub left-small : i + n < 2 ^ 34
   pub right-small : j + n < 2 ^ 34
+  pub left-inside : elementPlace a k i + (n + 1) * elementWidth a k ≤ length a
+  pub right-inside : elementPlace b l j + (n + 1) * elementWidth b l ≤ length b
 
 -- an element of a run node of an accepted image
 pub record RunPart (s : List ℕ) (k j : ℕ) : Type 0 where
@@ -62,6 +64,31 @@ pub record RunPart (s : List ℕ) (k j : ℕ) : Type 0 where
   pub node : k < nodeCount s
   pub runs : layoutOf (codeOf s k) ≡ Runs
   pub element : j < elementsOf s k
+
+-- m runs from run i on of a run node of an accepted image
+pub record RunRange (s : List ℕ) (k i m : ℕ) : Type 0 where
+  pub image : AcceptedImage s
+  pub node : k < nodeCount s
+  pub runs : layoutOf (codeOf s k) ≡ Runs
+  pub high : i + m ≤ lengthOf s (firstChild s k)
+
+-- the ends of m runs from i and from j on are the same
+pub record SameEnds (a b : List ℕ) (k l i j m : ℕ) : Type 0 where
+  pub same : (q : ℕ) → q < m → runEndAt a k (i + q) ≡ runEndAt b l (j + q)
+
+-- some elements of each of two run nodes, the first of them in runs i and j
+pub record RunParts (a b : List ℕ) (k l s t n i j : ℕ) : Type 0 where
+  pub some : 0 < n
+  pub left : RunPart a k (s + (n - 1))
+  pub right : RunPart b l (t + (n - 1))
+  pub left-first : i ≡ runAt a k s
+  pub right-first : j ≡ runAt b l t
+
+-- their last elements lie in runs i + m and j + m, and the runs before these end equally far from s and t
+pub record Together (a b : List ℕ) (k l s t n i j m : ℕ) : Type 0 where
+  pub left-last : i + m ≡ runAt a k (s + (n - 1))
+  pub right-last : j + m ≡ runAt b l (t + (n - 1))
+  pub ends : (q : ℕ) → q < m → runEndAt a k (i + q) + t ≡ runEndAt b l (j + q) + s
 
 -- n elements from element j on of a fixed-width node of an accepted image
 pub record Elements (s : List ℕ) (k j n : ℕ) : Type 0 where

@@ -37,7 +37,7 @@ fn span_of(s: &[u8], node: u32, j: usize, n: usize) -> Span
 }
 
 // The bytes of n elements from s and from t on are the same, as one block.
-fn elements_equal(a: &[u8], an: u32, b: &[u8], bn: u32, s: usize, t: usize, n: usize) -> bool
+pub fn elements_equal(a: &[u8], an: u32, b: &[u8], bn: u32, s: usize, t: usize, n: usize) -> bool
     requires { ⌜ Fixed (now a) (now b) an bn s t n ⌝ }
     ensures { λ r. ⌜ r ≡ rangeEqual (fixedRow (now (a .entry)) an) (fixedRow (now (b .entry)) bn) s t n ⌝ }
 {

@@ -1,28 +1,32 @@
--- `image::bytes::number` meets its contract.
--- The definition is rewritten by what the calls ensure and by the tests on the way.
-use native.Mathlib.Omega.{arith}
+-- `number` gives the number of the w bytes at a place.
+-- Four or eight bytes that lie inside are read at once, others one by one.
+use Rattle.image.proofs.Numbers.{read-as}
 use borrow.Author.Needs.{needs}
 use Rattle.image.proofs.bytes.number.Statement.{statement}
 use Rattle.image.proofs.bytes.number.Tie as tie
 
-le32-requires : tie.Need-le32-requires
-le32-requires c κs = search needs
+sub-if2 : tie.Need-sub-if2
+sub-if2 c = search needs
 
-le64-requires : tie.Need-le64-requires
-le64-requires c κs = search needs
+quad-requires : tie.Need-quad-requires
+quad-requires c κs = search needs
+
+returns : tie.Need-returns
+returns c = read-as _ _ (c .before .if3 .taken) (c .quad .ensures)
+
+octet-requires : tie.Need-octet-requires
+octet-requires c κs = search needs
+
+returns-2 : tie.Need-returns-2
+returns-2 c = read-as _ _ (c .before .if4 .taken) (c .octet .ensures)
 
 by-bytes-requires : tie.Need-by-bytes-requires
 by-bytes-requires c κs = search needs
-
-returns : tie.Need-returns
-returns c = rw (c .before .match .keys1) (c .le32 .ensures)
-
-returns-2 : tie.Need-returns-2
-returns-2 c = rw (c .before .match .keys2) (c .le64 .ensures)
 
 returns-3 : tie.Need-returns-3
 returns-3 c = search needs
 
 pub number-spec : {M : Type 1} → statement M
 number-spec =
-    tie.close (tie.spec le32-requires le64-requires by-bytes-requires returns returns-2 returns-3)
+    tie.close
+    (tie.spec sub-if2 quad-requires returns octet-requires returns-2 by-bytes-requires returns-3)

@@ -1,7 +1,7 @@
 -- `values::variable_size::variable_sized_equal` meets its contract.
 -- The definition is rewritten by what the calls ensure and by the tests on the way.
 use Rattle.values.proofs.Nodes.{part-small}
-use Rattle.values.proofs.Texts.{spans-of, text-narrow, text-rises, text-inside, text-up, texts-differ, texts-block, right-end}
+use Rattle.values.proofs.Texts.{text-spans, text-narrow, text-inside, text-up, texts-differ, texts-block, right-end}
 use Rattle.image.specs.TypeCode.{layoutOf}
 use borrow.Author.Tests.{not-true, not-false}
 use mathlib.Core.Path.{sym, ap, _∙_}
@@ -11,7 +11,7 @@ use Rattle.values.proofs.variable_size.variable_sized_equal.Statement.{
 use Rattle.values.proofs.variable_size.variable_sized_equal.Tie as tie
 
 lengths-equal-requires : tie.Need-lengths-equal-requires
-lengths-equal-requires c κs = (spans-of _ _ _ _ _ _ _ _ _ _ (c .before .before .pre .0) (text-narrow _ _ _ _ (c .before .before .pre .0 .left) (c .before .before .pre .1)) (text-rises _ _ _ _ (c .before .before .pre .0 .left) (c .before .before .pre .1)) (text-rises _ _ _ _ (c .before .before .pre .0 .right) (sym (ap layoutOf (c .before .before .pre .0 .alike .0 .code)) ∙ c .before .before .pre .1)))
+lengths-equal-requires c κs = text-spans (c .before .before .pre .0) (c .before .before .pre .1)
 
 returns : tie.Need-returns
 returns c = texts-differ _ _ _ _ _ _ _ (sym (c .before .lengths-equal .ensures) ∙ not-true _ (c .if1 .taken))
@@ -38,13 +38,13 @@ buffer-place-requires-2 : tie.Need-buffer-place-requires-2
 buffer-place-requires-2 c κs = search needs
 
 add-equal-len-2 : tie.Need-add-equal-len-2
-add-equal-len-2 c = omega (arith, c .buffer-place2 .ensures .value, c .before .before .before .before .offset-at .ensures, c .before .before .before .offset-at2 .ensures, c .before .before .offset-at3 .ensures, text-inside _ _ _ _ (c .before .before .before .before .before .before .before .before .before .pre .0 .right) (sym (ap layoutOf (c .before .before .before .before .before .before .before .before .before .pre .0 .alike .0 .code)) ∙ c .before .before .before .before .before .before .before .before .before .pre .1), right-end _ _ _ _ _ _ _ (spans-of _ _ _ _ _ _ _ _ _ _ (c .before .before .before .before .before .before .before .before .before .pre .0) (text-narrow _ _ _ _ (c .before .before .before .before .before .before .before .before .before .pre .0 .left) (c .before .before .before .before .before .before .before .before .before .pre .1)) (text-rises _ _ _ _ (c .before .before .before .before .before .before .before .before .before .pre .0 .left) (c .before .before .before .before .before .before .before .before .before .pre .1)) (text-rises _ _ _ _ (c .before .before .before .before .before .before .before .before .before .pre .0 .right) (sym (ap layoutOf (c .before .before .before .before .before .before .before .before .before .pre .0 .alike .0 .code)) ∙ c .before .before .before .before .before .before .before .before .before .pre .1))) (sym (c .before .before .before .before .before .before .lengths-equal .ensures) ∙ not-false _ (c .before .before .before .before .before .if1 .left)), c .before .before .before .before .before .before .before .before .before .pre .0 .right .image .size)
+add-equal-len-2 c = omega (arith, c .buffer-place2 .ensures .value, c .before .before .before .before .offset-at .ensures, c .before .before .before .offset-at2 .ensures, c .before .before .offset-at3 .ensures, text-inside _ _ _ _ (c .before .before .before .before .before .before .before .before .before .pre .0 .right) (sym (ap layoutOf (c .before .before .before .before .before .before .before .before .before .pre .0 .alike .0 .code)) ∙ c .before .before .before .before .before .before .before .before .before .pre .1), right-end _ _ _ _ _ _ _ (text-spans (c .before .before .before .before .before .before .before .before .before .pre .0) (c .before .before .before .before .before .before .before .before .before .pre .1)) (sym (c .before .before .before .before .before .before .lengths-equal .ensures) ∙ not-false _ (c .before .before .before .before .before .if1 .left)), c .before .before .before .before .before .before .before .before .before .pre .0 .right .image .size)
 
 sub-equal-len : tie.Need-sub-equal-len
 sub-equal-len c = omega (arith, c .before .before .before .before .offset-at .ensures, c .before .before .before .offset-at2 .ensures, c .before .before .offset-at3 .ensures, text-up _ _ _ _ (c .before .before .before .before .before .before .before .before .before .pre .0 .left) (c .before .before .before .before .before .before .before .before .before .pre .1))
 
 equal-len-requires : tie.Need-equal-len-requires
-equal-len-requires c κs = omega (arith, c .before .buffer-place .ensures .value, c .buffer-place2 .ensures .value, c .before .before .before .before .offset-at .ensures, c .before .before .before .offset-at2 .ensures, c .before .before .offset-at3 .ensures, text-inside _ _ _ _ (c .before .before .before .before .before .before .before .before .before .pre .0 .left) (c .before .before .before .before .before .before .before .before .before .pre .1), text-up _ _ _ _ (c .before .before .before .before .before .before .before .before .before .pre .0 .left) (c .before .before .before .before .before .before .before .before .before .pre .1), text-inside _ _ _ _ (c .before .before .before .before .before .before .before .before .before .pre .0 .right) (sym (ap layoutOf (c .before .before .before .before .before .before .before .before .before .pre .0 .alike .0 .code)) ∙ c .before .before .before .before .before .before .before .before .before .pre .1), right-end _ _ _ _ _ _ _ (spans-of _ _ _ _ _ _ _ _ _ _ (c .before .before .before .before .before .before .before .before .before .pre .0) (text-narrow _ _ _ _ (c .before .before .before .before .before .before .before .before .before .pre .0 .left) (c .before .before .before .before .before .before .before .before .before .pre .1)) (text-rises _ _ _ _ (c .before .before .before .before .before .before .before .before .before .pre .0 .left) (c .before .before .before .before .before .before .before .before .before .pre .1)) (text-rises _ _ _ _ (c .before .before .before .before .before .before .before .before .before .pre .0 .right) (sym (ap layoutOf (c .before .before .before .before .before .before .before .before .before .pre .0 .alike .0 .code)) ∙ c .before .before .before .before .before .before .before .before .before .pre .1))) (sym (c .before .before .before .before .before .before .lengths-equal .ensures) ∙ not-false _ (c .before .before .before .before .before .if1 .left)))
+equal-len-requires c κs = omega (arith, c .before .buffer-place .ensures .value, c .buffer-place2 .ensures .value, c .before .before .before .before .offset-at .ensures, c .before .before .before .offset-at2 .ensures, c .before .before .offset-at3 .ensures, text-inside _ _ _ _ (c .before .before .before .before .before .before .before .before .before .pre .0 .left) (c .before .before .before .before .before .before .before .before .before .pre .1), text-up _ _ _ _ (c .before .before .before .before .before .before .before .before .before .pre .0 .left) (c .before .before .before .before .before .before .before .before .before .pre .1), text-inside _ _ _ _ (c .before .before .before .before .before .before .before .before .before .pre .0 .right) (sym (ap layoutOf (c .before .before .before .before .before .before .before .before .before .pre .0 .alike .0 .code)) ∙ c .before .before .before .before .before .before .before .before .before .pre .1), right-end _ _ _ _ _ _ _ (text-spans (c .before .before .before .before .before .before .before .before .before .pre .0) (c .before .before .before .before .before .before .before .before .before .pre .1)) (sym (c .before .before .before .before .before .before .lengths-equal .ensures) ∙ not-false _ (c .before .before .before .before .before .if1 .left)))
 
 returns-2 : tie.Need-returns-2
 returns-2 c = c .equal-len .ensures ∙ rw (c .before .before .buffer-place .ensures .value, c .before .buffer-place2 .ensures .value, c .before .before .before .before .before .offset-at .ensures, c .before .before .before .before .offset-at2 .ensures, c .before .before .before .offset-at3 .ensures) (texts-block _ _ _ _ _ _ _ _ (c .before .before .before .before .before .before .before .before .before .before .pre .0) (c .before .before .before .before .before .before .before .before .before .before .pre .1) (sym (c .before .before .before .before .before .before .before .lengths-equal .ensures) ∙ not-false _ (c .before .before .before .before .before .before .if1 .left)))
