@@ -1,18 +1,27 @@
-/* Times the comparison of tables of about a million values, in one process, beside memcmp of the same bytes.
+/* Times the comparison of tables of about a million values, in one process, beside the Rust and beside memcmp.
  *
- * For each layout two images with equal rows are laid out in memory of their own. `compare` checks both images and
- * compares all rows; `check` is the check of one image alone; memcmp compares the two images byte for byte. Each figure
- * is the median of 31 calls. */
-#include <stdint.h>
+ * For each layout two images with equal rows are laid out in memory of their own. `editions_compare` checks both images and
+ * compares all rows; `editions_check` is the check of one image alone; the Rust is `equal` of arrow-data on the same
+ * buffers, loaded before and checked by nobody; memcmp compares the two images byte for byte. Each figure is the median of
+ * 31 calls, the four taken in turn. Without -DRUST the Rust is left out. */
+#include "../host/editions.h"
+
 #include <stdio.h>
 #include <stdlib.h>
 #include <string.h>
 #include <time.h>
 
-/* 1 yes, 0 no, and 100 plus the number of a refusal */
-extern uint64_t bench_compare(const uint8_t *left, uint64_t left_len, const uint8_t *right, uint64_t right_len);
-/* 0 accepted, else the number of the fault */
-extern uint64_t bench_check(const uint8_t *image, uint64_t len);
+#ifdef RUST
+extern void *rust_load(const uint8_t *image, size_t length);
+extern int32_t rust_equal(const void *left, const void *right);
+extern void rust_free(void *array);
+#else
+static void *rust_load(const uint8_t *image, size_t length) { return length ? (void *)image : NULL; }
+static int32_t rust_equal(const void *left, const void *right) { return left != NULL && right != NULL; }
+static void rust_free(void *array) { (void)array; }
+#endif
+
+#define YES ((uint64_t)1 << 32)
 
 enum { ROWS = 1000000, TIMES = 31, MAX_IMAGE = 16777216 };
 
@@ -113,25 +122,47 @@ static void texts(struct image *m, uint32_t offsets, uint32_t text, uint32_t row
     put(m, offsets + 4 * rows, at, 4);
 }
 
-static struct image utf8s(void)
+static struct image utf8s(int nulls)
 {
     struct image m = begin(1, 2);
-    node(&m, 26, 0, ROWS, 0, 2);
+    uint32_t r = node(&m, 26, 0, ROWS, 0, 2);
     uint32_t o = buffer(&m, 4 * (ROWS + 1)), t = buffer(&m, 11 * ROWS);
     texts(&m, o, t, ROWS);
+    if (nulls)
+        bitmap(&m, r, ROWS);
     return m;
 }
 
-static struct image dictionaries(void)
+/* texts of 4 and of 20 bytes, in turn; the long ones share a pool of 1,000 */
+static struct image views(void)
+{
+    struct image m = begin(1, 2);
+    uint32_t rows = ROWS / 2;
+    node(&m, 31, 0, rows, 0, 2);
+    uint32_t v = buffer(&m, 16 * rows), pool = buffer(&m, 20 * 1000);
+    for (uint32_t i = 0; i < 20 * 1000; i++)
+        m.bytes[pool + i] = (uint8_t)('a' + mix(i) % 26);
+    for (uint32_t i = 0; i < rows; i++) {
+        uint32_t at = v + 16 * i, offset = 20 * (uint32_t)(mix(i) % 1000);
+        put(&m, at, i % 2 ? 20 : 4, 4);
+        for (int k = 0; k < 4; k++)
+            m.bytes[at + 4 + k] = i % 2 ? m.bytes[pool + offset + k] : (uint8_t)('a' + (mix(i) >> (8 * k)) % 26);
+        if (i % 2)
+            put(&m, at + 12, offset, 4);
+    }
+    return m;
+}
+
+static struct image dictionaries(uint32_t values)
 {
     struct image m = begin(2, 3);
     node(&m, 41, 4, ROWS, 1, 1);
     uint32_t k = buffer(&m, 4 * ROWS);
     for (uint32_t i = 0; i < ROWS; i++)
-        put(&m, k + 4 * i, mix(i) % 1000, 4);
-    node(&m, 26, 0, 1000, 0, 2);
-    uint32_t o = buffer(&m, 4 * 1001), t = buffer(&m, 11 * 1000);
-    texts(&m, o, t, 1000);
+        put(&m, k + 4 * i, mix(i) % values, 4);
+    node(&m, 26, 0, values, 0, 2);
+    uint32_t o = buffer(&m, 4 * (values + 1)), t = buffer(&m, 11 * values);
+    texts(&m, o, t, values);
     return m;
 }
 
@@ -150,18 +181,36 @@ static struct image lists(void)
     return m;
 }
 
-static struct image runs(void)
+/* an Int32, an Int64 and an Int16 in each Struct */
+static struct image structs(void)
+{
+    struct image m = begin(4, 3);
+    uint32_t rows = ROWS / 2, widths[] = {4, 8, 2};
+    uint32_t r = node(&m, 38, 0, rows, 3, 0);
+    int codes[] = {4, 5, 3};
+    for (int c = 0; c < 3; c++) {
+        node(&m, codes[c], 0, rows, 0, 1);
+        uint32_t b = buffer(&m, widths[c] * rows);
+        for (uint32_t i = 0; i < rows; i++)
+            put(&m, b + widths[c] * i, mix(i + (uint32_t)c), (int)widths[c]);
+    }
+    bitmap(&m, r, rows);
+    return m;
+}
+
+/* a million rows whose values change every 10; runs of that length */
+static struct image runs(uint32_t length)
 {
     struct image m = begin(3, 2);
-    uint32_t count = ROWS / 10;
+    uint32_t count = ROWS / length;
     node(&m, 43, 0, ROWS, 2, 0);
     node(&m, 4, 0, count, 0, 1);
     uint32_t e = buffer(&m, 4 * count);
     node(&m, 5, 0, count, 0, 1);
     uint32_t v = buffer(&m, 8 * count);
     for (uint32_t i = 0; i < count; i++) {
-        put(&m, e + 4 * i, 10 * (i + 1), 4);
-        put(&m, v + 8 * i, mix(i), 8);
+        put(&m, e + 4 * i, length * (i + 1), 4);
+        put(&m, v + 8 * i, mix(length * i / 10), 8);
     }
     return m;
 }
@@ -187,41 +236,59 @@ static double median(double *times)
 
 static void measure(const char *name, struct image a, struct image b)
 {
-    double compare[TIMES], check[TIMES], bytes[TIMES];
-    volatile int same = 0;
-    if (bench_check(a.bytes, a.end) != 0 || bench_compare(a.bytes, a.end, b.bytes, b.end) != 1) {
-        printf("%s: not equal: check %llu, compare %llu\n", name, (unsigned long long)bench_check(a.bytes, a.end),
-               (unsigned long long)bench_compare(a.bytes, a.end, b.bytes, b.end));
+    double compare[TIMES], check[TIMES], rust[TIMES], bytes[TIMES];
+    volatile uint64_t same = 0;
+    void *left = rust_load(a.bytes, a.end), *right = rust_load(b.bytes, b.end);
+    if (editions_check(a.bytes, a.end) != 0 || editions_compare(a.bytes, a.end, b.bytes, b.end) != YES ||
+        rust_equal(left, right) != 1) {
+        printf("%s: not equal: check %llx, compare %llx, the Rust %d\n", name,
+               (unsigned long long)editions_check(a.bytes, a.end),
+               (unsigned long long)editions_compare(a.bytes, a.end, b.bytes, b.end), rust_equal(left, right));
         exit(1);
     }
     for (int i = 0; i < TIMES; i++) {
         double t0 = now();
-        same += (int)bench_compare(a.bytes, a.end, b.bytes, b.end);
+        same += editions_compare(a.bytes, a.end, b.bytes, b.end);
         double t1 = now();
-        same += (int)bench_check(a.bytes, a.end);
+        same += editions_check(a.bytes, a.end);
         double t2 = now();
-        same += memcmp(a.bytes, b.bytes, a.end);
+        same += (uint64_t)rust_equal(left, right);
         double t3 = now();
+        same += (uint64_t)memcmp(a.bytes, b.bytes, a.end);
+        double t4 = now();
         compare[i] = t1 - t0;
         check[i] = t2 - t1;
-        bytes[i] = t3 - t2;
+        rust[i] = t3 - t2;
+        bytes[i] = t4 - t3;
     }
-    double c = median(compare), k = median(check), m = median(bytes);
-    printf("| %s | %.0f | %.0f | %.0f | %.2f |\n", name, c, k, m, c / m);
+    double c = median(compare), k = median(check), r = median(rust), m = median(bytes);
+#ifdef RUST
+    printf("| %s | %.0f | %.0f | %.0f | %.0f | %.2f | %.2f |\n", name, c / 1000, k / 1000, r / 1000, m / 1000, c / r, c / m);
+#else
+    (void)r;
+    printf("| %s | %.0f | %.0f | - | %.0f | - | %.2f |\n", name, c / 1000, k / 1000, m / 1000, c / m);
+#endif
+    rust_free(left);
+    rust_free(right);
     free(a.bytes);
     free(b.bytes);
 }
 
 int main(void)
 {
-    printf("| layout, about a million values | check and compare, ns | check alone, ns | memcmp, ns | compare to memcmp |\n");
-    printf("|---|---|---|---|---|\n");
+    printf("| layout, about a million values | check and compare, us | check alone, us | the Rust, us | memcmp, us | to the Rust | to memcmp |\n");
+    printf("|---|---|---|---|---|---|---|\n");
     measure("Int64 without nulls", int64s(0), int64s(0));
     measure("Int64, every tenth null", int64s(1), int64s(1));
+    measure("Utf8", utf8s(0), utf8s(0));
+    measure("Utf8, every tenth null", utf8s(1), utf8s(1));
+    measure("Utf8View, half of them longer than 12 bytes", views(), views());
+    measure("Dictionary<Int32, Utf8>, 1,000 values", dictionaries(1000), dictionaries(1000));
+    measure("Dictionary<Int32, Utf8>, 300,000 values", dictionaries(300000), dictionaries(300000));
+    measure("List<Int32>, 250,000 lists of 4", lists(), lists());
+    measure("Struct of three, every tenth null", structs(), structs());
+    measure("RunEndEncoded<Int32, Int64>, runs of 10", runs(10), runs(10));
+    measure("RunEndEncoded<Int32, Int64>, runs of 10 against 5", runs(10), runs(5));
     measure("Boolean at an odd offset", booleans(), booleans());
-    measure("Utf8", utf8s(), utf8s());
-    measure("Dictionary<Int32, Utf8>", dictionaries(), dictionaries());
-    measure("List<Int32>", lists(), lists());
-    measure("RunEndEncoded<Int32, Int64>", runs(), runs());
     return 0;
 }

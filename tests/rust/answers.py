@@ -1,0 +1,222 @@
+#!/usr/bin/env python3
+"""The fixed list of the Rust's answers, answers.txt: pairs of accepted images, each with what the Rust says.
+
+    answers.py write      lay the pairs out, ask the Rust (tests/rust/run has built it) and write the list
+    answers.py rust       the Rust still answers as in the list
+    answers.py model      the model of document 01 answers as in the list, and each misreading does not; needs no Rust
+    answers.py session    the list as lines for the session program
+    answers.py replies    what the session program must print for them
+
+The list has document 01's pairs (tests/pairs.py), pairs for its misreadings, those of suspects.py, and random small ones for
+each type code.
+"""
+
+import os
+import random
+import sys
+
+from cases import KINDS, Case, random_case
+from columns import image
+from compare import CODES, answers
+from suspects import NO, SUSPECTS, YES, item, lists, numbers, structs
+
+import model
+import pairs
+
+FILE = os.path.join(os.path.dirname(os.path.abspath(__file__)), "answers.txt")
+
+HEAD = """\
+# Answers of the Rust, the equal module of arrow-data 60.1.0 as tests/rust builds it, on accepted images.
+# Written by `tests/rust/answers.py write`, which lays the pairs out and asks the Rust.
+# A line: left image, right image (hexadecimal), left start, right start, count, whole or range, and the answer: 1 yes, 0 no.
+# A line that starts with # names what follows.
+"""
+
+# small images have at most so many bytes, a Map's more; so many pairs of each code
+SMALL, MAP_SMALL, EACH = 260, 400, 6
+
+
+def desk():
+    """Document 01's pairs. Where it has one image, the image is compared with itself; what is refused is not asked."""
+    for _, _, words, (call, images, numbers), (number, _, _, value) in pairs.PAIRS:
+        left, right = (b"".join(parts) for _, parts in (images * 2)[:2])
+        if number or call == "write":
+            yield words + " Not asked.", None, None
+        else:
+            yield words, Case(left, right, tuple(numbers) or None), value if call != "check" else YES
+
+
+def misreadings():
+    """Pairs on which a misreading of document 01 gives the other answer."""
+
+    def pair(words, left, right, answer, range=None):
+        return words, Case(image(None, left, plain=True), image(None, right, plain=True), range), answer
+
+    words = "Indexing the bitmap by the node's offset"
+    yield pair(words, numbers([9, 5, 6, 7], offset=1, bits="1011"), numbers([5, 8, 7], bits="101"), YES)
+    yield pair(words, numbers([9, 5, 6, 7], offset=1, bits="1010"), numbers([5, 6, 7], bits="010"), NO)
+    yield pair(words + ", in a child", structs(1, item([9, 5], offset=1, bits="01")), structs(1, item([6], bits="0")), YES)
+    words = "Adding a List's own offset to child rows"
+    yield pair(words, lists([0, 1, 2], item([4, 5, 6]), offset=1), lists([0, 1], item([5])), YES)
+    yield pair(words, lists([0, 1, 2], item([4, 5, 6]), offset=1), lists([0, 1], item([6])), NO)
+    yield pair(words + ", a Map", lists([0, 1, 2], structs(3, item([4, 5, 6]), item([1, 2, 3])), 42, offset=1), lists([0, 1], structs(1, item([6]), item([3])), 42), NO)
+    words = "Reading values under nulls"
+    yield pair(words, numbers([5, 0, 7], bits="101"), numbers([5, 9, 7], bits="101"), YES)
+    yield pair(words + ", a List's rows", lists([0, 1, 3], item([4, 5, 6]), bits="10"), lists([0, 1, 1], item([4]), bits="10"), YES)
+    yield pair(words + ", a Struct's children", structs(2, item([4, 5]), bits="01"), structs(2, item([9, 5]), bits="01"), YES)
+    yield "Adding offset and size before bounding them: the image is refused, 17. Not asked.", None, None
+    words = "Calling -0 and +0 equal"
+    yield pair(words + ", Float16", numbers([0x8000], 10, 2), numbers([0], 10, 2), NO)
+    yield pair(words + ", Float32", numbers([1 << 31], 11, 4), numbers([0], 11, 4), NO)
+    yield pair(words + ", Float64", numbers([1 << 63], 12, 8), numbers([0], 12, 8), NO)
+
+
+def small(code):
+    """Random small pairs of a code, of every kind in turn, yes and no about as often."""
+    rng, given = random.Random(code), []
+    while len(given) < EACH:
+        kind = KINDS[len(given) % len(KINDS)]
+        case = random_case(rng, code, kind)
+        if case and max(len(case.left), len(case.right)) <= (MAP_SMALL if code == model.MAP else SMALL):
+            answer = case.model()[3]
+            if kind in ("difference", "range with a difference") and answer == YES and code != model.NULL and rng.random() < 0.9:
+                continue
+            given.append(("code %d, %s" % (code, kind), case, answer))
+    return given
+
+
+def groups():
+    yield "Pairs from the proof desk", list(desk())
+    yield "Misreadings that pass a light test", list(misreadings())
+    yield "Places where the Rust might depart from the format", [("%s: %s" % (file, about), case, answer) for file, about, case, answer in SUSPECTS]
+    yield "Small pairs of each code", [entry for code in range(CODES) for entry in small(code)]
+
+
+def counted(case):
+    """Whether the model, which goes row by row, can be asked."""
+    return all(record.length < 1 << 20 for data in (case.left, case.right) for record in model.Image(data).nodes)
+
+
+def write():
+    lines, wrong = [HEAD], 0
+    for title, entries in groups():
+        lines.append("\n# %s\n" % title)
+        given = iter(answers("release/beside", [case for _, case, _ in entries if case]))
+        for words, case, answer in entries:
+            lines.append("# %s\n" % words)
+            if case:
+                said = next(given)
+                modelled = case.model() if counted(case) else (0, 0, 0, answer)
+                if (modelled, said) != ((0, 0, 0, answer), str(answer)):
+                    print("%s: meant %d, the model %s, the Rust %s" % (words, answer, modelled, said))
+                    wrong += 1
+                lines.append("%s %s\n" % (case.line(), said))
+    with open(FILE, "w", encoding="ascii") as out:
+        out.writelines(lines)
+    return wrong
+
+
+def read():
+    with open(FILE, encoding="ascii") as lines:
+        for line in lines:
+            if line.strip() and not line.startswith("#"):
+                left, right, *starts, kind, answer = line.split()
+                asked = tuple(map(int, starts)) if kind == "range" else None
+                yield Case(bytes.fromhex(left), bytes.fromhex(right), asked), int(answer)
+
+
+def rust():
+    listed = list(read())
+    wrong = 0
+    for program in ("release/beside", "checked/beside"):
+        given = answers(program, [case for case, _ in listed])
+        wrong += sum(said != str(answer) for said, (_, answer) in zip(given, listed))
+    print("%d listed answers asked of the Rust again, %d others" % (len(listed), wrong))
+    return wrong
+
+
+# The misreadings, as models that read an accepted image wrongly.
+
+
+class Misreading(model.Image):
+    def check(self):
+        """The pairs are accepted; only the reading of rows is wrong."""
+
+
+class BitmapByOffset(Misreading):
+    def valid(self, node, i):
+        record = self.nodes[node]
+        bit = record.first_bit + record.offset + i
+        return not record.has_bitmap or self.data[min(record.bitmap_place + bit // 8, len(self.data) - 1)] >> (bit % 8) & 1 == 1
+
+
+class ListOffsetAdded(Misreading):
+    def rows(self, node, start, end):
+        parent = self.parent(node)
+        shift = self.nodes[parent].offset if parent is not None and self.nodes[parent].code in model.LISTS else 0
+        return super().rows(node, start + shift, end + shift) if end + shift <= self.nodes[node].length else ()
+
+
+class UnderNulls(Misreading):
+    def row(self, node, i):
+        if self.valid(node, i):
+            return super().row(node, i)
+        self.valid = lambda node, i: True
+        try:
+            return ("null", super().row(node, i))
+        except (StopIteration, IndexError):
+            return None
+        finally:
+            del self.valid
+
+
+class ZerosEqual(Misreading):
+    def row(self, node, i):
+        row = super().row(node, i)
+        code = self.nodes[node].code
+        return ("bytes", bytes(len(row[1]))) if 10 <= code <= 12 and row and int.from_bytes(row[1], "little") == 1 << 8 * len(row[1]) - 1 else row
+
+
+def by_model():
+    listed = [(case, answer) for case, answer in read() if counted(case)]
+    wrong = sum(case.model() != (0, 0, 0, answer) for case, answer in listed)
+    print("%d listed answers asked of the model, %d others" % (len(listed), wrong))
+    right = model.Image
+    for reading in (BitmapByOffset, ListOffsetAdded, UnderNulls, ZerosEqual):
+        model.Image = reading
+        told = sum(case.model() != (0, 0, 0, answer) for case, answer in listed)
+        model.Image = right
+        print("  %s is told by %d of them" % (reading.__name__, told))
+        wrong += told == 0
+    return wrong
+
+
+def session():
+    """The session program's input for the list, and its replies."""
+    given, replies = [], []
+
+    def ask(frame, reply):
+        given.append(frame.hex())
+        replies.append(reply)
+
+    for case, answer in read():
+        for side, data in enumerate((case.left, case.right)):
+            ask(bytes([7, side]), "00")
+            for at in range(0, len(data), 64):
+                ask(bytes([1 + side]) + data[at : at + 64], "00")
+            ask(bytes([3, side]), "00")
+        frame = b"\x05" + b"".join(x.to_bytes(4, "little") for x in case.range) if case.range else b"\x04"
+        ask(frame, "00%02x" % answer)
+    return "".join(line + "\n" for line in given), "".join(line + "\n" for line in replies)
+
+
+def main():
+    what = sys.argv[1] if len(sys.argv) == 2 else ""
+    if what == "session" or what == "replies":
+        print(session()[what == "replies"], end="")
+        return 0
+    return 1 if {"write": write, "rust": rust, "model": by_model}[what]() else 0
+
+
+if __name__ == "__main__":
+    sys.exit(main())
