@@ -1,0 +1,78 @@
+-- After any lines, from the start on, a side that is closed holds an accepted image.
+-- Only a close that the check accepts closes a side, and what is for a closed side changes neither it nor its store.
+use mathlib.Core.Path.{_≡_, refl, sym, _∙_}
+use mathlib.Core.Bool.{Bool, true, false, cond, false≢true}
+use mathlib.Core.List.{List, [], _∷_}
+use Prim.Native.Nat.{ℕ, _+_}
+use lib.ListN.{length, drop}
+use lib.Seq.{paste}
+use Rattle.image.specs.declared.answer.Side.the-variants.{Left, Right}
+use Rattle.image.specs.declared.answer.Checked.{Checked}
+use Rattle.image.specs.declared.answer.Checked.the-variants.{Accepted, Refused as CheckRefused}
+use Rattle.image.specs.Faults.{checkImage}
+use Rattle.session.specs.declared.frame.Frame.{Frame}
+use Rattle.session.specs.declared.frame.Frame.the-variants.{Piece, Close, Compare, CompareRange, Write, Empty, Refused as BadFrame}
+use Rattle.session.specs.declared.reply.Reply.the-variants.{Done, Refused}
+use Rattle.session.specs.declared.step.Held.{Held}
+use Rattle.session.specs.declared.step.State.{State}
+use Rattle.session.specs.Frames.{frameOf}
+use Rattle.session.specs.Lines.{bytesOf}
+use Rattle.session.specs.Steps.{held, kept, emptied, imageOf, pastStore, pieceKept, pieceStore, closedBy, closeKept, pieceStepped, closeStepped, writeStepped, emptyStepped, After, obeyed, afterFrame, afterLine}
+use Rattle.session.specs.Sessions.{started, next, afterLines, Sound, BothSound}
+
+-- an open side is sound whatever it holds
+open-sound : (h : Held) (store : List ℕ) → h .closed ≡ false → Sound h store
+open-sound h store e closed = absurd (false≢true (sym e ∙ closed))
+
+piece-sound : (store : List ℕ) (h : Held) (bytes : List ℕ) → Sound h store → Sound (pieceKept store h bytes .held) (pieceStore store h bytes)
+unfolding pieceKept pieceStore
+piece-sound store h bytes sound = by-closed (h .closed) refl
+  where
+    by-past : (b : Bool) → h .closed ≡ false → Sound (cond b (kept h (Refused 40)) (kept (held (h .used + length bytes) false) Done) .held) (cond b store (paste store (h .used) bytes (length bytes)))
+    by-past true e = open-sound h store e
+    by-past false e = open-sound (held (h .used + length bytes) false) _ refl
+
+    by-closed : (b : Bool) → h .closed ≡ b →
+        Sound
+        (cond b (kept h (Refused 41)) (cond (pastStore store h bytes) (kept h (Refused 40)) (kept (held (h .used + length bytes) false) Done)) .held)
+        (cond b store (cond (pastStore store h bytes) store (paste store (h .used) bytes (length bytes))))
+    by-closed true e = sound
+    by-closed false e = by-past (pastStore store h bytes) e
+
+close-sound : (store : List ℕ) (h : Held) → Sound h store → Sound (closeKept store h .held) store
+unfolding closeKept imageOf
+close-sound store h sound = by-closed (h .closed)
+  where
+    by-check : (x : Checked) → checkImage (imageOf h store) ≡ x → Sound (closedBy x (h .used) .held) store
+    by-check Accepted e = λ closed. e
+    by-check (CheckRefused f) e = open-sound emptied store refl
+
+    by-closed : (b : Bool) → Sound (cond b (kept h (Refused 41)) (closedBy (checkImage (imageOf h store)) (h .used)) .held) store
+    by-closed true = sound
+    by-closed false = by-check (checkImage (imageOf h store)) refl
+
+frame-sound : (f : Frame) (b left right : List ℕ) (state : State) (out : List ℕ) → Sound (state .left) left → Sound (state .right) right → BothSound (obeyed f b left right state out)
+unfolding pieceStepped closeStepped writeStepped emptyStepped
+frame-sound (Piece Left) b left right state out p q = record { left = piece-sound left (state .left) (drop 1 b) p; right = q }
+frame-sound (Piece Right) b left right state out p q = record { left = p; right = piece-sound right (state .right) (drop 1 b) q }
+frame-sound (Close Left) b left right state out p q = record { left = close-sound left (state .left) p; right = q }
+frame-sound (Close Right) b left right state out p q = record { left = p; right = close-sound right (state .right) q }
+frame-sound Compare b left right state out p q = record { left = p; right = q }
+frame-sound (CompareRange i j n) b left right state out p q = record { left = p; right = q }
+frame-sound (Write side i n) b left right state out p q = record { left = p; right = q }
+frame-sound (Empty Left) b left right state out p q = record { left = open-sound emptied left refl; right = q }
+frame-sound (Empty Right) b left right state out p q = record { left = p; right = open-sound emptied right refl }
+frame-sound (BadFrame number) b left right state out p q = record { left = p; right = q }
+
+line-sound : (line : List ℕ) (a : After) → BothSound a → BothSound (next line a)
+unfolding afterLine afterFrame
+line-sound line a sound = frame-sound (frameOf (bytesOf line)) (bytesOf line) (a .left) (a .right) (a .stepped .state) (a .out) (sound .left) (sound .right)
+
+lines-sound : (lines : List (List ℕ)) (a : After) → BothSound a → BothSound (afterLines lines a)
+unfolding afterLines
+lines-sound [] a sound = sound
+lines-sound (line ∷ lines) a sound = lines-sound lines (next line a) (line-sound line a sound)
+
+pub closed-accepted : (lines : List (List ℕ)) (left right out : List ℕ) → BothSound (afterLines lines (started left right out))
+closed-accepted lines left right out =
+    lines-sound lines (started left right out) (record { left = open-sound emptied left refl; right = open-sound emptied right refl })

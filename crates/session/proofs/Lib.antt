@@ -1,0 +1,9 @@
+pub mod Chunks
+pub mod ClosedAccepted
+pub mod Copies
+pub mod Document
+pub mod Fronts
+pub mod KeptEnough
+pub mod Lines
+pub mod Sides
+pub mod Texts

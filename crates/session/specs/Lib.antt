@@ -1,0 +1,6 @@
+pub mod Feeds
+pub mod Frames
+pub mod Lines
+pub mod Replies
+pub mod Sessions
+pub mod Steps

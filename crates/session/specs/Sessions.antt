@@ -1,0 +1,43 @@
+-- A session: "Both start empty and open", "One output line each".
+use mathlib.Core.Path.{_≡_}
+use mathlib.Core.Bool.{true}
+use mathlib.Core.List.{List, [], _∷_}
+use Prim.Native.Nat.{ℕ}
+use Prim.Native.Char.{code}
+use Prim.Native.String.{String, [] as []ˢ, _∷_ as _∷ˢ_}
+use Rattle.image.specs.declared.answer.Checked.the-variants.{Accepted}
+use Rattle.image.specs.Faults.{checkImage}
+use Rattle.session.specs.declared.reply.Reply.the-variants.{Done}
+use Rattle.session.specs.declared.step.Held.{Held}
+use Rattle.session.specs.Replies.{replyLine}
+use Rattle.session.specs.Steps.{imageOf, startState, replied, After, after, afterLine}
+
+-- the characters of a text
+unfoldable pub characters : String → List ℕ
+characters []ˢ = []
+characters (c ∷ˢ cs) = code c ∷ characters cs
+
+-- before the first line, with stores and an output that hold anything; no reply is given yet
+abbrev pub started : List ℕ → List ℕ → List ℕ → After
+started left right out = after (replied Done startState) left right out
+
+abbrev pub next : List ℕ → After → After
+next line a = afterLine line (a .left) (a .right) (a .stepped .state) (a .out)
+
+-- lines one after the other
+unfoldable pub afterLines : List (List ℕ) → After → After
+afterLines [] a = a
+afterLines (line ∷ lines) a = afterLines lines (next line a)
+
+-- what is printed for each of them
+unfoldable pub printed : List (List ℕ) → After → List (List ℕ)
+printed [] a = []
+printed (line ∷ lines) a = replyLine (next line a .stepped .reply) (next line a .out) ∷ printed lines (next line a)
+
+-- a side that is closed holds an accepted image
+abbrev pub Sound : Held → List ℕ → Type 0
+Sound h store = h .closed ≡ true → checkImage (imageOf h store) ≡ Accepted
+
+pub record BothSound (a : After) : Type 0 where
+  pub left : Sound (a .stepped .state .left) (a .left)
+  pub right : Sound (a .stepped .state .right) (a .right)
