@@ -263,11 +263,16 @@ static void measure(const char *name, struct image a, struct image b)
     }
     double c = median(compare), k = median(check), r = median(rust), m = median(bytes);
 #ifdef RUST
-    printf("| %s | %.0f | %.0f | %.0f | %.0f | %.2f | %.2f |\n", name, c / 1000, k / 1000, r / 1000, m / 1000, c / r, c / m);
+    printf("| %s | %.0f | %.0f | %.0f | %.2f |", name, c / 1000, k / 1000, r / 1000, c / r);
 #else
     (void)r;
-    printf("| %s | %.0f | %.0f | - | %.0f | - | %.2f |\n", name, c / 1000, k / 1000, m / 1000, c / m);
+    printf("| %s | %.0f | %.0f | - | - |", name, c / 1000, k / 1000);
 #endif
+    /* memcmp of images that differ tells nothing */
+    if (a.end == b.end && memcmp(a.bytes, b.bytes, a.end) == 0)
+        printf(" %.0f | %.2f |\n", m / 1000, c / m);
+    else
+        printf(" - | - |\n");
     rust_free(left);
     rust_free(right);
     free(a.bytes);
@@ -276,7 +281,7 @@ static void measure(const char *name, struct image a, struct image b)
 
 int main(void)
 {
-    printf("| layout, about a million values | check and compare, us | check alone, us | the Rust, us | memcmp, us | to the Rust | to memcmp |\n");
+    printf("| layout, about a million values | check and compare, us | check alone, us | the Rust, us | to the Rust | memcmp, us | to memcmp |\n");
     printf("|---|---|---|---|---|---|---|\n");
     measure("Int64 without nulls", int64s(0), int64s(0));
     measure("Int64, every tenth null", int64s(1), int64s(1));
