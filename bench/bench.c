@@ -98,13 +98,13 @@ static struct image int64s(int nulls)
     return m;
 }
 
-static struct image booleans(void)
+static struct image booleans(uint32_t offset)
 {
     struct image m = begin(1, 1);
     uint32_t r = node(&m, 1, 0, ROWS, 0, 1), b = buffer(&m, ROWS / 8 + 2);
-    for (uint32_t i = 0; i < ROWS / 8 + 2; i++)
-        m.bytes[b + i] = (uint8_t)(mix(i) >> 40);
-    put(&m, r + 16, 3, 4);
+    for (uint32_t i = 0; i < ROWS; i++)
+        m.bytes[b + (offset + i) / 8] |= (uint8_t)((mix(i) >> 40) % 2 << (offset + i) % 8);
+    put(&m, r + 16, offset, 4);
     return m;
 }
 
@@ -134,11 +134,10 @@ static struct image utf8s(int nulls)
 }
 
 /* texts of 4 and of 20 bytes, in turn; the long ones share a pool of 1,000 */
-static struct image views(void)
+static struct image views(int nulls)
 {
     struct image m = begin(1, 2);
-    uint32_t rows = ROWS / 2;
-    node(&m, 31, 0, rows, 0, 2);
+    uint32_t rows = ROWS / 2, r = node(&m, 31, 0, rows, 0, 2);
     uint32_t v = buffer(&m, 16 * rows), pool = buffer(&m, 20 * 1000);
     for (uint32_t i = 0; i < 20 * 1000; i++)
         m.bytes[pool + i] = (uint8_t)('a' + mix(i) % 26);
@@ -150,19 +149,23 @@ static struct image views(void)
         if (i % 2)
             put(&m, at + 12, offset, 4);
     }
+    if (nulls)
+        bitmap(&m, r, rows);
     return m;
 }
 
-static struct image dictionaries(uint32_t values)
+static struct image dictionaries(uint32_t values, int nulls)
 {
     struct image m = begin(2, 3);
-    node(&m, 41, 4, ROWS, 1, 1);
+    uint32_t r = node(&m, 41, 4, ROWS, 1, 1);
     uint32_t k = buffer(&m, 4 * ROWS);
     for (uint32_t i = 0; i < ROWS; i++)
         put(&m, k + 4 * i, mix(i) % values, 4);
     node(&m, 26, 0, values, 0, 2);
     uint32_t o = buffer(&m, 4 * (values + 1)), t = buffer(&m, 11 * values);
     texts(&m, o, t, values);
+    if (nulls)
+        bitmap(&m, r, ROWS);
     return m;
 }
 
@@ -287,13 +290,16 @@ int main(void)
     measure("Int64, every tenth null", int64s(1), int64s(1));
     measure("Utf8", utf8s(0), utf8s(0));
     measure("Utf8, every tenth null", utf8s(1), utf8s(1));
-    measure("Utf8View, half of them longer than 12 bytes", views(), views());
-    measure("Dictionary<Int32, Utf8>, 1,000 values", dictionaries(1000), dictionaries(1000));
-    measure("Dictionary<Int32, Utf8>, 300,000 values", dictionaries(300000), dictionaries(300000));
+    measure("Utf8View, half of them longer than 12 bytes", views(0), views(0));
+    measure("Utf8View, the same, every tenth null", views(1), views(1));
+    measure("Dictionary<Int32, Utf8>, 1,000 values", dictionaries(1000, 0), dictionaries(1000, 0));
+    measure("Dictionary<Int32, Utf8>, 1,000 values, every tenth null", dictionaries(1000, 1), dictionaries(1000, 1));
+    measure("Dictionary<Int32, Utf8>, 300,000 values", dictionaries(300000, 0), dictionaries(300000, 0));
     measure("List<Int32>, 250,000 lists of 4", lists(), lists());
     measure("Struct of three, every tenth null", structs(), structs());
     measure("RunEndEncoded<Int32, Int64>, runs of 10", runs(10), runs(10));
     measure("RunEndEncoded<Int32, Int64>, runs of 10 against 5", runs(10), runs(5));
-    measure("Boolean at an odd offset", booleans(), booleans());
+    measure("Boolean at offset 3", booleans(3), booleans(3));
+    measure("Boolean at offsets 3 and 5", booleans(3), booleans(5));
     return 0;
 }

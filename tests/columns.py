@@ -11,6 +11,9 @@ from model import P1, RUN_END_ENCODED, SPARSE_UNION, STRUCT, TEXTS, UNIONS, VIEW
 LEAVES = [NULL, BOOLEAN, *range(2, 33)]
 NESTED = [*range(33, 44)]
 
+# how long texts that are not among the usual few are
+TEXT_LENGTHS = [1, 4, 12, 13, 20]
+
 
 def number(width, value):
     return (value % 256**width).to_bytes(width, "little")
@@ -73,7 +76,7 @@ def random_row(rng, type, nulls=0.2):
     if code == BOOLEAN:
         return rng.randint(0, 1)
     if code in TEXTS or code in VIEWS:
-        return rng.choice([b"", b"a", b"b", b"ab", rng.randbytes(rng.choice([1, 4, 12, 13, 20]))])
+        return rng.choice([b"", b"a", b"b", b"ab", rng.randbytes(rng.choice(TEXT_LENGTHS))])
     if code in LISTS or code in LIST_VIEWS:
         return [random_row(rng, type.children[0], nulls) for _ in range(rng.choice([0, 1, 2, 3]))]
     if code == FIXED_SIZE_LIST:
@@ -226,16 +229,23 @@ def lay_union(rng, type, stored, offset, spare, plain):
 def lay_dictionary(rng, type, stored, judged, odd, plain):
     child, width = type.children[0], type.width()
     values = [random_row(rng, child) for _ in range(rng.randint(0, 2))] if rng.random() < odd else []
+    seen = set(map(repr, values))
     for row in stored:
-        if row[0] not in values or rng.random() < odd / 2:
+        if repr(row[0]) not in seen or rng.random() < odd / 2:
             values.append(row[0])
+            seen.add(repr(row[0]))
     if rng.random() < odd:
         rng.shuffle(values)
-    values = values[:127]
+    # as many as a key can name
+    values = values[: 256**width // (2 if type.p1 <= 5 else 1)]
+    places = {}
+    for k, value in enumerate(values):
+        places.setdefault(repr(value), []).append(k)
     keys = []
     for row, counts in zip(stored, judged):
         if counts:
-            keys.append(rng.choice([k for k, value in enumerate(values) if value == row[0]]))
+            # an IndexError where no key can name the value
+            keys.append(rng.choice(places.get(repr(row[0]), [])))
         else:
             keys.append(rng.randrange(256) if rng.random() < odd else 0)
     return [b"".join(number(width, key) for key in keys)], [lay(rng, child, values, plain)]

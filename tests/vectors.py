@@ -236,17 +236,20 @@ def most_rows(data):
 
 
 def rust(script):
-    """The Rust's answers. Tables of very many rows are left out: the model, which closes the sides, goes row by row."""
+    """The Rust's answers. The model, which goes row by row, does not close tables of very many rows: all that are listed are
+    accepted."""
     with open(ANSWERS, encoding="ascii") as listed:
         for line in listed:
             if not line.strip() or line.startswith("#"):
                 continue
             left, right, *numbers, kind, answer = line.split()
             images = [bytes.fromhex(left), bytes.fromhex(right)]
-            if max(map(len, images)) > model.Session.STORE or max(map(most_rows, images)) > 10_000:
+            if max(map(len, images)) > model.Session.STORE:
                 continue
             for side, data in enumerate(images):
                 script.store(side, data)
+                if most_rows(data) > 10_000:
+                    script.answered("00")
             if kind == "whole":
                 script.compare()
             else:

@@ -33,7 +33,7 @@ def packed(answer):
 
 def table(rng, seed):
     kind = columns.random_type(rng, rng.choice([1, 2, 3, 4]), seed % 44)
-    return kind, [columns.random_row(rng, kind) for _ in range(rng.choice([0, 1, 3, 9, 40]))]
+    return kind, [columns.random_row(rng, kind) for _ in range(rng.choice([0, 1, 3, 9, 40, 70, 150]))]
 
 
 def laid(rng, kind, rows):

@@ -194,19 +194,10 @@ def by_model():
 def session():
     """The session program's input for the list, and its replies."""
     given, replies = [], []
-
-    def ask(frame, reply):
-        given.append(frame.hex())
-        replies.append(reply)
-
     for case, answer in read():
-        for side, data in enumerate((case.left, case.right)):
-            ask(bytes([7, side]), "00")
-            for at in range(0, len(data), 64):
-                ask(bytes([1 + side]) + data[at : at + 64], "00")
-            ask(bytes([3, side]), "00")
-        frame = b"\x05" + b"".join(x.to_bytes(4, "little") for x in case.range) if case.range else b"\x04"
-        ask(frame, "00%02x" % answer)
+        frames = [frame.hex() for frame in case.frames()]
+        given += frames
+        replies += ["00"] * (len(frames) - 1) + ["00%02x" % answer]
     return "".join(line + "\n" for line in given), "".join(line + "\n" for line in replies)
 
 

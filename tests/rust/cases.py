@@ -16,6 +16,12 @@ from model import DENSE_UNION, DICTIONARY, FIXED_SIZE_BINARY, LIST_VIEWS, LISTS,
 
 KINDS = ["layouts", "difference", "labels", "types", "range", "range with a difference", "no rows"]
 
+# as deep as an image may be
+DEEPEST = 16
+
+# how many of the long tables have more than a block of rows
+VERY_LONG = 0.03
+
 # codes whose rows have the same form, so that one type's rows can be laid out as another's
 FORMS = [[code for code in WIDTHS if WIDTHS[code] == width] for width in (1, 2, 4, 8, 16)]
 FORMS += [[*TEXTS, *VIEWS], [33, 34, 35, 36], [39, 40]]
@@ -30,6 +36,19 @@ class Case:
         starts = self.range or (0, 0, 0)
         kind = (self.range is not None) + 2 * self.masks
         return struct.pack("<I", len(self.left)) + self.left + struct.pack("<I", len(self.right)) + self.right + struct.pack("<IIIB", *starts, kind)
+
+    def frames(self):
+        """The session's frames that store the pair and ask about it."""
+        for side, data in enumerate((self.left, self.right)):
+            yield bytes([7, side])
+            for at in range(0, len(data), 64):
+                yield bytes([1 + side]) + data[at : at + 64]
+            yield bytes([3, side])
+        yield b"\x05" + struct.pack("<III", *self.range) if self.range else b"\x04"
+
+    def rows(self):
+        """The rows of the longer table."""
+        return max(struct.unpack_from("<I", image, 16)[0] for image in (self.left, self.right))
 
     def line(self):
         starts = " ".join(map(str, self.range or (0, 0, 0)))
@@ -48,8 +67,7 @@ def random_type(rng, code):
     if made.code in UNIONS and rng.random() < 0.05:
         made.children = []
     elif rng.random() < 0.01:
-        # as deep as an image may be
-        while depth_of(made) < 16:
+        while depth_of(made) < DEEPEST:
             parent = rng.choice([33, 37, 38, 40])
             made = columns.Type(parent, int(parent == 37), children=[made.copy(id=5 if parent == 40 else 0)])
     return made
@@ -65,7 +83,7 @@ def random_rows(rng, type, nulls):
     count = rng.choice([0, 1, 2, 3, 5, 8])
     if depth_of(type) <= 2 and rng.random() < 0.08:
         # more than a word or a block of rows
-        count = rng.choice([1023, 1025, 2500]) if rng.random() < 0.03 else rng.choice([63, 64, 65, 130, 300])
+        count = rng.choice([1023, 1025, 2500]) if rng.random() < VERY_LONG else rng.choice([63, 64, 65, 130, 300])
     return [columns.random_row(rng, type, nulls) for _ in range(count)]
 
 
@@ -131,7 +149,8 @@ def change_one(rng, type, rows):
 
 
 def random_case(rng, code, kind):
-    """A pair of that kind; the left or the right type has that code. None where the rows do not fit the layout."""
+    """A pair of that kind; the left or the right type has that code. None where the rows do not fit the layout, or a type is
+    deeper than an image may be."""
     nulls = rng.choice([0.0, 0.1, 0.2, 0.5, 0.9])
     type = random_type(rng, code)
     rows = [] if kind == "no rows" else random_rows(rng, type, nulls)
@@ -148,6 +167,8 @@ def random_case(rng, code, kind):
         others = [columns.relabelled(type, other, row) for row in rows]
     elif kind == "types":
         other = change_form(rng, type)
+        if depth_of(other) > DEEPEST:
+            return None
         others = [refit(type, other, row) for row in rows]
     elif kind.startswith("range"):
         start = rng.randint(0, len(rows))
