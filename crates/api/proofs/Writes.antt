@@ -1,13 +1,13 @@
 -- Steps of the answer of a write, and of what its buffer holds afterwards: what callees gave, put into the definitions.
 -- By rewriting with the callees' equations; the room that measuring leaves says whether the range's bytes fit.
-use mathlib.Core.Path.{_≡_, refl, sym, ap, _∙_}
-use mathlib.Core.Bool.{Bool, true, false, cond}
+use mathlib.Core.Path.{_≡_, sym, ap, _∙_}
+use mathlib.Core.Bool.{true, false}
 use mathlib.Core.List.{List, [], _∷_, _++_}
 use Prim.Native.Nat.{ℕ, _+_, _-_, _≤_, _<_}
 use native.Mathlib.Omega.{arith}
 use lib.ListN.{length, take, drop}
 use lib.Dec.{ltb}
-use borrow.Author.Tests.{ltb-false}
+use borrow.Author.Tests.{lt-ltb, le-ltb}
 use Rattle.image.specs.declared.answer.Checked.{Checked}
 use Rattle.image.specs.declared.answer.Checked.the-variants.{Accepted, Refused}
 use Rattle.image.specs.declared.answer.Fault.{Fault}
@@ -17,29 +17,12 @@ use Rattle.image.specs.Faults.{checkImage}
 use Rattle.image.specs.Row.{rowAt, range, tableRows}
 use Rattle.image.specs.RowBytes.{rowsBytes, rangeBytes}
 use Rattle.image.specs.Answers.{exceeds, afterCheck, writeRange, writeAnswer, writeOutput}
-use Rattle.rows.specs.declared.measure.Room.{Room}
 use Rattle.rows.specs.declared.measure.Room.the-variants.{Left, Short}
 use Rattle.rows.specs.Output.{over, roomAfter, Fits}
+use Rattle.rows.proofs.Rooms.{left-told, short-told}
 use Rattle.values.specs.Parts.{Side}
 use Rattle.laws.proofs.Accepted.{accepted}
 use Rattle.api.proofs.Answers.{within}
-
--- the room that is left says whether so many bytes are more than there is room for
-short : (room n : ℕ) → roomAfter room n ≡ Short → ltb room n ≡ true
-unfolding roomAfter
-short room n e = cases (ltb room n) e
-  where
-    cases : (x : Bool) → cond x Short (Left (room - n)) ≡ Short → x ≡ true
-    cases true e = refl
-    cases false e = cc
-
-enough : (room n rest : ℕ) → roomAfter room n ≡ Left rest → ltb room n ≡ false
-unfolding roomAfter
-enough room n rest e = cases (ltb room n) e
-  where
-    cases : (x : Bool) → cond x Short (Left (room - n)) ≡ Left rest → x ≡ false
-    cases true e = cc
-    cases false e = refl
 
 -- the rows that are measured and written
 pub table-side : (s : List ℕ) (i n : ℕ) → checkImage s ≡ Accepted → exceeds s i n ≡ false → Side s 0 i n
@@ -67,18 +50,18 @@ module _ (s : List ℕ) (i n : ℕ) (out : List ℕ) where
     pub write-too-long : exceeds s i n ≡ false → roomAfter (length out) (length bytes) ≡ Short → (TooLong ≡ writeAnswer s i n out) × (out ≡ writeOutput s i n out)
     unfolding writeAnswer writeOutput writeRange rangeBytes tableRows
     write-too-long inside e =
-        let long = short _ _ e in
+        let long : ltb (length out) (length bytes) ≡ true = lt-ltb _ _ (short-told _ _ (sym e)) in
         (rw (image, inside, long), rw (image, inside, long))
 
     pub write-fits : {rest : ℕ} → roomAfter (length out) (length bytes) ≡ Left rest → Fits out 0 bytes
     write-fits e =
-        let h : length bytes ≤ length out = ltb-false _ _ (enough _ _ _ e) in
-        record { within = omega arith }
+        record { within = omega (arith, left-told _ _ _ (sym e)) }
 
     pub write-bytes : {rest k : ℕ} {after : List ℕ} → exceeds s i n ≡ false → roomAfter (length out) (length bytes) ≡ Left rest → k ≡ 0 + length bytes → after ≡ over out 0 bytes
         → (Bytes k ≡ writeAnswer s i n out) × (after ≡ writeOutput s i n out)
     unfolding writeAnswer writeOutput writeRange rangeBytes tableRows over
-    write-bytes inside e ek eo =
-        let fits = enough _ _ _ e in
+    write-bytes {rest} inside e ek eo =
+        let room : length out ≡ rest + length bytes = left-told (length out) (length bytes) rest (sym e) in
+        let fits : ltb (length out) (length bytes) ≡ false = le-ltb (length out) (length bytes) (omega arith) in
         let z : 0 + length bytes ≡ length bytes = omega arith in
         (rw (image, inside, fits) (ap Bytes (ek ∙ z)), rw (image, inside, fits) (eo ∙ ap (λ (m : ℕ). bytes ++ drop m out) z))

@@ -16,7 +16,7 @@ use Rattle.image.specs.Reads.{Read}
 use Rattle.image.specs.Row.{Row, range, dictionaryRow, rowAt}
 use Rattle.image.specs.Equality.{rowEqual}
 use Rattle.values.specs.Pairs.{rangeEqual}
-use Rattle.values.specs.Parts.{Sides, Parts}
+use Rattle.values.specs.Parts.{Side, Sides, Parts}
 use Rattle.values.proofs.Steps.{sameRow}
 use Rattle.values.proofs.Nodes.{part-node, part-at, length-small}
 use Rattle.values.proofs.ChildRows.{key-below}
@@ -31,6 +31,13 @@ key-row A B a b k l x y = refl
 module _ {a b : List ℕ} {k l i j n d : ℕ} (r : Parts a b k l i j n d) (keys : layoutOf (codeOf a k) ≡ Dictionary) where
   pub key-narrow : elementWidth a k ≤ 8
   key-narrow = part-node (r .left) .widths .keys keys
+
+  -- the values children, as they are read
+  pub key-nodes : {ca cb : ℕ} → Read (firstChild a k) 16 ca → Read (firstChild b l) 16 cb → Side a ca 0 0 × Side b cb 0 0
+  key-nodes fa fb =
+      let one : childCount a k ≡ 1 = count-left r 1 (rw keys) in
+      let sides : Sides a b (firstChild a k) (firstChild b l) 0 0 0 d = first-sides r 0 0 0 (omega arith) (omega arith) (omega arith) in
+      rw (fa .value, fb .value) (sides .left, sides .right)
 
   -- element h of the range, as its keys are read
   module _ (h : ℕ) (lt : h < n) {ca cb x y : ℕ} (fa : Read (firstChild a k) 16 ca) (fb : Read (firstChild b l) 16 cb) (ex : x ≡ elementAt a k (i + h)) (ey : y ≡ elementAt b l (j + h)) where

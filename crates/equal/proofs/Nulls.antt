@@ -17,7 +17,7 @@ use Rattle.image.specs.Row.{Row, null, range, masked, booleanRow, fixedRow, var
 use Rattle.image.specs.Equality.{rowEqual}
 use Rattle.image.proofs.Ranges.{every-at, range-same}
 use Rattle.values.specs.Bits.{Leading}
-use Rattle.values.specs.Pairs.{all, rangeEqual, sameMask, maskedFixed}
+use Rattle.values.specs.Pairs.{all, rangeEqual, sameMask, maskedRow}
 use Rattle.values.specs.Parts.{Sides, Parts, Masked}
 use Rattle.values.proofs.Steps.{sameRow, by-rows, all-moved}
 use Rattle.values.proofs.Blocks.{all-at, all-weaker}
@@ -192,21 +192,22 @@ module _ {a b : List ℕ} {k l i j n d h m : ℕ} (r : Sides a b k l i j n (suc 
     pub valid-fail : rangeEqual (valueAt (layoutOf (codeOf a k)) (rowAt d a) a k) (valueAt (layoutOf (codeOf b l)) (rowAt d b) b l) (oa + (i + h)) (ob + (j + h)) m ≡ false → false ≡ rangeEqual (rowAt (suc d) a k) (rowAt (suc d) b l) i j n
     valid-fail e = rows-jump-fail kept m (lead .within) (sym (run-answer r masks h m run-within (lead .holds) ra rb) ∙ e)
 
--- rows of fixed-width nodes
-fixed-row : (s : List ℕ) (k d i : ℕ) → layoutOf (codeOf s k) ≡ FixedWidth → maskedFixed s k i ≡ rowAt (suc d) s k i
-unfolding maskedFixed rowAt
-fixed-row s k d i e = rw e
+-- rows of nodes without children: `value` gives the values of their layout
+module _ {a b : List ℕ} {k l i j n d : ℕ} (r : Sides a b k l i j n (suc d)) {x : Layout} (layout : layoutOf (codeOf a k) ≡ x) where
+  pub masked-requires : all (sameMask a k b l) i j n ≡ true → Masked x a b k l i j n
+  masked-requires masks = record { left = r .left; right = r .right; layout = layout; code = r .alike .0 .code; p1 = r .alike .0 .p1; masks = masks }
 
-module _ {a b : List ℕ} {k l i j n d : ℕ} (r : Sides a b k l i j n (suc d)) (fixed : layoutOf (codeOf a k) ≡ FixedWidth) where
-  pub fixed-requires : all (sameMask a k b l) i j n ≡ true → Masked a b k l i j n
-  fixed-requires masks = record { left = r .left; right = r .right; fixed = fixed; code = r .alike .0 .code; p1 = r .alike .0 .p1; masks = masks }
+  module _ (value : List ℕ → ℕ → ℕ → Row) (known : (A : ℕ → ℕ → Row) (s : List ℕ) (k j : ℕ) → value s k j ≡ valueAt x A s k j) where
+    leaf-row : (s : List ℕ) (k i : ℕ) → layoutOf (codeOf s k) ≡ x → maskedRow value s k i ≡ rowAt (suc d) s k i
+    unfolding maskedRow rowAt
+    leaf-row s k i e = rw (e, ← known (rowAt d s) s k (offsetOf s k + i))
 
-  pub fixed-answer : rangeEqual (maskedFixed a k) (maskedFixed b l) i j n ≡ rangeEqual (rowAt (suc d) a k) (rowAt (suc d) b l) i j n
-  fixed-answer =
-      rw (
-        range-same (maskedFixed a k) (rowAt (suc d) a k) i n (λ x le lt. fixed-row a k d x fixed),
-        range-same (maskedFixed b l) (rowAt (suc d) b l) j n (λ x le lt. fixed-row b l d x (ap layoutOf (sym (r .alike .0 .code)) ∙ fixed)),
-      )
+    pub masked-answer : rangeEqual (maskedRow value a k) (maskedRow value b l) i j n ≡ rangeEqual (rowAt (suc d) a k) (rowAt (suc d) b l) i j n
+    masked-answer =
+        rw (
+          range-same (maskedRow value a k) (rowAt (suc d) a k) i n (λ x le lt. leaf-row a k x layout),
+          range-same (maskedRow value b l) (rowAt (suc d) b l) j n (λ x le lt. leaf-row b l x (ap layoutOf (sym (r .alike .0 .code)) ∙ layout)),
+        )
 
 -- A range at any depth.
 -- with no depth left all rows are equal

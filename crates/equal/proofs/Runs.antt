@@ -17,7 +17,7 @@ use Rattle.image.specs.Row.{Row, range, runRow, rowAt}
 use Rattle.image.specs.Equality.{rowEqual}
 use Rattle.laws.specs.Accepted.{RunsCover}
 use Rattle.values.specs.Pairs.{all, rangeEqual}
-use Rattle.values.specs.Parts.{Part, Sides, Parts, RunPart, RunParts, Together}
+use Rattle.values.specs.Parts.{Part, Side, Sides, Parts, RunPart, RunParts, Together}
 use Rattle.values.proofs.Nodes.{part-node, part-at}
 use Rattle.values.proofs.RunEnds.{ends-before, run-is, ends-rise, run-first, runs-few}
 use Rattle.values.proofs.Steps.{left-none, left-fails, all-split, sameRow, by-rows, all-by}
@@ -63,6 +63,13 @@ module _ {s : List ℕ} {k j n : ℕ} (r : Part s k j n) (runs : layoutOf (codeO
 
       pub run-next : (m : ℕ) → m ≡ e - (j + h) → h + m < n → i + 1 ≡ runAt s k (j + (h + m))
       run-next m is l = ap (λ (x : ℕ). x + 1) ei ∙ run-turns cover (j + h) (j + (h + m)) (run-part h lt .element) (omega (arith, end-is, run-above)) (run-part (h + m) l .element)
+
+-- the values children of two run nodes, as they are read
+pub run-nodes : {a b : List ℕ} {k l s t n d ca cb : ℕ} → Parts a b k l s t n d → layoutOf (codeOf a k) ≡ Runs → Read (firstChild a k) 16 ca → Read (firstChild b l) 16 cb → Side a (ca + 1) 0 0 × Side b (cb + 1) 0 0
+run-nodes {a} {b} {k} {l} {s} {t} {n} {d} r runs fa fb =
+    let two : childCount a k ≡ 2 = count-left r 2 (rw runs) in
+    let sides : Sides a b (firstChild a k + 1) (firstChild b l + 1) 0 0 0 d = child-sides r 1 0 0 0 (omega arith) (omega arith) (omega arith) in
+    rw (fa .value, fb .value) (sides .left, sides .right)
 
 -- rows of two run nodes are those of the values of their runs
 pub run-row : (A B : ℕ → ℕ → Row) (a b : List ℕ) (k l x y : ℕ)

@@ -1,9 +1,10 @@
 // Dictionaries. Translated from src/equal/dictionary.rs of arrow-data 60.1.0 (Apache-2.0).
-use crate::equal_range;
+use crate::equal_row;
 use image::bytes::nth;
 use image::element::element_width;
 use image::record::buffer_place;
 use image::record::first_child;
+use values::leaf::leaves_of;
 ghost use mathlib.Core.Path.{_≡_};
 ghost use Prim.Native.Nat.{_+_, _<_, _≤_, _^_};
 ghost use Rattle.image.specs.declared.type_code.Layout.the-variants.{Dictionary};
@@ -39,6 +40,7 @@ fn long_equal(
     let kb = buffer_place(b, bn, 0);
     let ca = first_child(a, an);
     let cb = first_child(b, bn);
+    let leaves = leaves_of(a, ca, b, cb);
     let mut kept = [0usize; 1024];
     let mut row: usize = 0;
     while row < n {
@@ -48,7 +50,7 @@ fn long_equal(
         let place = x % KEPT;
         row += 1;
         if kept[place] != pair {
-            if !equal_range(a, ca, b, cb, x, y, 1, depth) {
+            if !equal_row(a, ca, b, cb, leaves, x, y, depth) {
                 return false;
             }
             kept[place] = pair;
@@ -80,11 +82,12 @@ pub fn dictionary_equal(
     let kb = buffer_place(b, bn, 0);
     let ca = first_child(a, an);
     let cb = first_child(b, bn);
+    let leaves = leaves_of(a, ca, b, cb);
     let mut k: usize = 0;
     while k < n {
         let x = nth(a, ka, width, s + k);
         let y = nth(b, kb, width, t + k);
-        if !equal_range(a, ca, b, cb, x, y, 1, depth) {
+        if !equal_row(a, ca, b, cb, leaves, x, y, depth) {
             return false;
         }
         k += 1;

@@ -22,8 +22,11 @@ use union::equal_dense;
 use union::equal_sparse;
 use values::boolean::boolean_equal;
 use values::byte_view::byte_view_equal;
+use values::byte_view::masked_views_equal;
 use values::data::contains_nulls;
 use values::data::valid_rows;
+use values::leaf::Leaves;
+use values::leaf::leaf_equal;
 use values::null::null_equal;
 use values::primitive::masked_equal;
 use values::primitive::primitive_equal;
@@ -36,7 +39,7 @@ ghost use Rattle.image.specs.Record.{codeOf};
 ghost use Rattle.image.specs.TypeCode.{layoutOf};
 ghost use Rattle.image.specs.Row.{rowAt, valueAt};
 ghost use Rattle.values.specs.Pairs.{all, rangeEqual, sameMask};
-ghost use Rattle.values.specs.Parts.{Sides, Parts};
+ghost use Rattle.values.specs.Parts.{Sides, Parts, Leafy};
 
 // The elements of two nodes from s and from t on are equal, n of them, none of them null: the rule of their layout.
 fn equal_values(
@@ -90,6 +93,9 @@ fn equal_valid(
     if let Layout::FixedWidth = layout {
         return masked_equal(a, an, b, bn, s, t, n);
     }
+    if let Layout::View = layout {
+        return masked_views_equal(a, an, b, bn, s, t, n);
+    }
     let oa = offset(a, an);
     let ob = offset(b, bn);
     let mut k: usize = 0;
@@ -105,6 +111,29 @@ fn equal_valid(
         }
     }
     true
+}
+
+// Row s of one node and row t of another are equal, where l is what was read of the nodes.
+fn equal_row(
+    a: &[u8],
+    an: u32,
+    b: &[u8],
+    bn: u32,
+    l: Leaves,
+    s: usize,
+    t: usize,
+    depth: usize,
+) -> bool
+    requires { ⌜ Sides (now a) (now b) an bn s t 1 depth ⌝ }
+    requires { ⌜ Leafy (now a) (now b) an bn l ⌝ }
+    ensures { λ r. ⌜ r ≡ rangeEqual (rowAt depth (now (a .entry)) an) (rowAt depth (now (b .entry)) bn) s t 1 ⌝ }
+{
+    if 0 < depth {
+        if l.fixed | l.texts {
+            return leaf_equal(a, an, b, bn, l, s, t, depth - 1);
+        }
+    }
+    equal_range(a, an, b, bn, s, t, 1, depth)
 }
 
 // The rows of two nodes from s and from t on are equal, n of them.

@@ -1,6 +1,9 @@
 // Run-end encoded rows. Translated from src/equal/run.rs of arrow-data 60.1.0 (Apache-2.0).
 use crate::equal_range;
+use crate::equal_row;
 use image::record::first_child;
+use values::leaf::leaves_of;
+use values::runs::ends_of;
 use values::runs::run_end;
 use values::runs::run_of;
 use values::runs::same_runs;
@@ -48,13 +51,16 @@ pub fn run_equal(
     if runs > 0 {
         return equal_range(a, va, b, vb, i, j, runs, depth);
     }
+    let leaves = leaves_of(a, va, b, vb);
+    let ea = ends_of(a, an);
+    let eb = ends_of(b, bn);
     'runs: while k < n {
-        if !equal_range(a, va, b, vb, i, j, 1, depth) {
+        if !equal_row(a, va, b, vb, leaves, i, j, depth) {
             equal = false;
             break 'runs;
         }
-        let x = run_end(a, an, i) - (s + k);
-        let y = run_end(b, bn, j) - (t + k);
+        let x = run_end(a, an, ea, i) - (s + k);
+        let y = run_end(b, bn, eb, j) - (t + k);
         let step = least(least(x, y), n - k);
         k += step;
         if step == x {

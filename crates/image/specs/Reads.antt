@@ -1,9 +1,11 @@
 -- What a reader's contract says of its result.
 use mathlib.Core.Path.{_≡_}
+use mathlib.Core.Bool.{Bool}
 use mathlib.Core.List.{List}
 use mathlib.Core.Logic.{_⊎_}
 use Prim.Native.Nat.{ℕ, _+_, _*_, _<_, _≤_, _^_}
 use lib.ListN.{length, getD}
+use Rattle.image.specs.Record.{hasBitmap, bitmapPlace, firstBit}
 use Rattle.image.specs.Element.{childWithId}
 
 -- the result is the number x, which fits so many bits
@@ -27,3 +29,9 @@ pub record ById (s : List ℕ) (k : ℕ) (table : List ℕ) : Type 0 where
   pub sized : length table ≡ 256
   pub entry : (id : ℕ) → id < 256 → getD table id 0 ≡ childWithId s k id
   pub small : (id : ℕ) → id < 256 → getD table id 0 < 2 ^ 17
+
+-- of node k's null mask: whether there is a bitmap, where it starts, and the bit of row 0
+pub record MaskRead (s : List ℕ) (k : ℕ) (some : Bool) (place first : ℕ) : Type 0 where
+  pub is-there : some ≡ hasBitmap s k
+  pub start : place ≡ bitmapPlace s k
+  pub row : Read (firstBit s k) 32 first

@@ -14,18 +14,51 @@ use crate::record::type_id;
 use crate::type_code::TypeCode;
 ghost use mathlib.Core.Path.{_≡_};
 ghost use Prim.Native.Nat.{_<_, _≤_, _^_};
-ghost use Rattle.image.specs.Reads.{Read, ById};
+ghost use Rattle.image.specs.Reads.{Read, ById, MaskRead};
 ghost use Rattle.image.specs.Element.{valid, elementWidth, elementAt, childWithId};
 
-// Row i is not null: its bitmap bit is 1, or the node has no bitmap.
+// The size of a view.
+pub const VIEW_SIZE: usize = 16;
+
+// A view of at most so many bytes holds them itself.
+pub const INLINE_LENGTH: usize = 12;
+
+// The null mask of a node, for a loop that asks for many rows: whether there is a bitmap, where it starts, and the bit of
+// row 0.
+pub struct Mask {
+    pub some: bool,
+    pub place: usize,
+    pub first: usize,
+}
+
+// The null mask of a node.
+pub fn mask_of(image: &[u8], node: u32) -> Mask
+    ensures { λ r. ⌜ MaskRead (now (image .entry)) node (r .some) (r .place) (r .first) ⌝ }
+{
+    Mask {
+        some: has_bitmap(image, node),
+        place: bitmap_place(image, node),
+        first: first_bit(image, node),
+    }
+}
+
+// Row i is not null, by its node's mask: its bitmap bit is 1, or the node has no bitmap.
+pub fn is_kept(image: &[u8], node: u32, mask: Mask, i: usize) -> bool
+    requires { ⌜ MaskRead (now image) node (mask .some) (mask .place) (mask .first) × (i < 2 ^ 34) ⌝ }
+    ensures { λ r. ⌜ r ≡ valid (now (image .entry)) node i ⌝ }
+{
+    if !mask.some {
+        return true;
+    }
+    bit(image, mask.place, mask.first + i)
+}
+
+// Row i is not null.
 pub fn is_valid(image: &[u8], node: u32, i: usize) -> bool
     requires { ⌜ i < 2 ^ 34 ⌝ }
     ensures { λ r. ⌜ r ≡ valid (now (image .entry)) node i ⌝ }
 {
-    if !has_bitmap(image, node) {
-        return true;
-    }
-    bit(image, bitmap_place(image, node), first_bit(image, node) + i)
+    is_kept(image, node, mask_of(image, node), i)
 }
 
 // The width in bytes of an element of the node's first buffer.

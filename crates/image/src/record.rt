@@ -15,7 +15,7 @@ const HEADER_SIZE: usize = 4;
 
 pub const RECORD_SIZE: usize = 44;
 
-const ENTRY_SIZE: usize = 8;
+pub const ENTRY_SIZE: usize = 8;
 
 // n, the number of nodes.
 pub fn node_count(image: &[u8]) -> u32
@@ -213,7 +213,7 @@ fn entry_place(image: &[u8], buffer: usize) -> usize
 }
 
 // The entry of buffer j of a node, counted from 0 within the node.
-fn node_entry(image: &[u8], node: u32, j: u32) -> usize
+pub fn node_entry(image: &[u8], node: u32, j: u32) -> usize
     ensures { λ r. ⌜ Read (entryPlace (now (image .entry)) (firstBuffer (now (image .entry)) node + j)) 40 r ⌝ }
 {
     let first = first_buffer(image, node) as usize;

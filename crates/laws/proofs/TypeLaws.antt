@@ -51,13 +51,13 @@ labels-trans : {c : Counted} {s t u : List ℕ} {i j k : ℕ} → Labels c s t i
 labels-trans l m = record { name = λ on. l .name on ∙ m .name on; flag = λ on. l .flag on ∙ m .flag on; id = λ on. l .id on ∙ m .id on }
 
 -- code, p1, p2 and child count of node i of s and of node j of t are the same
-pub record Heads (s t : List ℕ) (i j : ℕ) : Type 0 where
+pub record SameHeads (s t : List ℕ) (i j : ℕ) : Type 0 where
   pub code : codeOf s i ≡ codeOf t j
   pub p1 : p1Of s i ≡ p1Of t j
   pub p2 : p2Of s i ≡ p2Of t j
   pub children : childCount s i ≡ childCount t j
 
-pub heads-same : (s t : List ℕ) (i j : ℕ) → headsAgree s t i j ≡ true → Heads s t i j
+pub heads-same : (s t : List ℕ) (i j : ℕ) → headsAgree s t i j ≡ true → SameHeads s t i j
 unfolding headsAgree
 heads-same s t i j e =
     let e3 = and-left _ _ e in
@@ -69,23 +69,23 @@ heads-same s t i j e =
       children = eqb-true _ _ (and-right (eqb (codeOf s i) (codeOf t j) && eqb (p1Of s i) (p1Of t j) && eqb (p2Of s i) (p2Of t j)) _ e);
     }
 
-pub same-heads : (s t : List ℕ) (i j : ℕ) → Heads s t i j → headsAgree s t i j ≡ true
+pub same-heads : (s t : List ℕ) (i j : ℕ) → SameHeads s t i j → headsAgree s t i j ≡ true
 unfolding headsAgree
 same-heads s t i j h =
     and-true _ _ (and-true _ _ (and-true _ _ (eq-eqb _ _ (h .code)) (eq-eqb _ _ (h .p1))) (eq-eqb _ _ (h .p2))) (eq-eqb _ _ (h .children))
 
-heads-refl : (s : List ℕ) (i : ℕ) → Heads s s i i
+heads-refl : (s : List ℕ) (i : ℕ) → SameHeads s s i i
 heads-refl s i = record { code = refl; p1 = refl; p2 = refl; children = refl }
 
-heads-sym : {s t : List ℕ} {i j : ℕ} → Heads s t i j → Heads t s j i
+heads-sym : {s t : List ℕ} {i j : ℕ} → SameHeads s t i j → SameHeads t s j i
 heads-sym h = record { code = sym (h .code); p1 = sym (h .p1); p2 = sym (h .p2); children = sym (h .children) }
 
-heads-trans : {s t u : List ℕ} {i j k : ℕ} → Heads s t i j → Heads t u j k → Heads s u i k
+heads-trans : {s t u : List ℕ} {i j k : ℕ} → SameHeads s t i j → SameHeads t u j k → SameHeads s u i k
 heads-trans h g = record { code = h .code ∙ g .code; p1 = h .p1 ∙ g .p1; p2 = h .p2 ∙ g .p2; children = h .children ∙ g .children }
 
 -- one level of the agreement of types: the heads, and of the children in turn the labels and the types
 pub record Level (d : ℕ) (p : Place) (s t : List ℕ) (i j : ℕ) : Type 0 where
-  pub heads : Heads s t i j
+  pub heads : SameHeads s t i j
   pub labels : (c : ℕ) → c < childCount s i → Labels (countedFor p (codeOf s i)) s t (firstChild s i + c) (firstChild t j + c)
   pub types : (c : ℕ) → c < childCount s i → typesAgreeAt d (childPlace p (codeOf s i)) s t (firstChild s i + c) (firstChild t j + c) ≡ true
 

@@ -26,7 +26,7 @@ unfolding roomAfter
 past-short room n lt = rw (lt-ltb room n lt)
 
 -- what an answer tells
-left-told : (room n left : ℕ) → Left left ≡ roomAfter room n → room ≡ left + n
+pub left-told : (room n left : ℕ) → Left left ≡ roomAfter room n → room ≡ left + n
 unfolding roomAfter
 left-told room n left e = cases (ltb room n) refl e
   where
@@ -37,7 +37,7 @@ left-told room n left e = cases (ltb room n) refl e
         let same : left ≡ room - n = cc in
         omega arith
 
-short-told : (room n : ℕ) → Short ≡ roomAfter room n → room < n
+pub short-told : (room n : ℕ) → Short ≡ roomAfter room n → room < n
 unfolding roomAfter
 short-told room n e = cases (ltb room n) refl e
   where

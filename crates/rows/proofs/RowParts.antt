@@ -8,7 +8,7 @@ use native.Mathlib.Omega.{arith}
 use lib.ListN.{length, length-append}
 use borrow.Author.Tests.{not-true, not-false}
 use Rattle.image.specs.Bytes.{numberBytes, bytesAt}
-use Rattle.image.specs.Record.{codeOf, offsetOf, elementsOf}
+use Rattle.image.specs.Record.{codeOf, offsetOf}
 use Rattle.image.specs.TypeCode.{layoutOf}
 use Rattle.image.specs.Element.{valid}
 use Rattle.image.specs.Reads.{Read}
@@ -16,6 +16,7 @@ use Rattle.image.specs.Row.{Row, null, fixed, sized, joined as joinedRow, count
 use Rattle.image.specs.RowBytes.{rowBytes, rowsBytes}
 use Rattle.laws.proofs.Lengths.{number-length, bytes-length}
 use Rattle.values.specs.Parts.{Side, Part}
+use Rattle.values.proofs.Nodes.{side-part}
 use Rattle.values.proofs.Fixed.{side-small}
 use Rattle.rows.specs.declared.value.Value.{Value}
 use Rattle.rows.specs.Value.{isNull, ownBytes, valueBytes, Made}
@@ -99,16 +100,7 @@ module _ {s : List ℕ} {k i n : ℕ} (r : Side s k i n) where
 -- a row of a node that is not null
 module _ (depth : ℕ) {s : List ℕ} {k i : ℕ} (r : Side s k i 1) {b : Bool} (eb : b ≡ isNull depth s k i) (is : b ≡ false) {o : ℕ} (at : Read (offsetOf s k) 32 o) where
   pub row-part : Part s k (o + i) 1
-  unfolding elementsOf
-  row-part = record {
-    image = r .image;
-    node = r .node;
-    low = omega (arith, at .value);
-    high = omega (arith, at .value, r .rows);
-    not-null = λ x low high.
-        let e : i ≡ x = omega (arith, at .value) in
-        rw e at (not-null depth s k i (sym eb ∙ is));
-  }
+  row-part = rw (at .value) (side-part r (not-null depth s k i (sym eb ∙ is)))
 
   pub value-of : {v : Value} → Made s (λ sub. valueAt (layoutOf (codeOf s k)) sub s k (o + i)) v → ValueOf depth s k i v
   value-of {v} m = record {

@@ -5,6 +5,7 @@ use image::bytes::byte;
 use image::bytes::le32;
 use image::bytes::nth;
 use image::bytes::wide;
+use image::element::VIEW_SIZE;
 use image::element::child_with_id;
 use image::element::element_width;
 use image::element::is_valid;
@@ -48,8 +49,6 @@ pub struct Value {
 const COUNT_WIDTH: usize = 4;
 
 const ID_WIDTH: usize = 1;
-
-const VIEW_SIZE: usize = 16;
 
 // A value without child rows.
 fn leaf(head: usize, width: usize, place: usize, size: usize) -> Value

@@ -1,7 +1,9 @@
 pub mod KeyRows
 pub mod Layouts
+pub mod Padding
 pub mod Parents
 pub mod Places
 pub mod Rises
 pub mod RunEnds
 pub mod Unions
+pub mod ViewRows

@@ -1,2 +1,3 @@
 pub mod Strides
+pub mod Views
 pub mod Walks

@@ -1,14 +1,22 @@
 // 18: in its rows a node names a child, a key, a view or a dense offset that is not there, or its run ends are wrong.
+use crate::buffers::any_outside;
 use crate::rise::is_packed;
 use crate::rise::rise;
 use image::bytes::byte;
 use image::bytes::le32;
 use image::bytes::nth_inside;
 use image::bytes::number;
+use image::bytes::octet;
+use image::bytes::quad;
 use image::bytes::wide;
+use image::element::INLINE_LENGTH;
+use image::element::Mask;
+use image::element::VIEW_SIZE;
 use image::element::children_by_id;
 use image::element::element_width;
-use image::element::is_valid;
+use image::element::is_kept;
+use image::element::mask_of;
+use image::record::ENTRY_SIZE;
 use image::record::buffer_count;
 use image::record::buffer_length;
 use image::record::buffer_place;
@@ -18,6 +26,7 @@ use image::record::elements;
 use image::record::first_child;
 use image::record::has_bitmap;
 use image::record::length;
+use image::record::node_entry;
 use image::record::offset;
 use image::record::p1;
 use image::type_code::Layout;
@@ -27,17 +36,14 @@ ghost use mathlib.Core.Bool.{_||_, not};
 ghost use Prim.Native.Nat.{_+_, _*_, _<_, _≤_, _^_};
 ghost use lib.ListN.{length};
 ghost use Rattle.image.specs.Ranges.{any};
-ghost use Rattle.image.specs.Reads.{Packed};
+ghost use Rattle.image.specs.Reads.{Packed, MaskRead};
 ghost use Rattle.image.specs.Record.{lengthOf};
 ghost use Rattle.image.specs.Element.{elementWidth, viewLength};
 ghost use Rattle.validate.specs.Strides.{KeyLimit, Keys, numberIn, reaches};
+ghost use Rattle.validate.specs.Views.{Entries, ViewHere, ViewsHere};
 ghost use Rattle.image.specs.Faults.{fault18, denseStray, sparseStray, keyStray, viewStray, viewFault, padded, strayed, runEndsRise, runEndsShort};
 
 const BLOCK: usize = 64;
-
-const VIEW_SIZE: usize = 16;
-
-const INLINE_LENGTH: usize = 12;
 
 // A row of a dense union has a type id without a child, or an offset outside the child that its id names.
 fn dense_astray(image: &[u8], node: u32) -> bool
@@ -149,9 +155,10 @@ fn keys_astray_each(
     requires { ⌜ Keys (now image) node width limit keys from rows ⌝ }
     ensures { λ r. ⌜ r ≡ any (keyStray (now (image .entry)) node) 0 (lengthOf (now (image .entry)) node) ⌝ }
 {
+    let mask = mask_of(image, node);
     let mut i: usize = 0;
     while i < rows {
-        if is_valid(image, node, i) {
+        if is_kept(image, node, mask, i) {
             if limit <= number(image, keys + (from + i) * width, width) {
                 return true;
             }
@@ -214,6 +221,49 @@ fn is_strayed(image: &[u8], node: u32, view: usize, len: usize) -> bool
     le32(image, view + 4) != le32(image, buffer_place(image, node, j) + at)
 }
 
+// Of the 12 bytes of an inline view that lies inside the image one past its length is not zero. The bytes are read
+// eight or four at a time, those in the middle once more; at most three are read one by one.
+fn is_padded_inside(image: &[u8], view: usize, len: usize) -> bool
+    requires { ⌜ (view + 16 ≤ length (now image)) × (view < 2 ^ 40) × (len ≡ viewLength (now image) view) × (len ≤ 12) ⌝ }
+    ensures { λ r. ⌜ r ≡ padded (now (image .entry)) view ⌝ }
+{
+    if len <= 4 {
+        if octet(image, view + 4 + len) != 0 {
+            return true;
+        }
+        return octet(image, view + 8) != 0;
+    }
+    if len <= 8 {
+        if quad(image, view + 4 + len) != 0 {
+            return true;
+        }
+        return quad(image, view + 12) != 0;
+    }
+    is_padded(image, view, len)
+}
+
+// The view at a place breaks a rule, where the view and the entries of the node's buffers lie inside the image;
+// `entries` is where these start, `count` how many they are.
+fn view_inside_broken(image: &[u8], node: u32, view: usize, entries: usize, count: usize) -> bool
+    requires { ⌜ ViewHere (now image) node view entries count ⌝ }
+    ensures { λ r. ⌜ r ≡ viewFault (now (image .entry)) node view ⌝ }
+{
+    let len = quad(image, view);
+    if len <= INLINE_LENGTH {
+        return is_padded_inside(image, view, len);
+    }
+    let buffer = 1 + quad(image, view + 8);
+    if count <= buffer {
+        return true;
+    }
+    let entry = entries + buffer * ENTRY_SIZE;
+    let at = quad(image, view + 12);
+    if quad(image, entry + 4) < at + len {
+        return true;
+    }
+    quad(image, view + 4) != quad(image, quad(image, entry) + at)
+}
+
 // The view at a place breaks a rule.
 fn view_broken(image: &[u8], node: u32, view: usize) -> bool
     requires { ⌜ view < 2 ^ 40 ⌝ }
@@ -226,18 +276,55 @@ fn view_broken(image: &[u8], node: u32, view: usize) -> bool
     is_strayed(image, node, view, len)
 }
 
+// A row of views that is not null has a view that breaks a rule; all views lie inside the image, from a place on.
+fn views_inside_astray(
+    image: &[u8],
+    node: u32,
+    mask: Mask,
+    place: usize,
+    entries: usize,
+    count: usize,
+    rows: usize,
+) -> bool
+    requires { ⌜ ViewsHere (now image) node place entries count rows ⌝ }
+    requires { ⌜ MaskRead (now image) node (mask .some) (mask .place) (mask .first) ⌝ }
+    ensures { λ r. ⌜ r ≡ any (viewStray (now (image .entry)) node) 0 (lengthOf (now (image .entry)) node) ⌝ }
+{
+    let mut view = place;
+    let mut i: usize = 0;
+    while i < rows {
+        if is_kept(image, node, mask, i) {
+            if view_inside_broken(image, node, view, entries, count) {
+                return true;
+            }
+        }
+        view += VIEW_SIZE;
+        i += 1;
+    }
+    false
+}
+
 // A row of views that is not null has a view that breaks a rule.
 fn views_astray(image: &[u8], node: u32) -> bool
     requires { ⌜ elementWidth (now image) node ≡ 16 ⌝ }
     ensures { λ r. ⌜ r ≡ any (viewStray (now (image .entry)) node) 0 (lengthOf (now (image .entry)) node) ⌝ }
 {
-    let views = buffer_place(image, node, 0);
-    let from = offset(image, node);
+    let place = buffer_place(image, node, 0) + offset(image, node) * VIEW_SIZE;
+    let entries = node_entry(image, node, 0);
+    let count = buffer_count(image, node) as usize;
     let rows = length(image, node);
+    let mask = mask_of(image, node);
+    if place + rows * VIEW_SIZE <= image.len() {
+        if entries + count * ENTRY_SIZE <= image.len() {
+            if !any_outside(image, node) {
+                return views_inside_astray(image, node, mask, place, entries, count, rows);
+            }
+        }
+    }
     let mut i: usize = 0;
     while i < rows {
-        if is_valid(image, node, i) {
-            if view_broken(image, node, views + (from + i) * VIEW_SIZE) {
+        if is_kept(image, node, mask, i) {
+            if view_broken(image, node, place + i * VIEW_SIZE) {
                 return true;
             }
         }

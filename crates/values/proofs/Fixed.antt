@@ -1,21 +1,19 @@
 -- Fixed-width elements are equal exactly where their bytes are the same as one block, and the block lies inside the image.
 -- By the law of blocks, with the offsets 0, w, 2 * w, ..
-use mathlib.Core.Path.{_≡_, refl, sym, ap, _∙_}
-use mathlib.Core.Bool.{Bool, true, false}
+use mathlib.Core.Path.{_≡_, sym, ap, _∙_}
 use mathlib.Core.List.{List}
-use Prim.Native.Nat.{ℕ, zero, suc, _+_, _*_, _-_, _<_, _≤_}
+use Prim.Native.Nat.{ℕ, suc, _+_, _*_, _-_, _≤_}
 use native.Mathlib.Omega.{arith}
 use native.Mathlib.Nat.{mul-le-mul-right, suc-mul, add-mul}
 use lib.ListN.{length}
 use Rattle.image.specs.declared.type_code.Layout.the-variants.{FixedWidth}
 use Rattle.image.specs.Bytes.{bytesAt}
-use Rattle.image.specs.Record.{nodeCount, codeOf, offsetOf, lengthOf, bufferPlace, bufferLength, bufferCount, elementsOf}
-use Rattle.image.specs.TypeCode.{layoutOf, bufferRule}
+use Rattle.image.specs.Record.{codeOf, offsetOf, bufferPlace, bufferLength, bufferCount, elementsOf}
+use Rattle.image.specs.TypeCode.{layoutOf}
 use Rattle.image.specs.Element.{elementWidth, elementPlace}
 use Rattle.image.specs.Types.{sameBytes}
 use Rattle.image.specs.Row.{fixedRow}
 use Rattle.image.specs.Equality.{rowEqual}
-use Rattle.laws.specs.Accepted.{AcceptedImage}
 use Rattle.laws.proofs.Alike.{same-width}
 use Rattle.values.specs.Pairs.{all, rangeEqual, sameByte}
 use Rattle.values.specs.Parts.{Side, Parts, Masked, Elements, Spanned, Fixed}
@@ -77,11 +75,11 @@ parts-fixed a b k l i j n d r fixed = record {
 }
 
 -- the elements that rows read
-pub masked-fixed : (a b : List ℕ) (k l i j n : ℕ) → Masked a b k l i j n → Fixed a b k l (offsetOf a k + i) (offsetOf b l + j) n
+pub masked-fixed : {a b : List ℕ} {k l i j n : ℕ} → Masked FixedWidth a b k l i j n → Fixed a b k l (offsetOf a k + i) (offsetOf b l + j) n
 unfolding elementsOf
-masked-fixed a b k l i j n r = record {
-  left = record { image = r .left .image; node = r .left .node; fixed = r .fixed; high = omega (arith, r .left .rows) };
-  right = record { image = r .right .image; node = r .right .node; fixed = sym (ap layoutOf (r .code)) ∙ r .fixed; high = omega (arith, r .right .rows) };
+masked-fixed {a} {b} {k} {l} r = record {
+  left = record { image = r .left .image; node = r .left .node; fixed = r .layout; high = omega (arith, r .left .rows) };
+  right = record { image = r .right .image; node = r .right .node; fixed = sym (ap layoutOf (r .code)) ∙ r .layout; high = omega (arith, r .right .rows) };
   width = same-width a b k l (r .code) (r .p1);
 }
 

@@ -2,11 +2,13 @@ pub mod Blocks
 pub mod ChildRows
 pub mod Fixed
 pub mod Leads
+pub mod LeafRows
 pub mod Levels
 pub mod MaskedRows
 pub mod Masks
 pub mod Names
 pub mod Nodes
+pub mod Octets
 pub mod RunEnds
 pub mod SameRuns
 pub mod Spans

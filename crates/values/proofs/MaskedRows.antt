@@ -1,18 +1,20 @@
--- Fixed-width rows under null masks that agree: a row is null on both sides or its bytes are compared.
--- Where all bytes are the same the rows are, whatever the masks; else the rows are compared one by one.
+-- Rows under null masks that agree: a row is null on both sides or its value is compared. For fixed widths and views.
+-- Where all values are equal the rows are, whatever the masks; else the rows are compared one by one.
 use mathlib.Core.Path.{_≡_, refl, sym, ap, _∙_}
-use mathlib.Core.Bool.{Bool, true, false, Bool·beq, _&&_}
+use mathlib.Core.Bool.{Bool, true, false, _&&_}
 use mathlib.Core.List.{List}
-use Prim.Native.Nat.{ℕ, zero, suc, _+_, _-_, _<_, _≤_}
+use Prim.Native.Nat.{ℕ, _+_, _-_, _<_, _≤_}
 use native.Mathlib.Omega.{arith}
-use Rattle.image.specs.Record.{offsetOf}
+use Rattle.image.specs.declared.type_code.Layout.{Layout}
+use Rattle.image.specs.Record.{codeOf, offsetOf, elementsOf}
+use Rattle.image.specs.TypeCode.{layoutOf}
 use Rattle.image.specs.Element.{valid}
-use Rattle.image.specs.Row.{Row, null, masked, fixedRow, range}
-use Rattle.image.specs.Equality.{rowEqual, rowsEqual}
+use Rattle.image.specs.Row.{Row, masked, range}
+use Rattle.image.specs.Equality.{rowEqual}
 use Rattle.image.proofs.Bools.{and-left, and-right, flags-same}
-use Rattle.values.specs.Pairs.{all, rangeEqual, sameMask, maskedFixed}
-use Rattle.values.specs.Parts.{Side, Masked}
-use Rattle.values.proofs.Steps.{sameRow, by-rows, all-split, all-by}
+use Rattle.values.specs.Pairs.{all, rangeEqual, sameMask, maskedRow}
+use Rattle.values.specs.Parts.{Parts, Masked}
+use Rattle.values.proofs.Steps.{sameRow, by-rows, all-split, all-by, all-moved}
 use Rattle.values.proofs.Blocks.{all-at}
 
 -- pairs of a range inside another
@@ -24,76 +26,115 @@ all-part p i j n h m le e =
     sym (all-split p (i + h) (j + h) m (n - (h + m))) ∙ and-right (all p i j h) _ inner in
     and-left _ _ rest
 
-pub masked-part : (a b : List ℕ) (k l i j n h m : ℕ) → h + m ≤ n → Masked a b k l i j n → Masked a b k l (i + h) (j + h) m
-masked-part a b k l i j n h m le r = record {
-  left = record { image = r .left .image; node = r .left .node; rows = omega (arith, r .left .rows) };
-  right = record { image = r .right .image; node = r .right .node; rows = omega (arith, r .right .rows) };
-  fixed = r .fixed;
-  code = r .code;
-  p1 = r .p1;
-  masks = all-part (sameMask a k b l) i j n h m le (r .masks);
-}
+module _ {x : Layout} {a b : List ℕ} {k l i j n : ℕ} (r : Masked x a b k l i j n) where
+  -- m rows of them from row h on
+  pub masked-part : (h m : ℕ) → h + m ≤ n → Masked x a b k l (i + h) (j + h) m
+  masked-part h m le = record {
+    left = record { image = r .left .image; node = r .left .node; rows = omega (arith, r .left .rows) };
+    right = record { image = r .right .image; node = r .right .node; rows = omega (arith, r .right .rows) };
+    layout = r .layout;
+    code = r .code;
+    p1 = r .p1;
+    masks = all-part (sameMask a k b l) i j n h m le (r .masks);
+  }
 
-pub masked-ahead : (a b : List ℕ) (k l i j n h m : ℕ) → h ≤ n → m ≤ n - h → Masked a b k l i j n → Masked a b k l (i + h) (j + h) m
-masked-ahead a b k l i j n h m le rest r = masked-part a b k l i j n h m (omega arith) r
+  pub masked-ahead : {h m : ℕ} → h ≤ n → m ≤ n - h → Masked x a b k l (i + h) (j + h) m
+  masked-ahead {h} {m} le rest = masked-part h m (omega arith)
 
-pub masked-row : (a b : List ℕ) (k l i j n h : ℕ) → h < n → Masked a b k l i j n → Masked a b k l (i + h) (j + h) 1
-masked-row a b k l i j n h lt r = masked-part a b k l i j n h 1 (omega arith) r
+  pub masked-row : {h : ℕ} → h < n → Masked x a b k l (i + h) (j + h) 1
+  masked-row {h} lt = masked-part h 1 (omega arith)
 
--- rows of a range whose masks agree are null together
-pub mask-at : (a b : List ℕ) (k l i j n : ℕ) → all (sameMask a k b l) i j n ≡ true → (h : ℕ) → h < n → valid a k (i + h) ≡ valid b l (j + h)
-unfolding sameMask
-mask-at a b k l i j n e h lt = flags-same _ _ (all-at (sameMask a k b l) i j n e h lt)
-
-one-mask : (a b : List ℕ) (k l i j : ℕ) → all (sameMask a k b l) i j 1 ≡ true → valid a k i ≡ valid b l j
-one-mask a b k l i j e =
-    let x : i + 0 ≡ i = omega arith in
-    let y : j + 0 ≡ j = omega arith in
-    rw (x, y) at (mask-at a b k l i j 1 e 0 (omega arith))
-
--- both rows are null
-pub null-rows : (a b : List ℕ) (k l i j : ℕ) → Masked a b k l i j 1 → valid a k i ≡ false → true ≡ rowEqual (maskedFixed a k i) (maskedFixed b l j)
-unfolding maskedFixed rowEqual
-null-rows a b k l i j r e =
-    let other : valid b l j ≡ false = sym (one-mask a b k l i j (r .masks)) ∙ e in
-    rw (e, other)
+  -- rows of a range whose masks agree are null together
+  pub mask-at : (h : ℕ) → h < n → valid a k (i + h) ≡ valid b l (j + h)
+  unfolding sameMask
+  mask-at h lt = flags-same _ _ (all-at (sameMask a k b l) i j n (r .masks) h lt)
 
 and-true : (x : Bool) → x && true ≡ x
 and-true true = refl
 and-true false = refl
 
--- neither row is null: their bytes
-pub full-rows : (a b : List ℕ) (k l i j : ℕ) → Masked a b k l i j 1 → valid a k i ≡ true
-    → rangeEqual (fixedRow a k) (fixedRow b l) (offsetOf a k + i) (offsetOf b l + j) 1 ≡ rowEqual (maskedFixed a k i) (maskedFixed b l j)
-unfolding maskedFixed range rowEqual
-full-rows a b k l i j r e =
-    let other : valid b l j ≡ true = sym (one-mask a b k l i j (r .masks)) ∙ e in
-    let bare : rowEqual (maskedFixed a k i) (maskedFixed b l j) ≡ rowEqual (fixedRow a k (offsetOf a k + i)) (fixedRow b l (offsetOf b l + j)) = rw (e, other) in
-    and-true _ ∙ sym bare
+-- One row of each.
+module _ {x : Layout} {a b : List ℕ} {k l i j : ℕ} (r : Masked x a b k l i j 1) where
+  one-mask : valid a k i ≡ valid b l j
+  one-mask =
+      let u : i + 0 ≡ i = omega arith in
+      let v : j + 0 ≡ j = omega arith in
+      rw (u, v) at (mask-at r 0 (omega arith))
 
--- rows whose bytes are the same are equal under masks that agree
-same-masked : (a b : List ℕ) (k l i j : ℕ) → valid a k i ≡ valid b l j → rowEqual (fixedRow a k (offsetOf a k + i)) (fixedRow b l (offsetOf b l + j)) ≡ true
-    → sameRow (maskedFixed a k) (maskedFixed b l) i j ≡ true
-unfolding sameRow maskedFixed rowEqual
-same-masked a b k l i j mask e = rw mask (cases (valid b l j))
-  where
-    cases : (v : Bool) → rowEqual (masked v (fixedRow a k (offsetOf a k + i))) (masked v (fixedRow b l (offsetOf b l + j))) ≡ true
-    cases true = e
-    cases false = refl
+  module _ (value : List ℕ → ℕ → ℕ → Row) where
+    -- both are null
+    pub null-rows : valid a k i ≡ false → true ≡ rowEqual (maskedRow value a k i) (maskedRow value b l j)
+    unfolding maskedRow rowEqual
+    null-rows e =
+        let other : valid b l j ≡ false = sym one-mask ∙ e in
+        rw (e, other)
 
-row-at : (a b : List ℕ) (k l u v h : ℕ) → sameRow (fixedRow a k) (fixedRow b l) (offsetOf a k + u + h) (offsetOf b l + v + h) ≡ true
-    → rowEqual (fixedRow a k (offsetOf a k + (u + h))) (fixedRow b l (offsetOf b l + (v + h))) ≡ true
-unfolding sameRow
-row-at a b k l u v h e =
-    let x : offsetOf a k + u + h ≡ offsetOf a k + (u + h) = omega arith in
-    let y : offsetOf b l + v + h ≡ offsetOf b l + (v + h) = omega arith in
-    rw (x, y) at e
+    -- neither is null: their values
+    pub full-row : valid a k i ≡ true → rowEqual (value a k (offsetOf a k + i)) (value b l (offsetOf b l + j)) ≡ rowEqual (maskedRow value a k i) (maskedRow value b l j)
+    unfolding maskedRow
+    full-row e =
+        let other : valid b l j ≡ true = sym one-mask ∙ e in
+        rw (e, other)
 
-pub whole-block : (a b : List ℕ) (k l i j n : ℕ) → Masked a b k l i j n → rangeEqual (fixedRow a k) (fixedRow b l) (offsetOf a k + i) (offsetOf b l + j) n ≡ true
-    → true ≡ rangeEqual (maskedFixed a k) (maskedFixed b l) i j n
-whole-block a b k l i j n r e =
-    let rows : all (sameRow (fixedRow a k) (fixedRow b l)) (offsetOf a k + i) (offsetOf b l + j) n ≡ true = by-rows _ _ _ _ n ∙ e in
-    sym
-    (all-by (sameRow (maskedFixed a k) (maskedFixed b l)) i j n
-    (λ h lt. same-masked a b k l (i + h) (j + h) (mask-at a b k l i j n (r .masks) h lt) (row-at a b k l i j h (all-at _ _ _ n rows h lt))))
-    ∙ by-rows _ _ i j n
+    -- as a range
+    pub full-rows : valid a k i ≡ true → rangeEqual (value a k) (value b l) (offsetOf a k + i) (offsetOf b l + j) 1 ≡ rowEqual (maskedRow value a k i) (maskedRow value b l j)
+    unfolding range rowEqual
+    full-rows e = and-true _ ∙ full-row e
+
+module _ (value : List ℕ → ℕ → ℕ → Row) where
+  -- rows whose values are equal are equal under masks that agree
+  same-masked : (a b : List ℕ) (k l i j : ℕ) → valid a k i ≡ valid b l j → rowEqual (value a k (offsetOf a k + i)) (value b l (offsetOf b l + j)) ≡ true
+      → sameRow (maskedRow value a k) (maskedRow value b l) i j ≡ true
+  unfolding sameRow maskedRow rowEqual
+  same-masked a b k l i j mask e = rw mask (cases (valid b l j))
+    where
+      cases : (v : Bool) → rowEqual (masked v (value a k (offsetOf a k + i))) (masked v (value b l (offsetOf b l + j))) ≡ true
+      cases true = e
+      cases false = refl
+
+  row-at : (a b : List ℕ) (k l u v h : ℕ) → sameRow (value a k) (value b l) (offsetOf a k + u + h) (offsetOf b l + v + h) ≡ true
+      → rowEqual (value a k (offsetOf a k + (u + h))) (value b l (offsetOf b l + (v + h))) ≡ true
+  unfolding sameRow
+  row-at a b k l u v h e =
+      let x : offsetOf a k + u + h ≡ offsetOf a k + (u + h) = omega arith in
+      let y : offsetOf b l + v + h ≡ offsetOf b l + (v + h) = omega arith in
+      rw (x, y) at e
+
+  pub whole-block : {x : Layout} {a b : List ℕ} {k l i j n : ℕ} → Masked x a b k l i j n
+      → rangeEqual (value a k) (value b l) (offsetOf a k + i) (offsetOf b l + j) n ≡ true → true ≡ rangeEqual (maskedRow value a k) (maskedRow value b l) i j n
+  whole-block {x} {a} {b} {k} {l} {i} {j} {n} r e =
+      let rows : all (sameRow (value a k) (value b l)) (offsetOf a k + i) (offsetOf b l + j) n ≡ true = by-rows _ _ _ _ n ∙ e in
+      sym
+      (all-by (sameRow (maskedRow value a k) (maskedRow value b l)) i j n
+      (λ h lt. same-masked a b k l (i + h) (j + h) (mask-at r h lt) (row-at a b k l i j h (all-at _ _ _ n rows h lt))))
+      ∙ by-rows _ _ i j n
+
+-- Elements none of which is null, as the rows that read them.
+module _ {a b : List ℕ} {k l i j n d : ℕ} (r : Parts a b k l i j n d) where
+  left-valid : (h : ℕ) → h < n → valid a k (i - offsetOf a k + h) ≡ true
+  left-valid h lt = r .left .not-null (i - offsetOf a k + h) (omega (arith, r .left .low)) (omega (arith, r .left .low))
+
+  right-valid : (h : ℕ) → h < n → valid b l (j - offsetOf b l + h) ≡ true
+  right-valid h lt = r .right .not-null (j - offsetOf b l + h) (omega (arith, r .right .low)) (omega (arith, r .right .low))
+
+  pub elements-masked : {x : Layout} → layoutOf (codeOf a k) ≡ x → Masked x a b k l (i - offsetOf a k) (j - offsetOf b l) n
+  unfolding elementsOf sameMask
+  elements-masked is = record {
+    left = record { image = r .left .image; node = r .left .node; rows = omega (arith, r .left .low, r .left .high) };
+    right = record { image = r .right .image; node = r .right .node; rows = omega (arith, r .right .low, r .right .high) };
+    layout = is;
+    code = r .alike .0 .code;
+    p1 = r .alike .0 .p1;
+    masks = all-by (sameMask a k b l) _ _ n (λ h lt. rw (left-valid h lt, right-valid h lt));
+  }
+
+  pub elements-rows : (value : List ℕ → ℕ → ℕ → Row) → rangeEqual (maskedRow value a k) (maskedRow value b l) (i - offsetOf a k) (j - offsetOf b l) n ≡ rangeEqual (value a k) (value b l) i j n
+  unfolding maskedRow sameRow
+  elements-rows value =
+      sym (by-rows _ _ _ _ n)
+      ∙ all-moved (sameRow (maskedRow value a k) (maskedRow value b l)) (sameRow (value a k) (value b l)) (i - offsetOf a k) (j - offsetOf b l) i j n
+      (λ h lt.
+      let u : offsetOf a k + (i - offsetOf a k + h) ≡ i + h = omega (arith, r .left .low) in
+      let v : offsetOf b l + (j - offsetOf b l + h) ≡ j + h = omega (arith, r .right .low) in
+      rw (left-valid h lt, right-valid h lt, u, v))
+      ∙ by-rows _ _ i j n

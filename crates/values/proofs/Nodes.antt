@@ -14,7 +14,7 @@ use Rattle.image.specs.TypeCode.{layoutOf}
 use Rattle.image.specs.Element.{valid, childEnd, elementWidth, elementPlace, elementAt, sizeAt, typeIdAt, denseOffsetAt}
 use Rattle.image.specs.Reads.{Read, Nth}
 use Rattle.laws.specs.Accepted.{AcceptedImage, Node}
-use Rattle.values.specs.Parts.{Part}
+use Rattle.values.specs.Parts.{Side, Part}
 
 -- a child is a node
 pub child-node : (s : List ℕ) (k c : ℕ) → AcceptedImage s → k < nodeCount s → c < childCount s k → firstChild s k + c < nodeCount s
@@ -88,3 +88,16 @@ unfolding elementsOf
 part-row {s} {k} {j} r P f =
     let e : offsetOf s k + (j - offsetOf s k) ≡ j = omega (arith, r .low) in
     rw e at (f (j - offsetOf s k) (omega (arith, r .low, r .high)) (r .not-null (j - offsetOf s k) (omega (arith, r .low)) (omega (arith, r .low))))
+
+-- the element of a row that is not null, as a part
+pub side-part : {s : List ℕ} {k i : ℕ} → Side s k i 1 → valid s k i ≡ true → Part s k (offsetOf s k + i) 1
+unfolding elementsOf
+side-part {s} {k} {i} r is = record {
+  image = r .image;
+  node = r .node;
+  low = omega arith;
+  high = omega (arith, r .rows);
+  not-null = λ x low high.
+      let e : i ≡ x = omega arith in
+      rw e at is;
+}

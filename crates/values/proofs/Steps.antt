@@ -1,5 +1,6 @@
 -- A test of pairs in step: what the loops that compare keep.
--- The test of all n pairs is that of those from pair k on; a turn takes one pair off, a jump several.
+-- The test of all n pairs is that of those from pair k on; a turn takes one pair off, a jump several. Where the last pairs
+-- are looked at once more, the loop keeps that the first k pass.
 use mathlib.Core.Path.{_≡_, refl, sym, ap, _∙_}
 use mathlib.Core.Bool.{Bool, true, false, _&&_}
 use mathlib.Core.List.{List}
@@ -11,6 +12,7 @@ use Rattle.image.specs.Bytes.{byteAt, bytesAt}
 use Rattle.image.specs.Types.{sameBytes}
 use Rattle.image.specs.Row.{Row, range}
 use Rattle.image.specs.Equality.{rowEqual, rowsEqual}
+use Rattle.image.proofs.Bools.{and-left}
 use Rattle.values.specs.Pairs.{all, rangeEqual, sameByte}
 
 -- the test of n pairs from i and j on is that of those from pair k on
@@ -77,6 +79,53 @@ module _ (p : ℕ → ℕ → Bool) (i j n : ℕ) where
   pub jump-fails : (k m : ℕ) → m ≤ n - k → Left p i j n k → all p (i + k) (j + k) m ≡ false → false ≡ all p i j n
   jump-fails k m le r e = sym (r .same ∙ jump k m le ∙ rw e)
 
+pub all-none : (p : ℕ → ℕ → Bool) (i j : ℕ) → true ≡ all p i j 0
+unfolding all
+all-none p i j = refl
+
+-- where n pairs pass, the first m of them do; where these do not, the n do not
+module _ (p : ℕ → ℕ → Bool) (i j m n : ℕ) (le : m ≤ n) where
+  front : all p i j n ≡ all p i j m && all p (i + m) (j + m) (n - m)
+  front = let e : m + (n - m) ≡ n = omega arith in rw e at (all-split p i j m (n - m))
+
+  pub front-passes : all p i j n ≡ true → all p i j m ≡ true
+  front-passes e = and-left _ _ (sym front ∙ e)
+
+  pub front-fails : all p i j m ≡ false → false ≡ all p i j n
+  front-fails e = sym (front ∙ rw e)
+
+  pub front-left : all p i j m ≡ true → Left p i j n m
+  front-left e = record { within = le; same = front ∙ rw e }
+
+-- one word of pairs more, of m words
+pub left-word : (p : ℕ → ℕ → Bool) (i j m h : ℕ) → h < m → Left p i j (64 * m) (64 * h) → all p (i + 64 * h) (j + 64 * h) 64 ≡ true → Left p i j (64 * m) (64 * (h + 1))
+left-word p i j m h lt r e =
+    let next : 64 * (h + 1) ≡ 64 * h + 64 = omega arith in
+    rw next (left-jump p i j (64 * m) (64 * h) 64 (r .within) (omega arith) r e)
+
+-- the first k of n pairs pass
+pub record Passed (p : ℕ → ℕ → Bool) (i j n k : ℕ) : Type 0 where
+  pub within : k ≤ n
+  pub passes : all p i j k ≡ true
+
+module _ (p : ℕ → ℕ → Bool) (i j n : ℕ) where
+  pub passed-none : Passed p i j n 0
+  passed-none = record { within = omega arith; passes = sym (all-none p i j) }
+
+  -- m more at once
+  pub passed-more : (k m : ℕ) → m ≤ n - k → Passed p i j n k → all p (i + k) (j + k) m ≡ true → Passed p i j n (k + m)
+  passed-more k m le r e = record { within = omega arith; passes = all-split p i j k m ∙ rw (r .passes) e }
+
+  pub passed-fails : (k m : ℕ) → m ≤ n - k → Passed p i j n k → all p (i + k) (j + k) m ≡ false → false ≡ all p i j n
+  passed-fails k m le r e = front-fails p i j (k + m) n (omega arith) (all-split p i j k m ∙ rw (r .passes) e)
+
+  -- the last w, some of them once more, are the answer
+  pub passed-tail : (k w : ℕ) → w ≤ n → n - k ≤ w → Passed p i j n k → all p (i + (n - w)) (j + (n - w)) w ≡ all p i j n
+  passed-tail k w le near r =
+      let e : n - w + w ≡ n = omega arith in
+      let f : all p i j (n - w) ≡ true = front-passes p i j (n - w) k (omega arith) (r .passes) in
+      sym (rw (e, f) at (all-split p i j (n - w) w))
+
 -- a range of rows is equal where all its pairs are
 unfoldable pub sameRow : (ℕ → Row) → (ℕ → Row) → ℕ → ℕ → Bool
 sameRow g h i j = rowEqual (g i) (h j)
@@ -108,7 +157,7 @@ all-same p q i j (suc n) e =
           rw (u, v) (e (suc k) (omega arith))),
     )
 
-and-true : (x : Bool) → x && true ≡ x
+pub and-true : (x : Bool) → x && true ≡ x
 and-true true = refl
 and-true false = refl
 
@@ -116,10 +165,6 @@ and-true false = refl
 pub all-snoc : (p : ℕ → ℕ → Bool) (i j k : ℕ) → all p i j (k + 1) ≡ all p i j k && p (i + k) (j + k)
 unfolding all
 all-snoc p i j k = all-split p i j k 1 ∙ ap (λ (x : Bool). all p i j k && x) (and-true (p (i + k) (j + k)))
-
-pub all-none : (p : ℕ → ℕ → Bool) (i j : ℕ) → true ≡ all p i j 0
-unfolding all
-all-none p i j = refl
 
 -- two bytes that are the same, or not
 pub same-byte : (a b : List ℕ) (i j : ℕ) → byteAt a i ≡ byteAt b j → sameByte a b i j ≡ true

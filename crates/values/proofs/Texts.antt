@@ -34,7 +34,7 @@ module _ (s : List ℕ) (k i n : ℕ) (r : Part s k i n) (text : layoutOf (codeO
   two-buffers : bufferCount s k ≡ 2
   two-buffers = r .image .node k (r .node) .buffers .exactly 2 (rw text)
 
-  text-offsets : elementPlace s k i + (n + 1) * elementWidth s k ≤ length s
+  pub text-offsets : elementPlace s k i + (n + 1) * elementWidth s k ≤ length s
   text-offsets = part-offsets r (omega (arith, two-buffers)) (r .image .node k (r .node) .enough .variable-size text)
 
   -- the text from the offset at i up to that at i + n lies inside

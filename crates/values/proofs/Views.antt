@@ -1,25 +1,30 @@
--- The views of rows that are not null lie inside the image, and so do their bytes; two of them as rows.
+-- The views of rows that are not null lie inside the image, and so do their bytes; two of them compared, and as rows.
 -- Row i of a node reads element offset + i, of 16 bytes; acceptance gives the rest.
-use mathlib.Core.Path.{_≡_, sym, ap, _∙_}
-use mathlib.Core.Bool.{Bool, false}
+use mathlib.Core.Path.{_≡_, refl, sym, ap, _∙_}
+use mathlib.Core.Bool.{Bool, true, false}
 use mathlib.Core.List.{List}
-use Prim.Native.Nat.{ℕ, _+_, _*_, _<_, _≤_}
+use Prim.Native.Nat.{ℕ, _+_, _*_, _<_, _≤_, _^_}
 use native.Mathlib.Omega.{arith}
+use native.Mathlib.Nat.{add-zero}
 use lib.ListN.{length}
 use borrow.Author.Tests.{le-leb, lt-leb}
 use Rattle.image.specs.declared.type_code.Layout.the-variants.{View}
 use Rattle.image.specs.Bytes.{numberAt, bytesAt}
-use Rattle.image.specs.Record.{codeOf, elementsOf, bufferPlace, bufferLength, bufferCount}
+use Rattle.image.specs.Record.{codeOf, offsetOf, elementsOf, firstBuffer, bufferPlace, bufferLength, bufferCount, entryPlace, tablesEnd}
 use Rattle.image.specs.TypeCode.{layoutOf}
-use Rattle.image.specs.Element.{elementPlace, viewLength, viewBuffer, viewOffset, viewData}
+use Rattle.image.specs.Element.{valid, elementPlace, viewLength, viewBuffer, viewOffset, viewData}
+use Rattle.image.specs.Reads.{Read}
 use Rattle.image.specs.Types.{sameBytes}
 use Rattle.image.specs.Row.{viewRow}
 use Rattle.image.specs.Equality.{rowEqual}
 use Rattle.laws.specs.Accepted.{ViewInside}
-use Rattle.values.specs.Parts.{Part, Parts, Viewed, Shown}
-use Rattle.values.proofs.Steps.{sameRow}
+use Rattle.values.specs.Pairs.{sameByte, maskedRow}
+use Rattle.values.specs.Parts.{Side, Part, Masked, Viewed, Shown}
+use Rattle.values.proofs.Steps.{front-passes, by-bytes, sameRow, row-test}
 use Rattle.values.proofs.Names.{other-length}
-use Rattle.values.proofs.Nodes.{part-node, part-at, part-row}
+use Rattle.values.proofs.Fixed.{side-small}
+use Rattle.values.proofs.Nodes.{part-node, part-row, side-part}
+use Rattle.values.proofs.MaskedRows.{masked-row, mask-at, full-row}
 
 -- the bytes of a short view stand in it
 pub shown-short : (s : List ℕ) (k v len : ℕ) → Viewed s k v len → len ≤ 12 → Shown s k v len (v + 4)
@@ -28,21 +33,69 @@ shown-short s k v len r le =
     let fits : v + 16 ≤ length s = r .fits in
     record { place = rw (← r .size, le-leb len 12 le); inside = omega arith }
 
--- those of a long one in a data buffer
-module _ {s : List ℕ} {k v len : ℕ} (r : Viewed s k v len) (long : 12 < len) {b : ℕ} (eb : b ≡ numberAt 4 s (v + 8)) where
+-- those of a long one in a data buffer; the entries of the node's buffers start at e
+module _ {s : List ℕ} {k v len : ℕ} (r : Viewed s k v len) (long : 12 < len) {e b : ℕ} (ee : e ≡ entryPlace s (firstBuffer s k)) (eb : b ≡ numberAt 4 s (v + 8)) where
   data-buffer : 1 + b < bufferCount s k
   unfolding viewBuffer
   data-buffer = rw eb (r .view .buffer (rw (← r .size) long))
 
-  pub buffer-small : 1 + b < 1024
-  buffer-small = omega (arith, data-buffer, r .image .few-buffers, r .image .node k (r .node) .buffers .ends)
+  pub entry-inside : e + (1 + b) * 8 + 4 ≤ length s
+  unfolding tablesEnd entryPlace
+  entry-inside = omega (arith, ee, data-buffer, r .image .tables, r .image .node k (r .node) .buffers .ends)
 
-  pub shown-long : {p o : ℕ} → p ≡ bufferPlace s k (1 + b) → o ≡ numberAt 4 s (v + 12) → Shown s k v len (p + o)
-  unfolding viewData viewBuffer viewOffset
+  pub entry-small : e + (1 + b) * 8 < 2 ^ 64
+  entry-small = omega (arith, entry-inside, r .image .size)
+
+  entry : entryPlace s (firstBuffer s k + (1 + b)) ≡ e + (1 + b) * 8
+  unfolding entryPlace
+  entry = omega (arith, ee)
+
+  pub shown-long : {p o : ℕ} → p ≡ numberAt 4 s (e + (1 + b) * 8) → o ≡ numberAt 4 s (v + 12) → Shown s k v len (p + o)
+  unfolding viewData viewBuffer viewOffset bufferPlace
   shown-long {p} {o} ep eo =
+      let place : p ≡ bufferPlace s k (1 + b) = rw entry ep in
       let stored : o + len ≤ bufferLength s k (1 + b) = rw (eo, eb, r .size) (r .view .inside (rw (← r .size) long)) in
       let buffer : bufferPlace s k (1 + b) + bufferLength s k (1 + b) ≤ length s = r .image .node k (r .node) .buffers .inside (1 + b) data-buffer in
-      record { place = rw (← r .size, lt-leb len 12 long, ep, eo, eb); inside = omega arith }
+      record { place = rw (← r .size, lt-leb len 12 long, place, eo, eb); inside = omega arith }
+
+-- where the entries start, as it is read
+pub entries-read : (s : List ℕ) (k bits : ℕ) {e : ℕ} → Read (entryPlace s (firstBuffer s k + 0)) bits e → e ≡ entryPlace s (firstBuffer s k)
+entries-read s k bits r = r .value ∙ simp add-zero
+
+-- the views at two places are equal: length and bytes
+abbrev pub sameViews : List ℕ → ℕ → ℕ → List ℕ → ℕ → ℕ → Bool
+sameViews a k v b l w = sameBytes (bytesAt a (viewData a k v) (viewLength a v)) (bytesAt b (viewData b l w) (viewLength b w))
+
+-- Two views whose lengths were read.
+module _ {a b : List ℕ} {k l v w m o : ℕ} (left : Viewed a k v (viewLength a v)) (right : Viewed b l w (viewLength b w))
+    (em : Read (numberAt 4 a v) 32 m) (eo : Read (numberAt 4 b w) 32 o) where
+  left-length : m ≡ viewLength a v
+  unfolding viewLength
+  left-length = em .value
+
+  right-length : o ≡ viewLength b w
+  unfolding viewLength
+  right-length = eo .value
+
+  pub sized-left : Viewed a k v m
+  sized-left = rw left-length left
+
+  pub sized-right : m ≡ o → Viewed b l w m
+  sized-right e = rw (e, right-length) right
+
+  pub lengths-differ : (m ≡ o → ⊥) → false ≡ sameViews a k v b l w
+  lengths-differ h = sym (other-length a b _ _ (viewLength a v) (viewLength b w) (λ e. h (left-length ∙ e ∙ sym right-length)))
+
+  pub shown-are : m ≡ o → {p q : ℕ} {x : Bool} → Shown a k v m p → Shown b l w m q → x ≡ sameBytes (bytesAt a p m) (bytesAt b q m) → x ≡ sameViews a k v b l w
+  shown-are e sa sb ex = rw (← left-length, ← right-length, ← e, ← sa .place, ← sb .place) ex
+
+  -- short ones
+  pub short-are : m ≡ o → m ≤ 12 → {x : Bool} → x ≡ sameBytes (bytesAt a (v + 4) m) (bytesAt b (w + 4) m) → x ≡ sameViews a k v b l w
+  short-are e le = shown-are e (shown-short a k v m sized-left le) (shown-short b l w m (sized-right e) le)
+
+  -- where more bytes than they have are the same
+  pub short-same : m ≡ o → m ≤ 12 → sameBytes (bytesAt a (v + 4) 12) (bytesAt b (w + 4) 12) ≡ true → true ≡ sameViews a k v b l w
+  short-same e le t = short-are e le (sym (front-passes (sameByte a b) (v + 4) (w + 4) m 12 le (by-bytes a b _ _ 12 ∙ t)) ∙ by-bytes a b _ _ m)
 
 -- the view of an element, as it is read
 module _ {s : List ℕ} {k j : ℕ} (r : Part s k j 1) (views : layoutOf (codeOf s k) ≡ View) {p : ℕ} (ep : p ≡ bufferPlace s k 0) where
@@ -60,26 +113,45 @@ module _ {s : List ℕ} {k j : ℕ} (r : Part s k j 1) (views : layoutOf (codeOf
       let enough : elementsOf s k * 16 ≤ bufferLength s k 0 = rw (node .widths .view views) at (node .enough .view views) in
       record { image = r .image; node = r .node; fits = omega (arith, r .high); size = el; view = rw view-place inside }
 
--- The views of a turn: p and q are where the views of the two nodes start, m and o the lengths that were read.
-module _ {a b : List ℕ} {k l i j n d : ℕ} (r : Parts a b k l i j n d) (views : layoutOf (codeOf a k) ≡ View) (h : ℕ) (lt : h < n)
-    {p q m o : ℕ} (ep : p ≡ bufferPlace a k 0) (eq : q ≡ bufferPlace b l 0) (em : m ≡ numberAt 4 a (p + (i + h) * 16)) (eo : o ≡ numberAt 4 b (q + (j + h) * 16)) where
-  views-too : layoutOf (codeOf b l) ≡ View
-  views-too = sym (ap layoutOf (r .alike .0 .code)) ∙ views
+-- the views of elements i and j of two nodes, neither of them null, stand at v and w
+pub record TwoViews (a b : List ℕ) (k l i j v w : ℕ) : Type 0 where
+  pub left : Viewed a k v (viewLength a v)
+  pub right : Viewed b l w (viewLength b w)
+  pub left-place : v ≡ elementPlace a k i
+  pub right-place : w ≡ elementPlace b l j
 
-  pub view-left : Viewed a k (p + (i + h) * 16) m
-  view-left = viewed (part-at (r .left) h lt) views ep em
+-- the answer for them is that for the elements
+views-are : {a b : List ℕ} {k l i j v w : ℕ} → TwoViews a b k l i j v w → {x : Bool} → x ≡ sameViews a k v b l w → x ≡ rowEqual (viewRow a k i) (viewRow b l j)
+unfolding viewRow rowEqual
+views-are r ex = rw (← r .left-place, ← r .right-place) ex
 
-  pub view-right : m ≡ o → Viewed b l (q + (j + h) * 16) m
-  view-right e = viewed (part-at (r .right) h lt) views-too eq (e ∙ eo)
+two-views : {a b : List ℕ} {k l i j : ℕ} → Part a k i 1 → Part b l j 1 → layoutOf (codeOf a k) ≡ View → codeOf a k ≡ codeOf b l
+    → TwoViews a b k l i j (bufferPlace a k 0 + i * 16) (bufferPlace b l 0 + j * 16)
+unfolding viewLength
+two-views {b = b} {l = l} ra rb views code =
+    let too : layoutOf (codeOf b l) ≡ View = sym (ap layoutOf code) ∙ views in
+    record { left = viewed ra views refl refl; right = viewed rb too refl refl; left-place = view-place ra views refl; right-place = view-place rb too refl }
 
-  row : sameRow (viewRow a k) (viewRow b l) (i + h) (j + h)
-      ≡ sameBytes (bytesAt a (viewData a k (p + (i + h) * 16)) m) (bytesAt b (viewData b l (q + (j + h) * 16)) o)
-  unfolding sameRow viewRow rowEqual viewLength
-  row = rw (← view-place (part-at (r .left) h lt) views ep, ← view-place (part-at (r .right) h lt) views-too eq, em, eo)
+-- where the view of a row stands, that of the first of some rows as it is read, and that of the next
+abbrev pub viewPlace : List ℕ → ℕ → ℕ → ℕ
+viewPlace s k i = bufferPlace s k 0 + (offsetOf s k + i) * 16
 
-  pub views-differ : (m ≡ o → ⊥) → sameRow (viewRow a k) (viewRow b l) (i + h) (j + h) ≡ false
-  views-differ e = row ∙ other-length a b _ _ m o e
+pub first-view : (s : List ℕ) (k i : ℕ) {p o : ℕ} → Read (bufferPlace s k 0) 32 p → Read (offsetOf s k) 32 o → p + (o + i) * 16 ≡ viewPlace s k (i + 0)
+first-view s k i rp ro = omega (arith, rp .value, ro .value)
 
-  pub views-are : m ≡ o → {u v : ℕ} {x : Bool} → Shown a k (p + (i + h) * 16) m u → Shown b l (q + (j + h) * 16) m v
-      → x ≡ sameBytes (bytesAt a u m) (bytesAt b v m) → sameRow (viewRow a k) (viewRow b l) (i + h) (j + h) ≡ x
-  views-are e left right ex = row ∙ rw (← e, ← left .place, ← right .place) (sym ex)
+pub next-view : (s : List ℕ) (k i h : ℕ) {x : ℕ} → x ≡ viewPlace s k (i + h) → x + 16 ≡ viewPlace s k (i + (h + 1))
+next-view s k i h e = omega arith
+
+pub view-small : {s : List ℕ} {k i n h x p o : ℕ} → Side s k i n → h < n → Read (bufferPlace s k 0) 32 p → Read (offsetOf s k) 32 o → x ≡ viewPlace s k (i + h) → x < 2 ^ 40
+view-small r lt rp ro e = omega (arith, lt, side-small _ _ _ _ r, rp .value, rp .small, ro .value, ro .small)
+
+-- rows under null masks that agree, where one is not null
+module _ {a b : List ℕ} {k l i j n : ℕ} (r : Masked View a b k l i j n) {h : ℕ} (lt : h < n) (is : valid a k (i + h) ≡ true)
+    {v w : ℕ} (ev : v ≡ viewPlace a k (i + h)) (ew : w ≡ viewPlace b l (j + h)) where
+  pub row-views : TwoViews a b k l (offsetOf a k + (i + h)) (offsetOf b l + (j + h)) v w
+  row-views =
+      let row : Masked View a b k l (i + h) (j + h) 1 = masked-row r lt in
+      rw (ev, ew) (two-views (side-part (row .left) is) (side-part (row .right) (sym (mask-at r h lt) ∙ is)) (r .layout) (r .code))
+
+  pub row-are : {x : Bool} → x ≡ sameViews a k v b l w → sameRow (maskedRow viewRow a k) (maskedRow viewRow b l) (i + h) (j + h) ≡ x
+  row-are ex = row-test _ _ (i + h) (j + h) (views-are row-views ex ∙ full-row (masked-row r lt) viewRow is)

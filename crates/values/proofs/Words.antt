@@ -109,7 +109,7 @@ module _ (s : List ℕ) (small : (k : ℕ) → byteAt s k < 256) (p i : ℕ) {lo
   word-fits high = rw (joined-reads low high (i % 8) (omega arith) (lows .small)) (mod-lt _ (pow-pos 64))
 
 -- Two words are the same where all their pairs of bits are.
-same-test : (a b c d : ℕ) → (a ≡ b → c ≡ d) → (c ≡ d → a ≡ b) → eqb a b ≡ eqb c d
+pub same-test : (a b c d : ℕ) → (a ≡ b → c ≡ d) → (c ≡ d → a ≡ b) → eqb a b ≡ eqb c d
 same-test a b c d to from = cases (eqb c d) refl
   where
     cases : (t : Bool) → eqb c d ≡ t → eqb a b ≡ t

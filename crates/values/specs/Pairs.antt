@@ -6,8 +6,8 @@ use lib.Dec.{eqb}
 use Rattle.image.specs.Bytes.{byteAt, bitAt}
 use Rattle.image.specs.Element.{valid, elementAt, typeIdAt}
 use Rattle.image.specs.Record.{offsetOf}
-use Rattle.image.specs.Row.{Row, range, masked, fixedRow}
-use Rattle.image.specs.Equality.{rowEqual, rowsEqual}
+use Rattle.image.specs.Row.{Row, range, masked}
+use Rattle.image.specs.Equality.{rowsEqual}
 
 -- the test holds of the n pairs (i, j), (i + 1, j + 1), ..
 unfoldable pub all : (ℕ → ℕ → Bool) → ℕ → ℕ → ℕ → Bool
@@ -42,6 +42,6 @@ spanAt s k i = elementAt s k (suc i) - elementAt s k i
 unfoldable pub sameSpan : List ℕ → ℕ → List ℕ → ℕ → ℕ → ℕ → Bool
 sameSpan a k b l i j = eqb (spanAt a k i) (spanAt b l j)
 
--- row i of a fixed-width node: null, or its bytes
-unfoldable pub maskedFixed : List ℕ → ℕ → ℕ → Row
-maskedFixed s k i = masked (valid s k i) (fixedRow s k (offsetOf s k + i))
+-- row i of a node without children whose values are given: null, or its value
+unfoldable pub maskedRow : (List ℕ → ℕ → ℕ → Row) → List ℕ → ℕ → ℕ → Row
+maskedRow value s k i = masked (valid s k i) (value s k (offsetOf s k + i))

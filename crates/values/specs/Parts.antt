@@ -1,15 +1,18 @@
 -- What the comparison of ranges asks of its callers.
 use mathlib.Core.Path.{_≡_}
-use mathlib.Core.Bool.{true}
+use mathlib.Core.Bool.{Bool, true, false, _||_}
 use mathlib.Core.List.{List}
 use Prim.Native.Nat.{ℕ, suc, _+_, _-_, _*_, _≤_, _<_, _^_}
 use lib.ListN.{length}
-use Rattle.image.specs.Record.{nodeCount, codeOf, p1Of, lengthOf, offsetOf, firstChild, elementsOf}
-use Rattle.image.specs.declared.type_code.Layout.the-variants.{FixedWidth, Runs}
+use Rattle.image.specs.Record.{nodeCount, codeOf, p1Of, lengthOf, offsetOf, hasBitmap, firstChild, elementsOf, bufferPlace}
+use Rattle.image.specs.declared.type_code.Layout.{Layout}
+use Rattle.image.specs.declared.type_code.Layout.the-variants.{FixedWidth, VariableSize, Runs}
 use Rattle.image.specs.TypeCode.{layoutOf}
-use Rattle.image.specs.Element.{valid, elementWidth, elementPlace, elementAt, viewLength, viewData, runEndAt, runAt}
+use Rattle.image.specs.Element.{valid, elementWidth, elementPlace, elementAt, viewLength, viewData, runEndWidth, runEndAt, runAt}
 use Rattle.laws.specs.Accepted.{AcceptedImage, ViewInside}
 use Rattle.laws.specs.Alike.{Alike}
+use Rattle.values.specs.declared.leaf.Leaves.{Leaves}
+use Rattle.values.specs.declared.runs.EndsAt.{EndsAt}
 use Rattle.values.specs.Pairs.{all, sameMask}
 
 -- n rows from row i on of a node of an accepted image
@@ -38,11 +41,11 @@ pub record Parts (a b : List ℕ) (k l i j n depth : ℕ) : Type 0 where
   pub right : Part b l j n
   pub alike : Alike (suc depth) a b k l
 
--- n rows of each of two fixed-width nodes of the same width, whose null masks agree
-pub record Masked (a b : List ℕ) (k l i j n : ℕ) : Type 0 where
+-- n rows of each of two nodes of a layout and of the same width, whose null masks agree
+pub record Masked (x : Layout) (a b : List ℕ) (k l i j n : ℕ) : Type 0 where
   pub left : Side a k i n
   pub right : Side b l j n
-  pub fixed : layoutOf (codeOf a k) ≡ FixedWidth
+  pub layout : layoutOf (codeOf a k) ≡ x
   pub code : codeOf a k ≡ codeOf b l
   pub p1 : p1Of a k ≡ p1Of b l
   pub masks : all (sameMask a k b l) i j n ≡ true
@@ -121,3 +124,26 @@ pub record Viewed (s : List ℕ) (k v len : ℕ) : Type 0 where
 pub record Shown (s : List ℕ) (k v len at : ℕ) : Type 0 where
   pub place : at ≡ viewData s k v
   pub inside : at + len ≤ length s
+
+-- a node without a bitmap whose elements have w bytes, and the element of row 0 starts at p
+pub record Leaf (s : List ℕ) (k w p : ℕ) : Type 0 where
+  pub whole : hasBitmap s k ≡ false
+  pub width : w ≡ elementWidth s k
+  pub place : p ≡ elementPlace s k (offsetOf s k)
+
+-- what is read once of two nodes whose rows are compared one pair at a time: their layout is fixed-width, or
+-- variable-size, or neither is said; where the elements of row 0 start, and where the texts do
+pub record Leafy (a b : List ℕ) (k l : ℕ) (r : Leaves) : Type 0 where
+  pub fixed : r .fixed ≡ true → layoutOf (codeOf a k) ≡ FixedWidth
+  pub texts : r .texts ≡ true → layoutOf (codeOf a k) ≡ VariableSize
+  pub left : r .fixed || r .texts ≡ true → Leaf a k (r .width) (r .left)
+  pub right : r .fixed || r .texts ≡ true → Leaf b l (r .width) (r .right)
+  pub left-text : r .texts ≡ true → r .«left_text» ≡ bufferPlace a k 1
+  pub right-text : r .texts ≡ true → r .«right_text» ≡ bufferPlace b l 1
+
+-- where the ends of a run node's runs start, and how wide they are
+pub record Ends (s : List ℕ) (k : ℕ) (r : EndsAt) : Type 0 where
+  pub width : r .width ≡ runEndWidth s k
+  pub place : r .place ≡ bufferPlace s (firstChild s k) 0 + offsetOf s (firstChild s k) * r .width
+  pub narrow : r .width ≤ 8
+  pub near : r .place < 2 ^ 40

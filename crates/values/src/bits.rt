@@ -2,10 +2,12 @@
 use image::bytes::bit;
 use image::bytes::byte;
 use image::bytes::le64;
+use image::bytes::octet;
 use image::bytes::wide;
 ghost use mathlib.Core.Path.{_≡_};
 ghost use mathlib.Core.Bool.{true};
-ghost use Prim.Native.Nat.{_+_, _<_, _≤_, _^_};
+ghost use Prim.Native.Nat.{_+_, _*_, _/_, _<_, _≤_, _^_};
+ghost use lib.ListN.{length};
 ghost use Rattle.image.specs.Bytes.{bitAt};
 ghost use Rattle.image.specs.Ranges.{every};
 ghost use Rattle.values.specs.Bits.{bitsAt, Leading};
@@ -13,12 +15,30 @@ ghost use Rattle.values.specs.Pairs.{all, sameBit};
 
 const ALL_SET: usize = 18446744073709551615;
 
-// The 64 bits from bit i on, of the bits that start at a place, as a number, the first bit lowest.
+// The 64 bits from bit i on, of the bits that start at a place, as a number, the first bit lowest, where their bytes and
+// one more lie inside.
+fn word_inside(s: &[u8], place: usize, i: usize) -> usize
+    requires { ⌜ place + i / 8 + 9 ≤ length (now s) ⌝ }
+    ensures { λ r. ⌜ r ≡ bitsAt (now (s .entry)) place i 64 ⌝ }
+{
+    let at = place + i / 8;
+    let low = octet(s, at);
+    let shift = i % 8;
+    if shift == 0 {
+        return low;
+    }
+    (low >> shift) + (wide(s[at + 8]) << (64 - shift))
+}
+
+// The same wherever they lie.
 pub fn word(s: &[u8], place: usize, i: usize) -> usize
     requires { ⌜ (place < 2 ^ 32) × (i < 2 ^ 35) ⌝ }
     ensures { λ r. ⌜ r ≡ bitsAt (now (s .entry)) place i 64 ⌝ }
 {
     let at = place + i / 8;
+    if at + 9 <= s.len() {
+        return word_inside(s, place, i);
+    }
     let low = le64(s, at);
     let shift = i % 8;
     if shift == 0 {
@@ -28,18 +48,27 @@ pub fn word(s: &[u8], place: usize, i: usize) -> usize
     (low >> shift) + (high << (64 - shift))
 }
 
-// Bits i, i + 1, .. at one place are bits j, j + 1, .. at another, n of them.
-pub fn same_bits(a: &[u8], p: usize, i: usize, b: &[u8], q: usize, j: usize, n: usize) -> bool
-    requires { ⌜ (p < 2 ^ 32) × (q < 2 ^ 32) × (i + n < 2 ^ 35) × (j + n < 2 ^ 35) ⌝ }
+// Bits i, i + 1, .. at one place are bits j, j + 1, .. at another, m times 64 of them, where all lie inside.
+fn same_words(a: &[u8], p: usize, i: usize, b: &[u8], q: usize, j: usize, m: usize) -> bool
+    requires { ⌜ (p + i / 8 + 8 * m + 1 ≤ length (now a)) × (q + j / 8 + 8 * m + 1 ≤ length (now b)) × (i + 64 * m < 2 ^ 35) × (j + 64 * m < 2 ^ 35) ⌝ }
+    ensures { λ r. ⌜ r ≡ all (sameBit (now (a .entry)) p (now (b .entry)) q) i j (64 * m) ⌝ }
+{
+    let mut h: usize = 0;
+    while h < m {
+        if word_inside(a, p, i + 64 * h) != word_inside(b, q, j + 64 * h) {
+            return false;
+        }
+        h += 1;
+    }
+    true
+}
+
+// Bits i, i + 1, .. at one place are bits j, j + 1, .. at another, n of them, bit by bit.
+fn same_each(a: &[u8], p: usize, i: usize, b: &[u8], q: usize, j: usize, n: usize) -> bool
+    requires { ⌜ (i + n < 2 ^ 35) × (j + n < 2 ^ 35) ⌝ }
     ensures { λ r. ⌜ r ≡ all (sameBit (now (a .entry)) p (now (b .entry)) q) i j n ⌝ }
 {
     let mut k: usize = 0;
-    while 64 <= n - k {
-        if word(a, p, i + k) != word(b, q, j + k) {
-            return false;
-        }
-        k += 64;
-    }
     while k < n {
         if bit(a, p, i + k) != bit(b, q, j + k) {
             return false;
@@ -47,6 +76,31 @@ pub fn same_bits(a: &[u8], p: usize, i: usize, b: &[u8], q: usize, j: usize, n: 
         k += 1;
     }
     true
+}
+
+// Bits i, i + 1, .. at one place are bits j, j + 1, .. at another, n of them: 64 at a time, and the rest one by one.
+pub fn same_bits(a: &[u8], p: usize, i: usize, b: &[u8], q: usize, j: usize, n: usize) -> bool
+    requires { ⌜ (p < 2 ^ 32) × (q < 2 ^ 32) × (i + n < 2 ^ 35) × (j + n < 2 ^ 35) ⌝ }
+    ensures { λ r. ⌜ r ≡ all (sameBit (now (a .entry)) p (now (b .entry)) q) i j n ⌝ }
+{
+    let m = n / 64;
+    let whole = 64 * m;
+    if p + i / 8 + 8 * m + 1 <= a.len() {
+        if q + j / 8 + 8 * m + 1 <= b.len() {
+            if !same_words(a, p, i, b, q, j, m) {
+                return false;
+            }
+            return same_each(a, p, i + whole, b, q, j + whole, n - whole);
+        }
+    }
+    let mut k: usize = 0;
+    while 64 <= n - k {
+        if word(a, p, i + k) != word(b, q, j + k) {
+            return false;
+        }
+        k += 64;
+    }
+    same_each(a, p, i + k, b, q, j + k, n - k)
 }
 
 // How many of n bits from bit i on are set, up to the first that is not.

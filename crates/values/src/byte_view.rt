@@ -1,19 +1,37 @@
 // Views. Translated from src/equal/byte_view.rs and src/byte_view.rs of arrow-data 60.1.0 (Apache-2.0).
 use crate::utils::equal_len;
-use image::bytes::le32;
+use crate::utils::octets_equal;
+use image::bytes::quad;
+use image::element::INLINE_LENGTH;
+use image::element::VIEW_SIZE;
+use image::element::is_kept;
+use image::element::mask_of;
+use image::record::ENTRY_SIZE;
 use image::record::buffer_place;
+use image::record::node_entry;
+use image::record::offset;
 ghost use mathlib.Core.Path.{_≡_};
+ghost use Prim.Native.Nat.{_<_};
 ghost use Rattle.image.specs.declared.type_code.Layout.the-variants.{View};
-ghost use Rattle.image.specs.Record.{codeOf};
+ghost use Rattle.image.specs.Bytes.{bytesAt};
+ghost use Rattle.image.specs.Record.{codeOf, entryPlace, firstBuffer};
 ghost use Rattle.image.specs.TypeCode.{layoutOf};
+ghost use Rattle.image.specs.Element.{viewLength, viewData};
+ghost use Rattle.image.specs.Types.{sameBytes};
 ghost use Rattle.image.specs.Row.{viewRow};
-ghost use Rattle.values.specs.Pairs.{rangeEqual};
-ghost use Rattle.values.specs.Parts.{Parts, Viewed, Shown};
+ghost use Rattle.values.specs.Pairs.{rangeEqual, maskedRow};
+ghost use Rattle.values.specs.Parts.{Parts, Masked, Viewed, Shown};
 
-const VIEW_SIZE: usize = 16;
-
-// A view of at most so many bytes holds them itself.
-const INLINE_LENGTH: usize = 12;
+// Where the bytes of a longer view stand, in one of the node's data buffers; `entries` is where the entries of the node's
+// buffers start.
+fn long_place(s: &[u8], node: u32, entries: usize, view: usize, len: usize) -> usize
+    requires { ⌜ Viewed (now s) node view len ⌝ }
+    requires { ⌜ (12 < len) × (entries ≡ entryPlace (now s) (firstBuffer (now s) node)) ⌝ }
+    ensures { λ r. ⌜ Shown (now (s .entry)) node view len r ⌝ }
+{
+    let buffer = 1 + quad(s, view + 8);
+    quad(s, entries + buffer * ENTRY_SIZE) + quad(s, view + 12)
+}
 
 // Where the bytes of the view at a place stand: in the view, or in one of the node's data buffers.
 pub fn data_place(s: &[u8], node: u32, view: usize, len: usize) -> usize
@@ -23,8 +41,75 @@ pub fn data_place(s: &[u8], node: u32, view: usize, len: usize) -> usize
     if len <= INLINE_LENGTH {
         return view + 4;
     }
-    let buffer = 1 + le32(s, view + 8);
-    buffer_place(s, node, buffer as u32) + le32(s, view + 12)
+    long_place(s, node, node_entry(s, node, 0), view, len)
+}
+
+// The views at two places are equal: length and bytes. Bytes past the length of a short view are zeros, so that twelve of
+// them can be compared at once; where these differ, those that count decide.
+fn view_equal(
+    a: &[u8],
+    an: u32,
+    b: &[u8],
+    bn: u32,
+    x: usize,
+    y: usize,
+    ea: usize,
+    eb: usize,
+) -> bool
+    requires { ⌜ Viewed (now a) an x (viewLength (now a) x) ⌝ }
+    requires { ⌜ Viewed (now b) bn y (viewLength (now b) y) ⌝ }
+    requires { ⌜ (ea ≡ entryPlace (now a) (firstBuffer (now a) an)) × (eb ≡ entryPlace (now b) (firstBuffer (now b) bn)) ⌝ }
+    ensures { λ r. ⌜ r ≡ sameBytes (bytesAt (now (a .entry)) (viewData (now (a .entry)) an x) (viewLength (now (a .entry)) x)) (bytesAt (now (b .entry)) (viewData (now (b .entry)) bn y) (viewLength (now (b .entry)) y)) ⌝ }
+{
+    let len = quad(a, x);
+    if len != quad(b, y) {
+        return false;
+    }
+    if len <= INLINE_LENGTH {
+        if octets_equal(a, b, x + 4, y + 4, INLINE_LENGTH) {
+            return true;
+        }
+        return equal_len(a, b, x + 4, y + 4, len);
+    }
+    octets_equal(
+        a,
+        b,
+        long_place(a, an, ea, x, len),
+        long_place(b, bn, eb, y, len),
+        len,
+    )
+}
+
+// Rows of views, where the null masks agree: row by row. Only one null mask is looked at, for that reason.
+pub fn masked_views_equal(
+    a: &[u8],
+    an: u32,
+    b: &[u8],
+    bn: u32,
+    s: usize,
+    t: usize,
+    n: usize,
+) -> bool
+    requires { ⌜ Masked View (now a) (now b) an bn s t n ⌝ }
+    ensures { λ r. ⌜ r ≡ rangeEqual (maskedRow viewRow (now (a .entry)) an) (maskedRow viewRow (now (b .entry)) bn) s t n ⌝ }
+{
+    let mask = mask_of(a, an);
+    let ea = node_entry(a, an, 0);
+    let eb = node_entry(b, bn, 0);
+    let mut x = buffer_place(a, an, 0) + (offset(a, an) + s) * VIEW_SIZE;
+    let mut y = buffer_place(b, bn, 0) + (offset(b, bn) + t) * VIEW_SIZE;
+    let mut k: usize = 0;
+    while k < n {
+        if is_kept(a, an, mask, s + k) {
+            if !view_equal(a, an, b, bn, x, y, ea, eb) {
+                return false;
+            }
+        }
+        x += VIEW_SIZE;
+        y += VIEW_SIZE;
+        k += 1;
+    }
+    true
 }
 
 // Views without nulls: length and bytes.
@@ -33,26 +118,5 @@ pub fn byte_view_equal(a: &[u8], an: u32, b: &[u8], bn: u32, s: usize, t: usize,
     requires { ⌜ layoutOf (codeOf (now a) an) ≡ View ⌝ }
     ensures { λ r. ⌜ r ≡ rangeEqual (viewRow (now (a .entry)) an) (viewRow (now (b .entry)) bn) s t n ⌝ }
 {
-    let va = buffer_place(a, an, 0);
-    let vb = buffer_place(b, bn, 0);
-    let mut k: usize = 0;
-    while k < n {
-        let x = va + (s + k) * VIEW_SIZE;
-        let y = vb + (t + k) * VIEW_SIZE;
-        let len = le32(a, x);
-        if len != le32(b, y) {
-            return false;
-        }
-        if !equal_len(
-            a,
-            b,
-            data_place(a, an, x, len),
-            data_place(b, bn, y, len),
-            len,
-        ) {
-            return false;
-        }
-        k += 1;
-    }
-    true
+    masked_views_equal(a, an, b, bn, s - offset(a, an), t - offset(b, bn), n)
 }

@@ -4,6 +4,7 @@ pub mod bits;
 pub mod boolean;
 pub mod byte_view;
 pub mod data;
+pub mod leaf;
 pub mod lengths;
 pub mod null;
 pub mod primitive;

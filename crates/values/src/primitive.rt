@@ -12,7 +12,7 @@ ghost use Rattle.image.specs.Record.{codeOf, offsetOf};
 ghost use Rattle.image.specs.TypeCode.{layoutOf};
 ghost use Rattle.image.specs.Row.{fixedRow};
 ghost use Rattle.image.specs.Equality.{rowEqual};
-ghost use Rattle.values.specs.Pairs.{rangeEqual, maskedFixed};
+ghost use Rattle.values.specs.Pairs.{rangeEqual, maskedRow};
 ghost use Rattle.values.specs.Parts.{Parts, Masked, Elements, Spanned, Fixed};
 
 // Rows with nulls are compared so many at a time.
@@ -59,7 +59,7 @@ pub fn primitive_equal(a: &[u8], an: u32, b: &[u8], bn: u32, s: usize, t: usize,
 
 // The bytes of n rows from s and from t on are the same, those under nulls too.
 fn block_equal(a: &[u8], an: u32, b: &[u8], bn: u32, s: usize, t: usize, n: usize) -> bool
-    requires { ⌜ Masked (now a) (now b) an bn s t n ⌝ }
+    requires { ⌜ Masked FixedWidth (now a) (now b) an bn s t n ⌝ }
     ensures { λ r. ⌜ r ≡ rangeEqual (fixedRow (now (a .entry)) an) (fixedRow (now (b .entry)) bn) (offsetOf (now (a .entry)) an + s) (offsetOf (now (b .entry)) bn + t) n ⌝ }
 {
     elements_equal(a, an, b, bn, offset(a, an) + s, offset(b, bn) + t, n)
@@ -67,8 +67,8 @@ fn block_equal(a: &[u8], an: u32, b: &[u8], bn: u32, s: usize, t: usize, n: usiz
 
 // Rows s and t are null, or their bytes are the same.
 fn row_equal(a: &[u8], an: u32, b: &[u8], bn: u32, s: usize, t: usize) -> bool
-    requires { ⌜ Masked (now a) (now b) an bn s t 1 ⌝ }
-    ensures { λ r. ⌜ r ≡ rowEqual (maskedFixed (now (a .entry)) an s) (maskedFixed (now (b .entry)) bn t) ⌝ }
+    requires { ⌜ Masked FixedWidth (now a) (now b) an bn s t 1 ⌝ }
+    ensures { λ r. ⌜ r ≡ rowEqual (maskedRow fixedRow (now (a .entry)) an s) (maskedRow fixedRow (now (b .entry)) bn t) ⌝ }
 {
     if !is_valid(a, an, s) {
         return true;
@@ -78,8 +78,8 @@ fn row_equal(a: &[u8], an: u32, b: &[u8], bn: u32, s: usize, t: usize) -> bool
 
 // A chunk of rows: where not all bytes are the same, row by row.
 fn chunk_equal(a: &[u8], an: u32, b: &[u8], bn: u32, s: usize, t: usize, n: usize) -> bool
-    requires { ⌜ Masked (now a) (now b) an bn s t n ⌝ }
-    ensures { λ r. ⌜ r ≡ rangeEqual (maskedFixed (now (a .entry)) an) (maskedFixed (now (b .entry)) bn) s t n ⌝ }
+    requires { ⌜ Masked FixedWidth (now a) (now b) an bn s t n ⌝ }
+    ensures { λ r. ⌜ r ≡ rangeEqual (maskedRow fixedRow (now (a .entry)) an) (maskedRow fixedRow (now (b .entry)) bn) s t n ⌝ }
 {
     if block_equal(a, an, b, bn, s, t, n) {
         return true;
@@ -96,8 +96,8 @@ fn chunk_equal(a: &[u8], an: u32, b: &[u8], bn: u32, s: usize, t: usize, n: usiz
 
 // Rows with nulls, where the null masks agree: chunk by chunk. Only one null mask is looked at, for that reason.
 pub fn masked_equal(a: &[u8], an: u32, b: &[u8], bn: u32, s: usize, t: usize, n: usize) -> bool
-    requires { ⌜ Masked (now a) (now b) an bn s t n ⌝ }
-    ensures { λ r. ⌜ r ≡ rangeEqual (maskedFixed (now (a .entry)) an) (maskedFixed (now (b .entry)) bn) s t n ⌝ }
+    requires { ⌜ Masked FixedWidth (now a) (now b) an bn s t n ⌝ }
+    ensures { λ r. ⌜ r ≡ rangeEqual (maskedRow fixedRow (now (a .entry)) an) (maskedRow fixedRow (now (b .entry)) bn) s t n ⌝ }
 {
     let mut k: usize = 0;
     while CHUNK <= n - k {

@@ -13,16 +13,32 @@ ghost use mathlib.Core.Path.{_≡_};
 ghost use mathlib.Core.Bool.{true};
 ghost use Prim.Native.Nat.{_-_, _<_, _^_};
 ghost use Rattle.image.specs.Element.{runEndAt, runAt};
-ghost use Rattle.values.specs.Parts.{RunPart, RunRange, SameEnds, RunParts, Together};
+ghost use Rattle.values.specs.Parts.{Ends, RunPart, RunRange, SameEnds, RunParts, Together};
 
-// Run end r of a run node.
-pub fn run_end(s: &[u8], node: u32, r: usize) -> usize
-    requires { ⌜ r < 2 ^ 33 ⌝ }
-    ensures { λ x. ⌜ x ≡ runEndAt (now (s .entry)) node r ⌝ }
+// Where the ends of a run node's runs stand: how wide they are, and where the first of them starts.
+pub struct EndsAt {
+    pub width: usize,
+    pub place: usize,
+}
+
+// The run ends of a node.
+pub fn ends_of(s: &[u8], node: u32) -> EndsAt
+    ensures { λ r. ⌜ Ends (now (s .entry)) node r ⌝ }
 {
     let ends = first_child(s, node);
     let width = TypeCode::integer_width(code(s, ends) as u32);
-    nth(s, buffer_place(s, ends, 0), width, offset(s, ends) + r)
+    EndsAt {
+        width: width,
+        place: buffer_place(s, ends, 0) + offset(s, ends) * width,
+    }
+}
+
+// Run end r of a run node.
+pub fn run_end(s: &[u8], node: u32, ends: EndsAt, r: usize) -> usize
+    requires { ⌜ (r < 2 ^ 33) × Ends (now s) node ends ⌝ }
+    ensures { λ x. ⌜ x ≡ runEndAt (now (s .entry)) node r ⌝ }
+{
+    nth(s, ends.place, ends.width, r)
 }
 
 // The run that holds element j: the first whose end lies above it, found by bisection.
@@ -30,11 +46,12 @@ pub fn run_of(s: &[u8], node: u32, j: usize) -> usize
     requires { ⌜ RunPart (now s) node j ⌝ }
     ensures { λ r. ⌜ r ≡ runAt (now (s .entry)) node j ⌝ }
 {
+    let ends = ends_of(s, node);
     let mut low: usize = 0;
     let mut high = length(s, first_child(s, node));
     while low < high {
         let middle = low + (high - low) / 2;
-        if run_end(s, node, middle) <= j {
+        if run_end(s, node, ends, middle) <= j {
             low = middle + 1;
         } else {
             high = middle;

@@ -2,6 +2,8 @@
 use crate::bits::leading_set;
 use crate::bits::same_bits;
 use crate::types::types_equal;
+use image::bytes::octet;
+use image::bytes::quad;
 use image::place::Place;
 use image::record::bitmap_place;
 use image::record::first_bit;
@@ -20,6 +22,10 @@ ghost use Rattle.values.specs.Pairs.{all, sameMask, sameByte};
 
 const BLOCK: usize = 64;
 
+const OCTET: usize = 8;
+
+const QUAD: usize = 4;
+
 // The 64 bytes at two places are the same. There is no way out of the loop, so that the compiler compares many at once.
 fn equal_block(a: &[u8], b: &[u8], at: usize, bt: usize) -> bool
     requires { ⌜ (at + 64 ≤ length (now a)) × (bt + 64 ≤ length (now b)) ⌝ }
@@ -34,6 +40,62 @@ fn equal_block(a: &[u8], b: &[u8], at: usize, bt: usize) -> bool
     same
 }
 
+// The eight bytes at two places are the same.
+fn octets_same(a: &[u8], b: &[u8], at: usize, bt: usize) -> bool
+    requires { ⌜ (at + 8 ≤ length (now a)) × (bt + 8 ≤ length (now b)) ⌝ }
+    ensures { λ r. ⌜ r ≡ all (sameByte (now (a .entry)) (now (b .entry))) at bt 8 ⌝ }
+{
+    octet(a, at) == octet(b, bt)
+}
+
+// The four bytes at two places are the same.
+fn quads_same(a: &[u8], b: &[u8], at: usize, bt: usize) -> bool
+    requires { ⌜ (at + 4 ≤ length (now a)) × (bt + 4 ≤ length (now b)) ⌝ }
+    ensures { λ r. ⌜ r ≡ all (sameByte (now (a .entry)) (now (b .entry))) at bt 4 ⌝ }
+{
+    quad(a, at) == quad(b, bt)
+}
+
+// The n bytes at two places are the same, at least eight of them: eight at a time, and at the end the last eight, some of
+// them once more.
+pub fn octets_equal(a: &[u8], b: &[u8], at: usize, bt: usize, n: usize) -> bool
+    requires { ⌜ (8 ≤ n) × (at + n ≤ length (now a)) × (bt + n ≤ length (now b)) ⌝ }
+    ensures { λ r. ⌜ r ≡ sameBytes (bytesAt (now (a .entry)) at n) (bytesAt (now (b .entry)) bt n) ⌝ }
+{
+    let mut i: usize = 0;
+    while OCTET <= n - i {
+        if !octets_same(a, b, at + i, bt + i) {
+            return false;
+        }
+        i += OCTET;
+    }
+    octets_same(a, b, at + (n - OCTET), bt + (n - OCTET))
+}
+
+// The n bytes at two places are the same: fewer than a block.
+fn rest_equal(a: &[u8], b: &[u8], at: usize, bt: usize, n: usize) -> bool
+    requires { ⌜ (at + n ≤ length (now a)) × (bt + n ≤ length (now b)) ⌝ }
+    ensures { λ r. ⌜ r ≡ sameBytes (bytesAt (now (a .entry)) at n) (bytesAt (now (b .entry)) bt n) ⌝ }
+{
+    if OCTET <= n {
+        return octets_equal(a, b, at, bt, n);
+    }
+    if QUAD <= n {
+        if !quads_same(a, b, at, bt) {
+            return false;
+        }
+        return quads_same(a, b, at + (n - QUAD), bt + (n - QUAD));
+    }
+    let mut i: usize = 0;
+    while i < n {
+        if a[at + i] != b[bt + i] {
+            return false;
+        }
+        i += 1;
+    }
+    true
+}
+
 // The n bytes at two places are the same.
 pub fn equal_len(a: &[u8], b: &[u8], at: usize, bt: usize, n: usize) -> bool
     requires { ⌜ (at + n ≤ length (now a)) × (bt + n ≤ length (now b)) ⌝ }
@@ -46,13 +108,7 @@ pub fn equal_len(a: &[u8], b: &[u8], at: usize, bt: usize, n: usize) -> bool
         }
         i += BLOCK;
     }
-    while i < n {
-        if a[at + i] != b[bt + i] {
-            return false;
-        }
-        i += 1;
-    }
-    true
+    rest_equal(a, b, at + i, bt + i, n - i)
 }
 
 // All of n bits from bit i on are set.

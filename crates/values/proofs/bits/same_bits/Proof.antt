@@ -1,9 +1,10 @@
 -- Two runs of bits are the same: 64 at a time, then one by one.
 -- The invariant: the test of all pairs is that of those from pair k on; words are equal where their 64 pairs are.
+use mathlib.Core.Path.{sym, _∙_}
 use borrow.Author.Tests.{not-true, not-false}
 use Rattle.values.specs.Pairs.{sameBit}
-use Rattle.values.proofs.Steps.{Left, left-none, left-more, left-fails, left-done, left-jump, jump-fails}
-use Rattle.values.proofs.Words.{words-same, words-differ, same-bit}
+use Rattle.values.proofs.Steps.{Left, left-none, left-rest, left-jump, jump-fails, front-left, front-fails}
+use Rattle.values.proofs.Words.{words-same, words-differ}
 use Prim.Native.Nat.{_-_}
 use native.Mathlib.Omega.{arith}
 use borrow.Author.Needs.{needs}
@@ -11,76 +12,103 @@ use Rattle.values.proofs.bits.same_bits.Statement.{statement}
 use Rattle.values.proofs.bits.same_bits.Tie as tie
 
 abbrev Inv-loop : tie.InvT-loop
-Inv-loop a p i b q j n k₀ k = Left (sameBit a p b q) i j n k
+Inv-loop a p i b q j n m whole k₀ k = Left (sameBit a p b q) i j n k
 
 abbrev μ-loop : tie.MeasureT-loop
-μ-loop a p i b q j n k₀ k = n - k
+μ-loop a p i b q j n m whole k₀ k = n - k
 
-abbrev Inv-loop2 : tie.InvT-loop2
-Inv-loop2 a p i b q j n k₀ k = Left (sameBit a p b q) i j n k
+mul-whole : tie.Need-mul-whole Inv-loop μ-loop
+mul-whole c = search needs
 
-abbrev μ-loop2 : tie.MeasureT-loop2
-μ-loop2 a p i b q j n k₀ k = n - k
+add-if1 : tie.Need-add-if1 Inv-loop μ-loop
+add-if1 c = search needs
 
-loop-holds : tie.Need-loop-holds Inv-loop μ-loop Inv-loop2 μ-loop2
+mul-if1 : tie.Need-mul-if1 Inv-loop μ-loop
+mul-if1 c = search needs
+
+add-if1-2 : tie.Need-add-if1-2 Inv-loop μ-loop
+add-if1-2 c = search needs
+
+add-if1-3 : tie.Need-add-if1-3 Inv-loop μ-loop
+add-if1-3 c = search needs
+
+add-if2 : tie.Need-add-if2 Inv-loop μ-loop
+add-if2 c = search needs
+
+mul-if2 : tie.Need-mul-if2 Inv-loop μ-loop
+mul-if2 c = search needs
+
+add-if2-2 : tie.Need-add-if2-2 Inv-loop μ-loop
+add-if2-2 c = search needs
+
+add-if2-3 : tie.Need-add-if2-3 Inv-loop μ-loop
+add-if2-3 c = search needs
+
+same-words-requires : tie.Need-same-words-requires Inv-loop μ-loop
+same-words-requires c κs = search needs
+
+returns : tie.Need-returns Inv-loop μ-loop
+returns c = front-fails _ _ _ _ _ (omega arith) (sym (c .before .same-words .ensures) ∙ not-true _ (c .if3 .taken))
+
+add-same-each : tie.Need-add-same-each Inv-loop μ-loop
+add-same-each c = search needs
+
+add-same-each-2 : tie.Need-add-same-each-2 Inv-loop μ-loop
+add-same-each-2 c = search needs
+
+sub-same-each : tie.Need-sub-same-each Inv-loop μ-loop
+sub-same-each c = search needs
+
+same-each-requires : tie.Need-same-each-requires Inv-loop μ-loop
+same-each-requires c κs = search needs
+
+returns-2 : tie.Need-returns-2 Inv-loop μ-loop
+returns-2 c = left-rest _ _ _ _ _ (front-left _ _ _ _ _ (omega arith) (sym (c .before .before .same-words .ensures) ∙ not-false _ (c .before .if3 .left))) (c .same-each .ensures)
+
+loop-holds : tie.Need-loop-holds Inv-loop μ-loop
 loop-holds c = left-none _ _ _ _
 
-sub-loop : tie.Need-sub-loop Inv-loop μ-loop Inv-loop2 μ-loop2
+sub-loop : tie.Need-sub-loop Inv-loop μ-loop
 sub-loop c = omega (arith, c .loop .inv .within)
 
-add-word : tie.Need-add-word Inv-loop μ-loop Inv-loop2 μ-loop2
+add-word : tie.Need-add-word Inv-loop μ-loop
 add-word c = search needs
 
-word-requires : tie.Need-word-requires Inv-loop μ-loop Inv-loop2 μ-loop2
+word-requires : tie.Need-word-requires Inv-loop μ-loop
 word-requires c κs = search needs
 
-add-word-2 : tie.Need-add-word-2 Inv-loop μ-loop Inv-loop2 μ-loop2
+add-word-2 : tie.Need-add-word-2 Inv-loop μ-loop
 add-word-2 c = search needs
 
-word-requires-2 : tie.Need-word-requires-2 Inv-loop μ-loop Inv-loop2 μ-loop2
+word-requires-2 : tie.Need-word-requires-2 Inv-loop μ-loop
 word-requires-2 c κs = search needs
 
-returns : tie.Need-returns Inv-loop μ-loop Inv-loop2 μ-loop2
-returns c = jump-fails _ _ _ _ _ 64 (c .before .before .before .loop-test .taken) (c .before .before .before .before .loop .inv) (words-differ _ _ _ _ _ _ (c .before .before .word .ensures) (c .before .word2 .ensures) (c .if1 .taken))
+returns-3 : tie.Need-returns-3 Inv-loop μ-loop
+returns-3 c = jump-fails _ _ _ _ _ 64 (c .before .before .before .loop-test .taken) (c .before .before .before .before .loop .inv) (words-differ _ _ _ _ _ _ (c .before .before .word .ensures) (c .before .word2 .ensures) (c .if4 .taken))
 
-add-k : tie.Need-add-k Inv-loop μ-loop Inv-loop2 μ-loop2
+add-k : tie.Need-add-k Inv-loop μ-loop
 add-k c = search needs
 
-loop-less : tie.Need-loop-less Inv-loop μ-loop Inv-loop2 μ-loop2
+loop-less : tie.Need-loop-less Inv-loop μ-loop
 loop-less c = omega (arith, c .before .before .before .before .loop .inv .within)
 
-loop-again : tie.Need-loop-again Inv-loop μ-loop Inv-loop2 μ-loop2
-loop-again c = left-jump _ _ _ _ _ 64 (c .before .before .before .before .loop .inv .within) (c .before .before .before .loop-test .taken) (c .before .before .before .before .loop .inv) (words-same _ _ _ _ _ _ (c .before .before .word .ensures) (c .before .word2 .ensures) (c .if1 .left))
+loop-again : tie.Need-loop-again Inv-loop μ-loop
+loop-again c = left-jump _ _ _ _ _ 64 (c .before .before .before .before .loop .inv .within) (c .before .before .before .loop-test .taken) (c .before .before .before .before .loop .inv) (words-same _ _ _ _ _ _ (c .before .before .word .ensures) (c .before .word2 .ensures) (c .if4 .left))
 
-loop2-holds : tie.Need-loop2-holds Inv-loop μ-loop Inv-loop2 μ-loop2
-loop2-holds c = c .before .loop .inv
+add-same-each-3 : tie.Need-add-same-each-3 Inv-loop μ-loop
+add-same-each-3 c = search needs
 
-add-bit : tie.Need-add-bit Inv-loop μ-loop Inv-loop2 μ-loop2
-add-bit c = search needs
+add-same-each-4 : tie.Need-add-same-each-4 Inv-loop μ-loop
+add-same-each-4 c = search needs
 
-bit-requires : tie.Need-bit-requires Inv-loop μ-loop Inv-loop2 μ-loop2
-bit-requires c κs = search needs
+sub-same-each-2 : tie.Need-sub-same-each-2 Inv-loop μ-loop
+sub-same-each-2 c = search needs
 
-add-bit-2 : tie.Need-add-bit-2 Inv-loop μ-loop Inv-loop2 μ-loop2
-add-bit-2 c = search needs
+same-each-requires-2 : tie.Need-same-each-requires-2 Inv-loop μ-loop
+same-each-requires-2 c κs = search needs
 
-bit-requires-2 : tie.Need-bit-requires-2 Inv-loop μ-loop Inv-loop2 μ-loop2
-bit-requires-2 c κs = search needs
-
-returns-2 : tie.Need-returns-2 Inv-loop μ-loop Inv-loop2 μ-loop2
-returns-2 c = left-fails _ _ _ _ _ (c .before .before .before .loop2-test .taken) (c .before .before .before .before .loop2 .inv) (same-bit _ _ _ _ _ _ (c .before .before .bit .ensures) (c .before .bit2 .ensures) (not-true _ (c .if2 .taken)))
-
-add-k-2 : tie.Need-add-k-2 Inv-loop μ-loop Inv-loop2 μ-loop2
-add-k-2 c = search needs
-
-loop2-less : tie.Need-loop2-less Inv-loop μ-loop Inv-loop2 μ-loop2
-loop2-less c = omega (arith, c .before .before .before .before .loop2 .inv .within)
-
-loop2-again : tie.Need-loop2-again Inv-loop μ-loop Inv-loop2 μ-loop2
-loop2-again c = left-more _ _ _ _ _ (c .before .before .before .loop2-test .taken) (c .before .before .before .before .loop2 .inv) (same-bit _ _ _ _ _ _ (c .before .before .bit .ensures) (c .before .bit2 .ensures) (not-false _ (c .if2 .left)))
-
-returns-3 : tie.Need-returns-3 Inv-loop μ-loop Inv-loop2 μ-loop2
-returns-3 c = left-done _ _ _ _ _ (c .loop2-test .left) (c .before .loop2 .inv)
+returns-4 : tie.Need-returns-4 Inv-loop μ-loop
+returns-4 c = left-rest _ _ _ _ _ (c .before .before .loop .inv) (c .same-each2 .ensures)
 
 pub same-bits-spec : {M : Type 1} → statement M
 same-bits-spec =
@@ -88,25 +116,34 @@ same-bits-spec =
     (tie.spec
     Inv-loop
     μ-loop
-    Inv-loop2
-    μ-loop2
+    mul-whole
+    add-if1
+    mul-if1
+    add-if1-2
+    add-if1-3
+    add-if2
+    mul-if2
+    add-if2-2
+    add-if2-3
+    same-words-requires
+    returns
+    add-same-each
+    add-same-each-2
+    sub-same-each
+    same-each-requires
+    returns-2
     loop-holds
     sub-loop
     add-word
     word-requires
     add-word-2
     word-requires-2
-    returns
+    returns-3
     add-k
     loop-less
     loop-again
-    loop2-holds
-    add-bit
-    bit-requires
-    add-bit-2
-    bit-requires-2
-    returns-2
-    add-k-2
-    loop2-less
-    loop2-again
-    returns-3)
+    add-same-each-3
+    add-same-each-4
+    sub-same-each-2
+    same-each-requires-2
+    returns-4)

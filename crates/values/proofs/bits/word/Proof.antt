@@ -10,11 +10,20 @@ use Rattle.values.proofs.bits.word.Tie as tie
 add-at : tie.Need-add-at
 add-at c = search needs
 
+add-if1 : tie.Need-add-if1
+add-if1 c = search needs
+
+word-inside-requires : tie.Need-word-inside-requires
+word-inside-requires c κs = search needs
+
+returns : tie.Need-returns
+returns c = search needs
+
 le64-requires : tie.Need-le64-requires
 le64-requires c κs = search needs
 
-returns : tie.Need-returns
-returns c = word-whole _ (λ k. omega (arith, c .before .before .shared-slice-known .given k)) _ _ (c .before .le64 .ensures) (c .if1 .taken)
+returns-2 : tie.Need-returns-2
+returns-2 c = word-whole _ (λ k. omega (arith, c .before .before .before .shared-slice-known .given k)) _ _ (c .before .le64 .ensures) (c .if2 .taken)
 
 add-byte : tie.Need-add-byte
 add-byte c = search needs
@@ -35,18 +44,21 @@ shl-result : tie.Need-shl-result
 shl-result c = search needs
 
 add-result : tie.Need-add-result
-add-result c = omega (arith, word-fits _ (λ k. omega (arith, c .before .before .before .before .shared-slice-known .given k)) _ _ (c .before .before .before .le64 .ensures) (c .wide .result))
+add-result c = omega (arith, word-fits _ (λ k. omega (arith, c .before .before .before .before .before .shared-slice-known .given k)) _ _ (c .before .before .before .le64 .ensures) (c .wide .result))
 
-returns-2 : tie.Need-returns-2
-returns-2 c = word-split _ (λ k. omega (arith, c .before .before .before .before .shared-slice-known .given k)) _ _ (c .before .before .before .le64 .ensures) (c .wide .ensures .value ∙ c .before .byte .ensures .value)
+returns-3 : tie.Need-returns-3
+returns-3 c = word-split _ (λ k. omega (arith, c .before .before .before .before .before .shared-slice-known .given k)) _ _ (c .before .before .before .le64 .ensures) (c .wide .ensures .value ∙ c .before .byte .ensures .value)
 
 pub word-spec : {M : Type 1} → statement M
 word-spec =
     tie.close
     (tie.spec
     add-at
-    le64-requires
+    add-if1
+    word-inside-requires
     returns
+    le64-requires
+    returns-2
     add-byte
     byte-requires
     wide-requires
@@ -54,4 +66,4 @@ word-spec =
     sub-result
     shl-result
     add-result
-    returns-2)
+    returns-3)

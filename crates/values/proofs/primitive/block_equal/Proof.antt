@@ -20,7 +20,7 @@ add-elements-equal-2 : tie.Need-add-elements-equal-2
 add-elements-equal-2 c = omega (arith, c .offset2 .ensures .small, side-small _ _ _ _ (c .before .before .before .before .pre .right))
 
 elements-equal-requires : tie.Need-elements-equal-requires
-elements-equal-requires c κs = rw (c .before .offset .ensures .value, c .offset2 .ensures .value) (masked-fixed _ _ _ _ _ _ _ (c .before .before .before .before .pre))
+elements-equal-requires c κs = rw (c .before .offset .ensures .value, c .offset2 .ensures .value) (masked-fixed (c .before .before .before .before .pre))
 
 returns : tie.Need-returns
 returns c = c .elements-equal .ensures ∙ rw (c .before .before .offset .ensures .value, c .before .offset2 .ensures .value)

@@ -3,18 +3,18 @@
 use Rattle.values.proofs.Steps.{Left, left-none, left-more, left-fails, left-done, by-rows, sameRow, row-test}
 use Rattle.values.proofs.MaskedRows.{whole-block, masked-row}
 use Rattle.values.proofs.Fixed.{side-small}
-use Rattle.values.specs.Pairs.{maskedFixed}
+use Rattle.image.specs.Row.{fixedRow}
+use Rattle.values.specs.Pairs.{maskedRow}
 use borrow.Author.Tests.{not-true, not-false}
 use mathlib.Core.Path.{sym, _∙_}
-use Prim.Native.Nat.{ℕ, _+_, _-_, _*_, _<_, _≤_}
-use lib.ListN.{length, getD}
+use Prim.Native.Nat.{_-_}
 use native.Mathlib.Omega.{arith}
 use borrow.Author.Needs.{needs}
 use Rattle.values.proofs.primitive.chunk_equal.Statement.{statement}
 use Rattle.values.proofs.primitive.chunk_equal.Tie as tie
 
 abbrev Inv-loop : tie.InvT-loop
-Inv-loop a an b bn s t n k₀ k = Left (sameRow (maskedFixed a an) (maskedFixed b bn)) s t n k
+Inv-loop a an b bn s t n k₀ k = Left (sameRow (maskedRow fixedRow a an) (maskedRow fixedRow b bn)) s t n k
 
 abbrev μ-loop : tie.MeasureT-loop
 μ-loop a an b bn s t n k₀ k = n - k
@@ -23,7 +23,7 @@ block-equal-requires : tie.Need-block-equal-requires Inv-loop μ-loop
 block-equal-requires c κs = c .before .before .pre
 
 returns : tie.Need-returns Inv-loop μ-loop
-returns c = whole-block _ _ _ _ _ _ _ (c .before .before .before .before .pre) (sym (c .before .block-equal .ensures) ∙ c .if1 .taken)
+returns c = whole-block fixedRow (c .before .before .before .before .pre) (sym (c .before .block-equal .ensures) ∙ c .if1 .taken)
 
 loop-holds : tie.Need-loop-holds Inv-loop μ-loop
 loop-holds c = left-none _ _ _ _
@@ -35,7 +35,7 @@ add-row-equal-2 : tie.Need-add-row-equal-2 Inv-loop μ-loop
 add-row-equal-2 c = omega (arith, side-small _ _ _ _ (c .before .before .before .before .before .before .pre .right))
 
 row-equal-requires : tie.Need-row-equal-requires Inv-loop μ-loop
-row-equal-requires c κs = masked-row _ _ _ _ _ _ _ _ (c .loop-test .taken) (c .before .before .before .before .before .before .pre)
+row-equal-requires c κs = masked-row (c .before .before .before .before .before .before .pre) (c .loop-test .taken)
 
 returns-2 : tie.Need-returns-2 Inv-loop μ-loop
 returns-2 c = left-fails _ _ _ _ _ (c .before .before .loop-test .taken) (c .before .before .before .loop .inv) (row-test _ _ _ _ (c .before .row-equal .ensures) ∙ not-true _ (c .if2 .taken)) ∙ by-rows _ _ _ _ _

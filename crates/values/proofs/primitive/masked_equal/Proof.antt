@@ -3,19 +3,18 @@
 use Rattle.values.proofs.Steps.{Left, left-none, left-jump, jump-fails, left-rest, by-rows, sameRow}
 use Rattle.values.proofs.MaskedRows.{masked-ahead}
 use Rattle.values.proofs.Fixed.{side-small}
-use Rattle.values.specs.Pairs.{maskedFixed}
+use Rattle.image.specs.Row.{fixedRow}
+use Rattle.values.specs.Pairs.{maskedRow}
 use borrow.Author.Tests.{not-true, not-false}
 use native.Mathlib.Nat.{le-refl}
 use mathlib.Core.Path.{sym, _∙_}
-use Prim.Native.Nat.{ℕ, _+_, _-_, _*_, _<_, _≤_}
-use lib.ListN.{length, getD}
+use Prim.Native.Nat.{_-_}
 use native.Mathlib.Omega.{arith}
-use borrow.Author.Needs.{needs}
 use Rattle.values.proofs.primitive.masked_equal.Statement.{statement}
 use Rattle.values.proofs.primitive.masked_equal.Tie as tie
 
 abbrev Inv-loop : tie.InvT-loop
-Inv-loop a an b bn s t n k₀ k = Left (sameRow (maskedFixed a an) (maskedFixed b bn)) s t n k
+Inv-loop a an b bn s t n k₀ k = Left (sameRow (maskedRow fixedRow a an) (maskedRow fixedRow b bn)) s t n k
 
 abbrev μ-loop : tie.MeasureT-loop
 μ-loop a an b bn s t n k₀ k = n - k
@@ -33,7 +32,7 @@ add-chunk-equal-2 : tie.Need-add-chunk-equal-2 Inv-loop μ-loop
 add-chunk-equal-2 c = omega (arith, c .before .loop .inv .within, side-small _ _ _ _ (c .before .before .before .before .pre .right))
 
 chunk-equal-requires : tie.Need-chunk-equal-requires Inv-loop μ-loop
-chunk-equal-requires c κs = masked-ahead _ _ _ _ _ _ _ _ _ (c .before .loop .inv .within) (c .loop-test .taken) (c .before .before .before .before .pre)
+chunk-equal-requires c κs = masked-ahead (c .before .before .before .before .pre) (c .before .loop .inv .within) (c .loop-test .taken)
 
 returns : tie.Need-returns Inv-loop μ-loop
 returns c = jump-fails _ _ _ _ _ 1024 (c .before .before .loop-test .taken) (c .before .before .before .loop .inv) (by-rows _ _ _ _ _ ∙ sym (c .before .chunk-equal .ensures) ∙ not-true _ (c .if1 .taken)) ∙ by-rows _ _ _ _ _
@@ -57,7 +56,7 @@ sub-chunk-equal : tie.Need-sub-chunk-equal Inv-loop μ-loop
 sub-chunk-equal c = c .before .loop .inv .within
 
 chunk-equal-requires-2 : tie.Need-chunk-equal-requires-2 Inv-loop μ-loop
-chunk-equal-requires-2 c κs = masked-ahead _ _ _ _ _ _ _ _ _ (c .before .loop .inv .within) (le-refl _) (c .before .before .before .before .pre)
+chunk-equal-requires-2 c κs = masked-ahead (c .before .before .before .before .pre) (c .before .loop .inv .within) (le-refl _)
 
 returns-2 : tie.Need-returns-2 Inv-loop μ-loop
 returns-2 c = left-rest _ _ _ _ _ (c .before .before .loop .inv) (c .chunk-equal2 .ensures ∙ sym (by-rows _ _ _ _ _)) ∙ by-rows _ _ _ _ _
