@@ -242,8 +242,8 @@ fn is_padded_inside(image: &[u8], view: usize, len: usize) -> bool
     is_padded(image, view, len)
 }
 
-// The view at a place breaks a rule, where the view and the entries of the node's buffers lie inside the image;
-// `entries` is where these start, `count` how many they are.
+// The view at a place breaks a rule, where the view, the node's buffers and their entries lie inside the image; `entries`
+// is where these start, `count` how many they are.
 fn view_inside_broken(image: &[u8], node: u32, view: usize, entries: usize, count: usize) -> bool
     requires { ⌜ ViewHere (now image) node view entries count ⌝ }
     ensures { λ r. ⌜ r ≡ viewFault (now (image .entry)) node view ⌝ }
