@@ -1,13 +1,14 @@
-/* Times the comparison of tables of about a million values, in one process, beside the Rust and beside memcmp.
+/* Times the comparison of tables of about a million values, in one process, beside the Rust.
  *
- * For each layout two images with equal rows are laid out in memory of their own. `editions_compare` checks both images and
- * compares all rows; `editions_check` is the check of one image alone; the Rust is `equal` of arrow-data on the same
- * buffers, loaded before and checked by nobody; memcmp compares the two images byte for byte. Each figure is the median of
- * 31 calls, the four taken in turn. Without -DRUST the Rust is left out. */
+ * For each layout there are two pairs of images with equal rows: one whose two sides are laid out alike, and one whose
+ * right side is laid out otherwise, as the line says. `editions_compare` checks both images and compares all rows;
+ * `editions_check` is the check of the right image alone; the Rust is `equal` of arrow-data on the same buffers, loaded
+ * before and checked by nobody; memcmp is of the left image and a copy of it: what reading two images takes. Each figure is
+ * the median of 31 calls, the four taken in turn. Without -DRUST the Rust is left out. */
 #include "../host/editions.h"
+#include "../tests/image.h"
 
 #include <stdio.h>
-#include <stdlib.h>
 #include <string.h>
 #include <time.h>
 
@@ -23,197 +24,304 @@ static void rust_free(void *array) { (void)array; }
 
 #define YES ((uint64_t)1 << 32)
 
-enum { ROWS = 1000000, TIMES = 31, MAX_IMAGE = 16777216 };
+enum { ROWS = 1000000, TIMES = 31 };
 
-struct image {
-    uint8_t *bytes;
-    uint32_t nodes, buffers, node, buffer, end;
-    uint32_t first_child;
+/* How one side is laid out: elements before the first row; whether every tenth row is null; whether it is laid out
+ * otherwise where the layout leaves a choice (bytes under nulls, order of keys and of what is stored, cuts of runs). */
+struct side {
+    uint32_t before;
+    int nulls, other;
 };
 
-static void put(struct image *m, uint32_t at, uint64_t x, int width)
-{
-    for (int i = 0; i < width; i++)
-        m->bytes[at + i] = (uint8_t)(x >> (8 * i));
-}
-
-static struct image begin(uint32_t nodes, uint32_t buffers)
-{
-    struct image m = {calloc(1, MAX_IMAGE), nodes, buffers, 0, 0, 4 + 44 * nodes + 8 * buffers, 1};
-    put(&m, 0, nodes, 2);
-    put(&m, 2, buffers, 2);
-    return m;
-}
-
-/* A node, in the order of their numbers. Returns the place of its record. */
-static uint32_t node(struct image *m, int code, uint32_t p1, uint32_t length, uint32_t children, uint32_t buffers)
-{
-    uint32_t at = 4 + 44 * m->node++;
-    m->bytes[at] = (uint8_t)code;
-    put(m, at + 4, p1, 4);
-    put(m, at + 12, length, 4);
-    put(m, at + 36, m->first_child, 2);
-    put(m, at + 38, children, 2);
-    put(m, at + 40, m->buffer, 2);
-    put(m, at + 42, buffers, 2);
-    m->first_child += children;
-    return at;
-}
-
-/* The next buffer, of so many bytes, all zero. Returns its place. */
-static uint32_t buffer(struct image *m, uint32_t len)
-{
-    uint32_t entry = 4 + 44 * m->nodes + 8 * m->buffer++, at = m->end;
-    put(m, entry, at, 4);
-    put(m, entry + 4, len, 4);
-    m->end += len;
-    if (m->end > MAX_IMAGE)
-        abort();
-    return at;
-}
-
-/* A bitmap for `rows` rows with every tenth null. */
-static void bitmap(struct image *m, uint32_t record, uint32_t rows)
-{
-    uint32_t at = m->end, len = (rows + 7) / 8;
-    m->bytes[record + 1] = 2;
-    put(m, record + 24, at, 4);
-    put(m, record + 28, len, 4);
-    for (uint32_t i = 0; i < rows; i++)
-        if (i % 10 != 9)
-            m->bytes[at + i / 8] |= (uint8_t)(1 << (i % 8));
-    m->end += len;
-}
+static const struct side PLAIN = {0, 0, 0}, OTHER = {3, 0, 1}, NULLS = {0, 1, 0}, OTHER_NULLS = {3, 1, 1};
 
 static uint64_t mix(uint64_t i) { return (i + 1) * 0x9e3779b97f4a7c15u; }
 
-static struct image int64s(int nulls)
+static int is_null(struct side x, uint32_t i) { return x.nulls && i % 10 == 9; }
+
+static struct image begin(uint32_t nodes, uint32_t buffers) { return image_begin(nodes, buffers, IMAGE_LONGEST); }
+
+/* What stands where no row of the side is read: other bytes on the other side. */
+static uint64_t unread(struct side x, uint32_t i) { return x.other ? ~mix(i) : mix(i); }
+
+static void nulls(struct image *m, uint32_t record, struct side x, uint32_t rows)
 {
-    struct image m = begin(1, 1);
-    uint32_t r = node(&m, 5, 0, ROWS, 0, 1), b = buffer(&m, 8 * ROWS);
-    for (uint32_t i = 0; i < ROWS; i++)
-        put(&m, b + 8 * i, mix(i), 8);
-    if (nulls)
-        bitmap(&m, r, ROWS);
-    return m;
+    if (!x.nulls)
+        return;
+    uint32_t first = x.other ? 5 : 0, at = image_bitmap(m, record, rows, first);
+    for (uint32_t i = 0; i < rows; i++)
+        if (!is_null(x, i))
+            image_set(m, at, first + i);
 }
 
-static struct image booleans(uint32_t offset)
+/* The elements of a fixed-width node, those before its first row too. */
+static void elements(struct image *m, uint32_t record, struct side x, uint32_t width, uint32_t rows, uint32_t seed)
 {
-    struct image m = begin(1, 1);
-    uint32_t r = node(&m, 1, 0, ROWS, 0, 1), b = buffer(&m, ROWS / 8 + 2);
-    for (uint32_t i = 0; i < ROWS; i++)
-        m.bytes[b + (offset + i) / 8] |= (uint8_t)((mix(i) >> 40) % 2 << (offset + i) % 8);
-    put(&m, r + 16, offset, 4);
-    return m;
-}
-
-/* texts of 4 to 11 bytes */
-static void texts(struct image *m, uint32_t offsets, uint32_t text, uint32_t rows)
-{
-    uint32_t at = 0;
-    for (uint32_t i = 0; i < rows; i++) {
-        uint32_t len = 4 + mix(i) % 8;
-        put(m, offsets + 4 * i, at, 4);
-        for (uint32_t k = 0; k < len; k++)
-            m->bytes[text + at + k] = (uint8_t)('a' + (mix(i) >> (8 + 3 * k)) % 26);
-        at += len;
+    uint32_t at = image_buffer(m, width * (x.before + rows));
+    image_put(m, record + RECORD_OFFSET, x.before, 4);
+    for (uint32_t i = 0; i < x.before + rows; i++) {
+        uint32_t row = i - x.before;
+        uint64_t v = i < x.before || is_null(x, row) ? unread(x, i + seed) : mix(row + seed);
+        for (uint32_t k = 0; k < width; k += 8, v = mix(v))
+            image_put(m, at + width * i + k, v, width - k < 8 ? (int)(width - k) : 8);
     }
-    put(m, offsets + 4 * rows, at, 4);
 }
 
-static struct image utf8s(int nulls)
+static struct image fixed(int code, uint32_t p1, uint32_t width, struct side x)
 {
-    struct image m = begin(1, 2);
-    uint32_t r = node(&m, 26, 0, ROWS, 0, 2);
-    uint32_t o = buffer(&m, 4 * (ROWS + 1)), t = buffer(&m, 11 * ROWS);
-    texts(&m, o, t, ROWS);
-    if (nulls)
-        bitmap(&m, r, ROWS);
+    struct image m = begin(1, 1);
+    uint32_t r = image_node(&m, code, p1, ROWS, 0, 1);
+    elements(&m, r, x, width, ROWS, 0);
+    nulls(&m, r, x, ROWS);
     return m;
 }
 
-/* texts of 4 and of 20 bytes, in turn; the long ones share a pool of 1,000 */
-static struct image views(int nulls)
+static struct image int64s(struct side x) { return fixed(5, 0, 8, x); }
+static struct image int32s(struct side x) { return fixed(4, 0, 4, x); }
+static struct image int16s(struct side x) { return fixed(3, 0, 2, x); }
+static struct image int8s(struct side x) { return fixed(2, 0, 1, x); }
+static struct image decimal128s(struct side x) { return fixed(17, 38, 16, x); }
+static struct image binaries(struct side x) { return fixed(30, 5, 5, x); }
+
+static struct image booleans(struct side x)
+{
+    struct image m = begin(1, 1);
+    uint32_t offset = x.other ? 5 : 3, r = image_node(&m, 1, 0, ROWS, 0, 1), b = image_buffer(&m, (offset + ROWS + 7) / 8);
+    for (uint32_t i = 0; i < ROWS; i++)
+        if ((is_null(x, i) ? unread(x, i) : mix(i)) >> 40 & 1)
+            image_set(&m, b, offset + i);
+    image_put(&m, r + RECORD_OFFSET, offset, 4);
+    nulls(&m, r, x, ROWS);
+    return m;
+}
+
+/* Texts of 4 to 11 bytes, beginning with the one of that number, the offsets of so many bytes each; before the first row
+ * and under nulls other texts, and other lengths, on the other side. */
+static void texts(struct image *m, uint32_t record, struct side x, uint32_t width, uint32_t rows, uint32_t first)
+{
+    uint32_t all = x.before + rows, offsets = image_buffer(m, width * (all + 1)), size = 0, at = 0;
+    image_put(m, record + RECORD_OFFSET, x.before, 4);
+    for (int write = 0; write < 2; write++) {
+        uint32_t text = write ? image_buffer(m, size) : 0;
+        for (uint32_t i = 0; i < all; i++) {
+            uint32_t row = i - x.before;
+            uint64_t v = i < x.before || is_null(x, row) ? unread(x, i) : mix((first + row) % rows);
+            uint32_t len = 4 + (uint32_t)(v % 8);
+            if (!write) {
+                image_put(m, offsets + width * i, size, (int)width);
+                size += len;
+                continue;
+            }
+            for (uint32_t k = 0; k < len; k++)
+                m->bytes[text + at + k] = (uint8_t)('a' + (v >> (8 + 3 * k)) % 26);
+            at += len;
+        }
+    }
+    image_put(m, offsets + width * all, size, (int)width);
+}
+
+static struct image strings(int code, uint32_t width, uint32_t rows, struct side x)
 {
     struct image m = begin(1, 2);
-    uint32_t rows = ROWS / 2, r = node(&m, 31, 0, rows, 0, 2);
-    uint32_t v = buffer(&m, 16 * rows), pool = buffer(&m, 20 * 1000);
+    uint32_t r = image_node(&m, code, 0, rows, 0, 2);
+    texts(&m, r, x, width, rows, 0);
+    nulls(&m, r, x, rows);
+    return m;
+}
+
+static struct image utf8s(struct side x) { return strings(26, 4, ROWS, x); }
+static struct image large_utf8s(struct side x) { return strings(28, 8, ROWS / 2, x); }
+
+/* Texts of 4 and of 20 bytes, in turn; the long ones share a pool of 1,000, which on the other side stands in the second
+ * of two buffers and begins elsewhere. */
+static struct image views(struct side x)
+{
+    uint32_t rows = ROWS / 2, start = x.other ? 7 : 0;
+    struct image m = begin(1, x.other ? 3 : 2);
+    uint32_t r = image_node(&m, 31, 0, rows, 0, x.other ? 3 : 2), v = image_buffer(&m, 16 * (x.before + rows));
+    image_put(&m, r + RECORD_OFFSET, x.before, 4);
+    if (x.other)
+        image_buffer(&m, 100);
+    uint32_t pool = image_buffer(&m, start + 20 * 1000) + start;
     for (uint32_t i = 0; i < 20 * 1000; i++)
         m.bytes[pool + i] = (uint8_t)('a' + mix(i) % 26);
     for (uint32_t i = 0; i < rows; i++) {
-        uint32_t at = v + 16 * i, offset = 20 * (uint32_t)(mix(i) % 1000);
-        put(&m, at, i % 2 ? 20 : 4, 4);
+        uint64_t value = is_null(x, i) ? unread(x, i) : mix(i);
+        uint32_t at = v + 16 * (x.before + i), offset = 20 * (uint32_t)(value % 1000);
+        image_put(&m, at, i % 2 ? 20 : 4, 4);
         for (int k = 0; k < 4; k++)
-            m.bytes[at + 4 + k] = i % 2 ? m.bytes[pool + offset + k] : (uint8_t)('a' + (mix(i) >> (8 * k)) % 26);
-        if (i % 2)
-            put(&m, at + 12, offset, 4);
+            m.bytes[at + 4 + k] = i % 2 ? m.bytes[pool + offset + k] : (uint8_t)('a' + (value >> (8 * k)) % 26);
+        if (i % 2) {
+            image_put(&m, at + 8, x.other ? 1 : 0, 4);
+            image_put(&m, at + 12, start + offset, 4);
+        }
     }
-    if (nulls)
-        bitmap(&m, r, rows);
+    nulls(&m, r, x, rows);
     return m;
 }
 
-static struct image dictionaries(uint32_t values, int nulls)
+/* Keys of Int32 into texts; on the other side the texts stand in another order, and keys under nulls are others. */
+static struct image dictionaries(uint32_t values, struct side x)
 {
     struct image m = begin(2, 3);
-    uint32_t r = node(&m, 41, 4, ROWS, 1, 1);
-    uint32_t k = buffer(&m, 4 * ROWS);
-    for (uint32_t i = 0; i < ROWS; i++)
-        put(&m, k + 4 * i, mix(i) % values, 4);
-    node(&m, 26, 0, values, 0, 2);
-    uint32_t o = buffer(&m, 4 * (values + 1)), t = buffer(&m, 11 * values);
-    texts(&m, o, t, values);
-    if (nulls)
-        bitmap(&m, r, ROWS);
+    uint32_t r = image_node(&m, 41, 4, ROWS, 1, 1), k = image_buffer(&m, 4 * (x.before + ROWS));
+    uint32_t c = image_node(&m, 26, 0, values, 0, 2);
+    image_put(&m, r + RECORD_OFFSET, x.before, 4);
+    for (uint32_t i = 0; i < ROWS; i++) {
+        uint32_t value = (uint32_t)((is_null(x, i) ? unread(x, i) : mix(i)) % values);
+        image_put(&m, k + 4 * (x.before + i), x.other ? (value + 7) % values : value, 4);
+    }
+    texts(&m, c, PLAIN, 4, values, x.other ? values - 7 : 0);
+    nulls(&m, r, x, ROWS);
     return m;
 }
 
-static struct image lists(void)
+static struct image few_values(struct side x) { return dictionaries(1000, x); }
+static struct image many_values(struct side x) { return dictionaries(300000, x); }
+
+/* Lists of four Int32; on the other side the child has rows before the first list's, and under nulls lists are longer. */
+static struct image lists(struct side x)
 {
     struct image m = begin(2, 2);
-    uint32_t rows = ROWS / 4;
-    node(&m, 33, 0, rows, 1, 1);
-    uint32_t o = buffer(&m, 4 * (rows + 1));
-    for (uint32_t i = 0; i <= rows; i++)
-        put(&m, o + 4 * i, 4 * i, 4);
-    node(&m, 4, 0, ROWS, 0, 1);
-    uint32_t v = buffer(&m, 4 * ROWS);
-    for (uint32_t i = 0; i < ROWS; i++)
-        put(&m, v + 4 * i, mix(i), 4);
+    uint32_t rows = ROWS / 4, start = x.other ? 5 : 0, at = start;
+    uint32_t r = image_node(&m, 33, 0, rows, 1, 1), o = image_buffer(&m, 4 * (x.before + rows + 1));
+    image_put(&m, r + RECORD_OFFSET, x.before, 4);
+    for (uint32_t i = 0; i < x.before; i++)
+        image_put(&m, o + 4 * i, start, 4);
+    for (uint32_t i = 0; i <= rows; i++) {
+        image_put(&m, o + 4 * (x.before + i), at, 4);
+        at += is_null(x, i) && x.other ? 6 : 4;
+    }
+    uint32_t all = at;
+    image_node(&m, 4, 0, all, 0, 1);
+    uint32_t v = image_buffer(&m, 4 * all), put = start;
+    for (uint32_t i = 0; i < rows; i++) {
+        uint32_t count = is_null(x, i) && x.other ? 6 : 4;
+        for (uint32_t k = 0; k < count; k++, put++)
+            image_put(&m, v + 4 * put, is_null(x, i) ? unread(x, put) : mix(4 * i + k), 4);
+    }
+    nulls(&m, r, x, rows);
     return m;
 }
 
-/* an Int32, an Int64 and an Int16 in each Struct */
-static struct image structs(void)
+/* The same as list views; on the other side the windows stand in the child from the last to the first. */
+static struct image list_views(struct side x)
+{
+    struct image m = begin(2, 3);
+    uint32_t rows = ROWS / 4, r = image_node(&m, 35, 0, rows, 1, 2);
+    uint32_t o = image_buffer(&m, 4 * (x.before + rows)), s = image_buffer(&m, 4 * (x.before + rows));
+    image_node(&m, 4, 0, 4 * rows, 0, 1);
+    uint32_t v = image_buffer(&m, 16 * rows);
+    image_put(&m, r + RECORD_OFFSET, x.before, 4);
+    for (uint32_t i = 0; i < rows; i++) {
+        uint32_t at = 4 * (x.other ? rows - 1 - i : i);
+        image_put(&m, o + 4 * (x.before + i), at, 4);
+        image_put(&m, s + 4 * (x.before + i), 4, 4);
+        for (uint32_t k = 0; k < 4; k++)
+            image_put(&m, v + 4 * (at + k), is_null(x, i) ? unread(x, at + k) : mix(4 * i + k), 4);
+    }
+    nulls(&m, r, x, rows);
+    return m;
+}
+
+/* Fixed lists of four Int32, sliced on the other side, the child too. */
+static struct image fixed_lists(struct side x)
+{
+    struct image m = begin(2, 1);
+    uint32_t rows = ROWS / 4, r = image_node(&m, 37, 4, rows, 1, 0);
+    image_put(&m, r + RECORD_OFFSET, x.before, 4);
+    uint32_t c = image_node(&m, 4, 0, 4 * (x.before + rows), 0, 1), shift = x.other ? 2 : 0;
+    uint32_t v = image_buffer(&m, 4 * (shift + 4 * (x.before + rows)));
+    image_put(&m, c + RECORD_OFFSET, shift, 4);
+    for (uint32_t i = 0; i < rows; i++)
+        for (uint32_t k = 0; k < 4; k++)
+            image_put(&m, v + 4 * (shift + 4 * (x.before + i) + k), is_null(x, i) ? unread(x, i) : mix(4 * i + k), 4);
+    nulls(&m, r, x, rows);
+    return m;
+}
+
+/* An Int32, an Int64 and an Int16 in each Struct; the children of a sliced Struct have the rows before its first too. */
+static struct image structs(struct side x)
 {
     struct image m = begin(4, 3);
-    uint32_t rows = ROWS / 2, widths[] = {4, 8, 2};
-    uint32_t r = node(&m, 38, 0, rows, 3, 0);
+    uint32_t rows = ROWS / 2, widths[] = {4, 8, 2}, r = image_node(&m, 38, 0, rows, 3, 0);
     int codes[] = {4, 5, 3};
-    for (int c = 0; c < 3; c++) {
-        node(&m, codes[c], 0, rows, 0, 1);
-        uint32_t b = buffer(&m, widths[c] * rows);
+    image_put(&m, r + RECORD_OFFSET, x.before, 4);
+    for (uint32_t c = 0; c < 3; c++) {
+        image_node(&m, codes[c], 0, x.before + rows, 0, 1);
+        uint32_t b = image_buffer(&m, widths[c] * (x.before + rows));
         for (uint32_t i = 0; i < rows; i++)
-            put(&m, b + widths[c] * i, mix(i + (uint32_t)c), (int)widths[c]);
+            image_put(&m, b + widths[c] * (x.before + i), is_null(x, i) ? unread(x, i) : mix(i + c), (int)widths[c]);
     }
-    bitmap(&m, r, rows);
+    nulls(&m, r, x, rows);
     return m;
 }
 
-/* a million rows whose values change every 10; runs of that length */
-static struct image runs(uint32_t length)
+/* Two texts in each Struct; on the other side both children are sliced. */
+static struct image pairs_of_texts(struct side x)
+{
+    struct image m = begin(3, 4);
+    uint32_t rows = ROWS / 2;
+    image_node(&m, 38, 0, rows, 2, 0);
+    for (uint32_t c = 0; c < 2; c++) {
+        struct side child = {x.before, 0, x.other};
+        uint32_t r = image_node(&m, 26, 0, rows, 0, 2);
+        texts(&m, r, child, 4, rows, c);
+    }
+    return m;
+}
+
+/* Unions of an Int64 and an Int32, the ids mixed. Dense: each child holds its own rows, on the other side from the last to
+ * the first. Sparse: rows that no id names are the same on both sides, or with `unnamed` others. */
+static struct image unions(int dense, int unnamed, struct side x)
+{
+    struct image m = begin(3, dense ? 4 : 3);
+    uint32_t rows = ROWS / 2, count[2] = {0, 0}, widths[] = {8, 4};
+    int codes[] = {5, 4};
+    uint32_t r = image_node(&m, dense ? 39 : 40, 0, rows, 2, dense ? 2 : 1), all = x.before + rows;
+    uint32_t ids = image_buffer(&m, all), offsets = dense ? image_buffer(&m, 4 * all) : 0;
+    image_put(&m, r + RECORD_OFFSET, x.before, 4);
+    for (uint32_t i = 0; i < rows; i++)
+        count[mix(i) >> 40 & 1]++;
+    for (uint32_t c = 0; c < 2; c++) {
+        uint32_t length = dense ? count[c] : all, at = 0;
+        uint32_t child = image_node(&m, codes[c], 0, length, 0, 1), b = image_buffer(&m, widths[c] * length);
+        m.bytes[child + RECORD_TYPE_ID] = (uint8_t)c;
+        for (uint32_t i = 0; i < rows; i++) {
+            int named = (mix(i) >> 40 & 1) == c;
+            uint32_t row = x.before + i;
+            if (dense && !named)
+                continue;
+            if (dense) {
+                row = x.other ? length - 1 - at : at;
+                image_put(&m, offsets + 4 * (x.before + i), row, 4);
+                at++;
+            }
+            image_put(&m, b + widths[c] * row, named || !unnamed ? mix(i + c) : unread(x, i + c), (int)widths[c]);
+        }
+    }
+    for (uint32_t i = 0; i < rows; i++)
+        m.bytes[ids + x.before + i] = (uint8_t)(mix(i) >> 40 & 1);
+    return m;
+}
+
+static struct image dense_unions(struct side x) { return unions(1, 0, x); }
+static struct image sparse_unions(struct side x) { return unions(0, 0, x); }
+static struct image other_sparse_unions(struct side x) { return unions(0, 1, x); }
+
+/* A million rows whose values change every 10; runs of 10, on the other side of 5. */
+static struct image runs(struct side x)
 {
     struct image m = begin(3, 2);
-    uint32_t count = ROWS / length;
-    node(&m, 43, 0, ROWS, 2, 0);
-    node(&m, 4, 0, count, 0, 1);
-    uint32_t e = buffer(&m, 4 * count);
-    node(&m, 5, 0, count, 0, 1);
-    uint32_t v = buffer(&m, 8 * count);
+    uint32_t length = x.other ? 5 : 10, count = ROWS / length;
+    image_node(&m, 43, 0, ROWS, 2, 0);
+    image_node(&m, 4, 0, count, 0, 1);
+    uint32_t e = image_buffer(&m, 4 * count);
+    image_node(&m, 5, 0, count, 0, 1);
+    uint32_t v = image_buffer(&m, 8 * count);
     for (uint32_t i = 0; i < count; i++) {
-        put(&m, e + 4 * i, length * (i + 1), 4);
-        put(&m, v + 8 * i, mix(length * i / 10), 8);
+        image_put(&m, e + 4 * i, length * (i + 1), 4);
+        image_put(&m, v + 8 * i, mix(length * i / 10), 8);
     }
     return m;
 }
@@ -237,27 +345,28 @@ static double median(double *times)
     return times[TIMES / 2];
 }
 
-static void measure(const char *name, struct image a, struct image b)
+static void measure(const char *name, const char *laid, struct image a, struct image b)
 {
     double compare[TIMES], check[TIMES], rust[TIMES], bytes[TIMES];
     volatile uint64_t same = 0;
-    void *left = rust_load(a.bytes, a.end), *right = rust_load(b.bytes, b.end);
-    if (editions_check(a.bytes, a.end) != 0 || editions_compare(a.bytes, a.end, b.bytes, b.end) != YES ||
-        rust_equal(left, right) != 1) {
-        printf("%s: not equal: check %llx, compare %llx, the Rust %d\n", name,
-               (unsigned long long)editions_check(a.bytes, a.end),
-               (unsigned long long)editions_compare(a.bytes, a.end, b.bytes, b.end), rust_equal(left, right));
+    uint8_t *copy = malloc(a.length);
+    void *left = rust_load(a.bytes, a.length), *right = rust_load(b.bytes, b.length);
+    if (copy == NULL || editions_compare(a.bytes, a.length, b.bytes, b.length) != YES || rust_equal(left, right) != 1) {
+        printf("%s, %s: not equal: check %llx, compare %llx, the Rust %d\n", name, laid,
+               (unsigned long long)editions_check(b.bytes, b.length),
+               (unsigned long long)editions_compare(a.bytes, a.length, b.bytes, b.length), rust_equal(left, right));
         exit(1);
     }
+    memcpy(copy, a.bytes, a.length);
     for (int i = 0; i < TIMES; i++) {
         double t0 = now();
-        same += editions_compare(a.bytes, a.end, b.bytes, b.end);
+        same += editions_compare(a.bytes, a.length, b.bytes, b.length);
         double t1 = now();
-        same += editions_check(a.bytes, a.end);
+        same += editions_check(b.bytes, b.length);
         double t2 = now();
         same += (uint64_t)rust_equal(left, right);
         double t3 = now();
-        same += (uint64_t)memcmp(a.bytes, b.bytes, a.end);
+        same += (uint64_t)memcmp(a.bytes, copy, a.length);
         double t4 = now();
         compare[i] = t1 - t0;
         check[i] = t2 - t1;
@@ -266,40 +375,59 @@ static void measure(const char *name, struct image a, struct image b)
     }
     double c = median(compare), k = median(check), r = median(rust), m = median(bytes);
 #ifdef RUST
-    printf("| %s | %.0f | %.0f | %.0f | %.2f |", name, c / 1000, k / 1000, r / 1000, c / r);
+    printf("| %s | %s | %.0f | %.0f | %.0f | %.2f | %.0f |\n", name, laid, c / 1000, k / 1000, r / 1000, c / r, m / 1000);
 #else
     (void)r;
-    printf("| %s | %.0f | %.0f | - | - |", name, c / 1000, k / 1000);
+    printf("| %s | %s | %.0f | %.0f | - | - | %.0f |\n", name, laid, c / 1000, k / 1000, m / 1000);
 #endif
-    /* memcmp of images that differ tells nothing */
-    if (a.end == b.end && memcmp(a.bytes, b.bytes, a.end) == 0)
-        printf(" %.0f | %.2f |\n", m / 1000, c / m);
-    else
-        printf(" - | - |\n");
     rust_free(left);
     rust_free(right);
+    free(copy);
     free(a.bytes);
     free(b.bytes);
 }
 
+/* One layout, laid out alike and otherwise. */
+static void both(const char *name, const char *otherwise, struct image (*lay)(struct side), struct side x, struct side y)
+{
+    measure(name, "alike", lay(x), lay(x));
+    measure(name, otherwise, lay(x), lay(y));
+}
+
 int main(void)
 {
-    printf("| layout, about a million values | check and compare, us | check alone, us | the Rust, us | to the Rust | memcmp, us | to memcmp |\n");
+    printf("| layout, about a million values | the two sides | check and compare, us | check alone, us | the Rust, us | to the Rust | memcmp, us |\n");
     printf("|---|---|---|---|---|---|---|\n");
-    measure("Int64 without nulls", int64s(0), int64s(0));
-    measure("Int64, every tenth null", int64s(1), int64s(1));
-    measure("Utf8", utf8s(0), utf8s(0));
-    measure("Utf8, every tenth null", utf8s(1), utf8s(1));
-    measure("Utf8View, half of them longer than 12 bytes", views(0), views(0));
-    measure("Utf8View, the same, every tenth null", views(1), views(1));
-    measure("Dictionary<Int32, Utf8>, 1,000 values", dictionaries(1000, 0), dictionaries(1000, 0));
-    measure("Dictionary<Int32, Utf8>, 1,000 values, every tenth null", dictionaries(1000, 1), dictionaries(1000, 1));
-    measure("Dictionary<Int32, Utf8>, 300,000 values", dictionaries(300000, 0), dictionaries(300000, 0));
-    measure("List<Int32>, 250,000 lists of 4", lists(), lists());
-    measure("Struct of three, every tenth null", structs(), structs());
-    measure("RunEndEncoded<Int32, Int64>, runs of 10", runs(10), runs(10));
-    measure("RunEndEncoded<Int32, Int64>, runs of 10 against 5", runs(10), runs(5));
-    measure("Boolean at offset 3", booleans(3), booleans(3));
-    measure("Boolean at offsets 3 and 5", booleans(3), booleans(5));
+    both("Int64", "sliced by 3", int64s, PLAIN, OTHER);
+    both("Int64, every tenth null", "sliced, other bytes under nulls", int64s, NULLS, OTHER_NULLS);
+    both("Int32, every tenth null", "sliced, other bytes under nulls", int32s, NULLS, OTHER_NULLS);
+    both("Int16, every tenth null", "sliced, other bytes under nulls", int16s, NULLS, OTHER_NULLS);
+    both("Int8, every tenth null", "sliced, other bytes under nulls", int8s, NULLS, OTHER_NULLS);
+    both("Decimal128, every tenth null", "sliced, other bytes under nulls", decimal128s, NULLS, OTHER_NULLS);
+    both("FixedSizeBinary of 5, every tenth null", "sliced, other bytes under nulls", binaries, NULLS, OTHER_NULLS);
+    both("Boolean", "offsets 3 and 5", booleans, PLAIN, OTHER);
+    both("Boolean, every tenth null", "offsets 3 and 5, other bits under nulls", booleans, NULLS, OTHER_NULLS);
+    both("Utf8", "sliced by 3", utf8s, PLAIN, OTHER);
+    both("Utf8, every tenth null", "sliced, other texts under nulls", utf8s, NULLS, OTHER_NULLS);
+    both("LargeUtf8", "sliced by 3", large_utf8s, PLAIN, OTHER);
+    both("LargeUtf8, every tenth null", "sliced, other texts under nulls", large_utf8s, NULLS, OTHER_NULLS);
+    both("Utf8View, half of them longer than 12 bytes", "sliced, another buffer", views, PLAIN, OTHER);
+    both("Utf8View, the same, every tenth null", "sliced, another buffer, other views under nulls", views, NULLS, OTHER_NULLS);
+    both("Dictionary<Int32, Utf8>, 1,000 values", "sliced, values in another order", few_values, PLAIN, OTHER);
+    both("Dictionary<Int32, Utf8>, 1,000 values, every tenth null", "sliced, values in another order", few_values, NULLS, OTHER_NULLS);
+    both("Dictionary<Int32, Utf8>, 300,000 values", "sliced, values in another order", many_values, PLAIN, OTHER);
+    both("List<Int32>, 250,000 lists of 4", "sliced, child rows start elsewhere", lists, PLAIN, OTHER);
+    both("List<Int32>, the same, every tenth null", "sliced, longer lists under nulls", lists, NULLS, OTHER_NULLS);
+    both("ListView<Int32>, 250,000 lists of 4", "sliced, child rows in another order", list_views, PLAIN, OTHER);
+    both("ListView<Int32>, the same, every tenth null", "sliced, child rows in another order", list_views, NULLS, OTHER_NULLS);
+    both("FixedSizeList<Int32>, 250,000 lists of 4", "list and child sliced", fixed_lists, PLAIN, OTHER);
+    both("FixedSizeList<Int32>, the same, every tenth null", "list and child sliced, other bytes under nulls", fixed_lists, NULLS, OTHER_NULLS);
+    both("Struct of three", "sliced", structs, PLAIN, OTHER);
+    both("Struct of three, every tenth null", "sliced, other bytes under nulls", structs, NULLS, OTHER_NULLS);
+    both("Struct of two texts", "both children sliced", pairs_of_texts, PLAIN, OTHER);
+    both("dense Union of two", "sliced, children in another order", dense_unions, PLAIN, OTHER);
+    both("sparse Union of two", "sliced", sparse_unions, PLAIN, OTHER);
+    both("sparse Union of two, rows that no id names", "sliced, other bytes in these rows", other_sparse_unions, PLAIN, OTHER);
+    both("RunEndEncoded<Int32, Int64>, runs of 10", "against runs of 5", runs, PLAIN, OTHER);
     return 0;
 }

@@ -16,6 +16,7 @@ use Rattle.image.specs.Element.{elementWidth, elementPlace, elementAt}
 use Rattle.image.specs.Reads.{Read}
 use Rattle.image.specs.Row.{Row, listRow, rowAt}
 use Rattle.image.specs.Equality.{rowEqual}
+use Rattle.laws.proofs.Codes.{list-offset-width}
 use Rattle.values.specs.Pairs.{all, rangeEqual, spanAt, sameSpan}
 use Rattle.values.specs.Parts.{Sides, Parts, Spans}
 use Rattle.values.proofs.Steps.{sameRow, by-rows}
@@ -88,7 +89,7 @@ module _ {a b : List ℕ} {k l i j n d : ℕ} (r : Parts a b k l i j n d) (lists
   -- what the comparison of lengths asks for
   pub list-spans : Spans a b k l i j n
   list-spans = record {
-    narrow = part-node (r .left) .widths .lists lists;
+    whole = list-offset-width _ _ lists;
     same = widths-same r;
     left = rise-left;
     right = rise-right;
@@ -100,7 +101,7 @@ module _ {a b : List ℕ} {k l i j n d : ℕ} (r : Parts a b k l i j n d) (lists
 
   -- offsets are read within a word
   pub list-narrow-left : elementWidth a k ≤ 8
-  list-narrow-left = list-spans .narrow
+  list-narrow-left = part-node (r .left) .widths .lists lists
 
   pub list-narrow-right : elementWidth b l ≤ 8
   list-narrow-right = rw (← widths-same r) list-narrow-left

@@ -3,17 +3,18 @@
 use mathlib.Core.Path.{_≡_, refl, sym, ap, _∙_}
 use mathlib.Core.Bool.{Bool, true, false, _&&_}
 use mathlib.Core.List.{List}
+use mathlib.Core.Logic.{_⊎_, inl, inr}
 use Prim.Native.Nat.{ℕ, zero, suc, _+_, _<_, _≤_}
 use native.Mathlib.Omega.{arith}
-use Rattle.image.specs.declared.type_code.Layout.the-variants.{Struct}
-use Rattle.image.specs.Record.{codeOf, firstChild, childCount}
+use Rattle.image.specs.declared.type_code.Layout.the-variants.{Struct, SparseUnion}
+use Rattle.image.specs.Record.{codeOf, lengthOf, elementsOf, firstChild, childCount}
 use Rattle.image.specs.TypeCode.{layoutOf}
 use Rattle.image.specs.Element.{childEnd}
 use Rattle.image.specs.Reads.{Read}
 use Rattle.image.specs.Row.{Row, range, joined, structRow, rowAt}
 use Rattle.image.specs.Equality.{rowEqual}
 use Rattle.values.specs.Pairs.{all, rangeEqual}
-use Rattle.values.specs.Parts.{Sides, Parts}
+use Rattle.values.specs.Parts.{Sides, Part, Parts}
 use Rattle.values.proofs.Steps.{Left, left-none, left-more, left-fails, left-done}
 use Rattle.values.proofs.Nodes.{part-node}
 use Rattle.equal.proofs.Child.{layout-right, child-sides}
@@ -59,7 +60,16 @@ pub record ColumnsLeft (A B : ℕ → ℕ → Row) (i j n f e m c : ℕ) : Type 
 pub columns-start : (A B : ℕ → ℕ → Row) (i j n f e m : ℕ) → ColumnsLeft A B i j n f e m 0
 columns-start A B i j n f e m = record { pairs = left-none (sameColumn A B i j n) f e m }
 
-module _ {a b : List ℕ} {k l i j n d : ℕ} (r : Parts a b k l i j n d) (struct : layoutOf (codeOf a k) ≡ Struct) where
+-- the children of a Struct and of a sparse union are long enough
+long-child : {s : List ℕ} {k j n : ℕ} → Part s k j n → (layoutOf (codeOf s k) ≡ Struct) ⊎ (layoutOf (codeOf s k) ≡ SparseUnion) → (c : ℕ) → firstChild s k ≤ c → c < childEnd s k → elementsOf s k ≤ lengthOf s c
+long-child r (inl e) c low high = part-node r .children .struct e c low high
+long-child r (inr e) c low high = part-node r .children .sparse e c low high
+
+right-kind : {a b : List ℕ} {k l i j n d : ℕ} → Parts a b k l i j n d → (layoutOf (codeOf a k) ≡ Struct) ⊎ (layoutOf (codeOf a k) ≡ SparseUnion) → (layoutOf (codeOf b l) ≡ Struct) ⊎ (layoutOf (codeOf b l) ≡ SparseUnion)
+right-kind r (inl e) = inl (layout-right r e)
+right-kind r (inr e) = inr (layout-right r e)
+
+module _ {a b : List ℕ} {k l i j n d : ℕ} (r : Parts a b k l i j n d) (kind : (layoutOf (codeOf a k) ≡ Struct) ⊎ (layoutOf (codeOf a k) ≡ SparseUnion)) where
   whole : {ca cb m : ℕ} → ca ≡ firstChild a k → cb ≡ firstChild b l → m ≡ childCount a k → all (sameColumn (rowAt d a) (rowAt d b) i j n) ca cb m ≡ rangeEqual (structRow (rowAt d a) a k) (structRow (rowAt d b) b l) i j n
   whole fa fb fm = rw (fa, fb, fm) (by-columns (rowAt d a) (rowAt d b) a b k l i j n (r .alike .0 .count))
 
@@ -71,8 +81,8 @@ module _ {a b : List ℕ} {k l i j n d : ℕ} (r : Parts a b k l i j n d) (struc
         let below : c < childCount a k = omega (arith, fm .value) in
         let other : c < childCount b l = omega (arith, r .alike .0 .count) in
         rw (fa .value, fb .value) (child-sides r c i j n below
-        (omega (arith, r .left .high, part-node (r .left) .children .struct struct (firstChild a k + c) (omega arith) (omega arith)))
-        (omega (arith, r .right .high, part-node (r .right) .children .struct (layout-right r struct) (firstChild b l + c) (omega arith) (omega arith))))
+        (omega (arith, r .left .high, long-child (r .left) kind (firstChild a k + c) (omega arith) (omega arith)))
+        (omega (arith, r .right .high, long-child (r .right) (right-kind r kind) (firstChild b l + c) (omega arith) (omega arith))))
 
     module _ (kept : ColumnsLeft (rowAt d a) (rowAt d b) i j n ca cb m c) where
       pub columns-more-left : c < m → rangeEqual (rowAt d a (ca + c)) (rowAt d b (cb + c)) i j n ≡ true → ColumnsLeft (rowAt d a) (rowAt d b) i j n ca cb m (c + 1)

@@ -7,25 +7,30 @@ use mathlib.Core.List.{List}
 use Prim.Native.Nat.{ℕ, zero, suc, _+_, _-_, _<_, _≤_}
 use native.Mathlib.Omega.{arith}
 use lib.Dec.{eqb}
-use borrow.Author.Tests.{eq-eqb, ne-eqb, lt-ltb}
+use lib.ListN.{length}
+use Rattle.image.specs.Bytes.{byteAt, bytesAt}
+use Rattle.image.specs.Types.{sameBytes}
+use borrow.Author.Tests.{eqb-true, eq-eqb, ne-eqb, lt-ltb}
 use Rattle.image.specs.declared.type_code.Layout.the-variants.{DenseUnion, SparseUnion}
 use Rattle.image.specs.Ranges.{first}
-use Rattle.image.specs.Record.{codeOf, idOf, lengthOf, firstChild, childCount}
+use Rattle.image.specs.Record.{codeOf, idOf, lengthOf, elementsOf, bufferPlace, bufferLength, bufferCount, firstChild, childCount}
 use Rattle.image.specs.TypeCode.{layoutOf, isUnion}
 use Rattle.image.specs.Element.{typeIdAt, denseOffsetAt, childEnd, hasId, childWithId}
 use Rattle.image.specs.Reads.{Read}
-use Rattle.image.specs.Row.{Row, unionRow, denseRow, sparseRow, rowAt}
+use Rattle.image.specs.Row.{Row, unionRow, denseRow, sparseRow, structRow, rowAt}
 use Rattle.image.specs.Equality.{rowEqual}
 use Rattle.image.proofs.Ranges.{first-from}
 use Rattle.laws.specs.Accepted.{IdKnown}
 use Rattle.laws.proofs.Codes.{dense-code, sparse-code}
-use Rattle.values.specs.Pairs.{rangeEqual}
-use Rattle.values.specs.Parts.{Sides, Parts}
-use Rattle.values.proofs.Steps.{sameRow}
-use Rattle.values.proofs.Nodes.{part-at}
+use Rattle.values.specs.Pairs.{all, rangeEqual, sameByte}
+use Rattle.values.specs.Parts.{Sides, Part, Parts}
+use Rattle.values.proofs.Steps.{sameRow, by-rows, by-bytes, all-by}
+use Rattle.values.proofs.Blocks.{all-at}
+use Rattle.values.proofs.Nodes.{part-at, part-node}
 use Rattle.values.proofs.ChildRows.{dense-known, dense-within, sparse-known, sparse-within}
 use Rattle.equal.proofs.Rows.{one-row}
 use Rattle.equal.proofs.Child.{layout-right, child-sides}
+use Rattle.equal.proofs.Structs.{sameColumn, by-columns}
 
 -- searches of tests that agree in turn stop at the same number
 pub first-moved : (p q : ℕ → Bool) (i j n : ℕ) → ((h : ℕ) → h < n → p (i + h) ≡ q (j + h)) → first q j n ≡ j + (first p i n - i)
@@ -154,3 +159,46 @@ module _ {a b : List ℕ} {k l i j n d : ℕ} (r : Parts a b k l i j n d) (spars
       pub sparse-answer : rangeEqual (rowAt d a child) (rowAt d b (cb + (child - ca))) (i + h) (j + h) 1 ≡ sameRow (sparseRow (rowAt d a) a k) (sparseRow (rowAt d b) b l) (i + h) (j + h)
       unfolding sameRow sparseRow
       sparse-answer = named-answer r sparse-named ei ee same fa fb fc _ _
+
+-- the ids of a range of sparse unions lie inside
+pub sparse-inside : {s : List ℕ} {k j n p : ℕ} → Part s k j n → layoutOf (codeOf s k) ≡ SparseUnion → p ≡ bufferPlace s k 0 → p + j + n ≤ length s
+sparse-inside {s} {k} {j} {n} {p} r sparse e =
+    let node = part-node r in
+    let one : bufferCount s k ≡ 1 = node .buffers .exactly 1 (rw sparse) in
+    let inside : bufferPlace s k 0 + bufferLength s k 0 ≤ length s = node .buffers .inside 0 (omega arith) in
+    let enough : elementsOf s k ≤ bufferLength s k 0 = node .enough .sparse-ids sparse in
+    omega (arith, r .high)
+
+-- ids that are the same as one block are the same in turn
+ids-at : (a b : List ℕ) (k l i j n : ℕ) {p q : ℕ} → p ≡ bufferPlace a k 0 → q ≡ bufferPlace b l 0 → sameBytes (bytesAt a (p + i) n) (bytesAt b (q + j) n) ≡ true → (h : ℕ) → h < n → typeIdAt a k (i + h) ≡ typeIdAt b l (j + h)
+unfolding typeIdAt sameByte
+ids-at a b k l i j n {p} {q} ep eq e h lt =
+    let x : bufferPlace a k 0 + (i + h) ≡ p + i + h = omega arith in
+    let y : bufferPlace b l 0 + (j + h) ≡ q + j + h = omega arith in
+    rw (x, y) (eqb-true _ _ (all-at (sameByte a b) (p + i) (q + j) n (by-bytes a b (p + i) (q + j) n ∙ e) h lt))
+
+-- where the ids are the same and all rows of all children are equal, the rows are
+module _ {a b : List ℕ} {k l i j n d : ℕ} (r : Parts a b k l i j n d) (sparse : layoutOf (codeOf a k) ≡ SparseUnion) (columns : rangeEqual (structRow (rowAt d a) a k) (structRow (rowAt d b) b l) i j n ≡ true) where
+  column-row : (c h : ℕ) → c < childCount a k → h < n → rowEqual (rowAt d a (firstChild a k + c) (i + h)) (rowAt d b (firstChild b l + c) (j + h)) ≡ true
+  unfolding sameColumn sameRow
+  column-row c h lc lt =
+      let column : rangeEqual (rowAt d a (firstChild a k + c)) (rowAt d b (firstChild b l + c)) i j n ≡ true =
+      all-at (sameColumn (rowAt d a) (rowAt d b) i j n) (firstChild a k) (firstChild b l) (childCount a k)
+      (by-columns (rowAt d a) (rowAt d b) a b k l i j n (r .alike .0 .count) ∙ columns) c lc in
+      all-at (sameRow (rowAt d a (firstChild a k + c)) (rowAt d b (firstChild b l + c))) i j n (by-rows _ _ i j n ∙ column) h lt
+
+  whole-row : (h : ℕ) → h < n → typeIdAt a k (i + h) ≡ typeIdAt b l (j + h) → sameRow (sparseRow (rowAt d a) a k) (sparseRow (rowAt d b) b l) (i + h) (j + h) ≡ true
+  unfolding sameRow sparseRow childEnd
+  whole-row h lt e =
+      let m = sparse-named r sparse h lt in
+      let low : firstChild a k ≤ childWithId a k (typeIdAt a k (i + h)) = m .left .low in
+      let high : childWithId a k (typeIdAt a k (i + h)) < firstChild a k + childCount a k = m .left .high in
+      let c : ℕ = childWithId a k (typeIdAt a k (i + h)) - firstChild a k in
+      let x : firstChild a k + c ≡ childWithId a k (typeIdAt a k (i + h)) = omega arith in
+      let y : firstChild b l + c ≡ childWithId b l (typeIdAt b l (j + h)) =
+      sym (same-child a b k l (typeIdAt a k (i + h)) (r .alike .0 .count) (r .alike .0 .ids (m .union))) ∙ ap (childWithId b l) e in
+      ids-same (rowAt d a) (rowAt d b) a b k l (typeIdAt a k (i + h)) (typeIdAt b l (j + h)) (i + h) (j + h) (m .left .high) (m .right .high) e
+      ∙ one-row _ _ _ _ ∙ rw (x, y) at (column-row c h (omega arith) lt)
+
+  pub whole-children : {p q : ℕ} → p ≡ bufferPlace a k 0 → q ≡ bufferPlace b l 0 → sameBytes (bytesAt a (p + i) n) (bytesAt b (q + j) n) ≡ true → true ≡ rangeEqual (sparseRow (rowAt d a) a k) (sparseRow (rowAt d b) b l) i j n
+  whole-children ep eq e = sym (all-by (sameRow (sparseRow (rowAt d a) a k) (sparseRow (rowAt d b) b l)) i j n (λ h lt. whole-row h lt (ids-at a b k l i j n ep eq e h lt))) ∙ by-rows _ _ i j n

@@ -60,7 +60,7 @@ fn long_equal(
 }
 
 // Dictionaries without null keys: the values that the keys name, row by row.
-pub fn dictionary_equal(
+pub fn equal(
     a: &[u8],
     an: u32,
     b: &[u8],

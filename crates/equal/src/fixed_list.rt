@@ -12,7 +12,7 @@ ghost use Rattle.values.specs.Pairs.{rangeEqual};
 ghost use Rattle.values.specs.Parts.{Parts};
 
 // Fixed-size lists without nulls: all their child rows as one range.
-pub fn fixed_list_equal(
+pub fn equal(
     a: &[u8],
     an: u32,
     b: &[u8],

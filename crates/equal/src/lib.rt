@@ -8,16 +8,10 @@ pub mod run;
 pub mod structure;
 pub mod union;
 
-use dictionary::dictionary_equal;
-use fixed_list::fixed_list_equal;
 use image::record::code;
 use image::record::offset;
 use image::type_code::Layout;
 use image::type_code::TypeCode;
-use list::list_equal;
-use list_view::list_view_equal;
-use run::run_equal;
-use structure::struct_equal;
 use union::equal_dense;
 use union::equal_sparse;
 use values::boolean::boolean_equal;
@@ -62,14 +56,14 @@ fn equal_values(
         Layout::FixedWidth => primitive_equal(a, an, b, bn, s, t, n),
         Layout::VariableSize => variable_sized_equal(a, an, b, bn, s, t, n),
         Layout::View => byte_view_equal(a, an, b, bn, s, t, n),
-        Layout::List => list_equal(a, an, b, bn, s, t, n, depth),
-        Layout::ListView => list_view_equal(a, an, b, bn, s, t, n, depth),
-        Layout::FixedList => fixed_list_equal(a, an, b, bn, s, t, n, depth),
-        Layout::Struct => struct_equal(a, an, b, bn, s, t, n, depth),
+        Layout::List => list::equal(a, an, b, bn, s, t, n, depth),
+        Layout::ListView => list_view::equal(a, an, b, bn, s, t, n, depth),
+        Layout::FixedList => fixed_list::equal(a, an, b, bn, s, t, n, depth),
+        Layout::Struct => structure::equal(a, an, b, bn, s, t, n, depth),
         Layout::DenseUnion => equal_dense(a, an, b, bn, s, t, n, depth),
         Layout::SparseUnion => equal_sparse(a, an, b, bn, s, t, n, depth),
-        Layout::Dictionary => dictionary_equal(a, an, b, bn, s, t, n, depth),
-        Layout::Runs => run_equal(a, an, b, bn, s, t, n, depth),
+        Layout::Dictionary => dictionary::equal(a, an, b, bn, s, t, n, depth),
+        Layout::Runs => run::equal(a, an, b, bn, s, t, n, depth),
     }
 }
 

@@ -13,7 +13,7 @@ ghost use Rattle.values.specs.Pairs.{rangeEqual};
 ghost use Rattle.values.specs.Parts.{Parts};
 
 // Lists without nulls: their lengths, and then all their child rows as one range.
-pub fn list_equal(
+pub fn equal(
     a: &[u8],
     an: u32,
     b: &[u8],

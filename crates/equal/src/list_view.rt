@@ -14,7 +14,7 @@ ghost use Rattle.values.specs.Pairs.{rangeEqual};
 ghost use Rattle.values.specs.Parts.{Parts};
 
 // List views without nulls: their sizes and child rows, view by view.
-pub fn list_view_equal(
+pub fn equal(
     a: &[u8],
     an: u32,
     b: &[u8],

@@ -24,7 +24,7 @@ fn least(x: usize, y: usize) -> usize
 
 // Runs: where the runs of both sides end together, their values as one range; else the values of overlapping runs, stepping
 // over the shorter of the two; the stepping ends as soon as one pair differs.
-pub fn run_equal(
+pub fn equal(
     a: &[u8],
     an: u32,
     b: &[u8],

@@ -3,8 +3,9 @@ use crate::equal_range;
 use image::record::child_count;
 use image::record::first_child;
 ghost use mathlib.Core.Path.{_≡_};
+ghost use mathlib.Core.Logic.{_⊎_};
 ghost use Prim.Native.Nat.{_+_, _<_, _≤_, _^_};
-ghost use Rattle.image.specs.declared.type_code.Layout.the-variants.{Struct};
+ghost use Rattle.image.specs.declared.type_code.Layout.the-variants.{Struct, SparseUnion};
 ghost use Rattle.image.specs.Record.{codeOf};
 ghost use Rattle.image.specs.TypeCode.{layoutOf};
 ghost use Rattle.image.specs.Row.{structRow, rowAt};
@@ -12,7 +13,7 @@ ghost use Rattle.values.specs.Pairs.{rangeEqual};
 ghost use Rattle.values.specs.Parts.{Parts};
 
 // Structs without nulls: child by child over the whole range.
-pub fn struct_equal(
+pub fn equal(
     a: &[u8],
     an: u32,
     b: &[u8],
@@ -23,7 +24,7 @@ pub fn struct_equal(
     depth: usize,
 ) -> bool
     requires { ⌜ Parts (now a) (now b) an bn s t n depth ⌝ }
-    requires { ⌜ layoutOf (codeOf (now a) an) ≡ Struct ⌝ }
+    requires { ⌜ (layoutOf (codeOf (now a) an) ≡ Struct) ⊎ (layoutOf (codeOf (now a) an) ≡ SparseUnion) ⌝ }
     ensures { λ r. ⌜ r ≡ rangeEqual (structRow (rowAt depth (now (a .entry))) (now (a .entry)) an) (structRow (rowAt depth (now (b .entry))) (now (b .entry)) bn) s t n ⌝ }
 {
     let count = child_count(a, an);

@@ -1,10 +1,12 @@
 // Unions. Translated from src/equal/union.rs of arrow-data 60.1.0 (Apache-2.0).
 use crate::equal_range;
+use crate::structure;
 use image::bytes::byte;
 use image::bytes::nth;
 use image::element::child_with_id;
 use image::record::buffer_place;
 use image::record::first_child;
+use values::utils::equal_len;
 ghost use mathlib.Core.Path.{_≡_};
 ghost use Prim.Native.Nat.{_+_, _<_, _≤_, _^_};
 ghost use Rattle.image.specs.declared.type_code.Layout.the-variants.{DenseUnion, SparseUnion};
@@ -13,6 +15,9 @@ ghost use Rattle.image.specs.TypeCode.{layoutOf};
 ghost use Rattle.image.specs.Row.{denseRow, sparseRow, rowAt};
 ghost use Rattle.values.specs.Pairs.{rangeEqual};
 ghost use Rattle.values.specs.Parts.{Parts};
+
+// Ranges of so many rows are first compared as whole children.
+const SEVERAL: usize = 8;
 
 // Dense unions: the type ids, and the row of the child that each id names, at its offset.
 pub fn equal_dense(
@@ -52,7 +57,8 @@ pub fn equal_dense(
     true
 }
 
-// Sparse unions: the type ids, and the row of the child that each id names; the other children do not count.
+// Sparse unions: the type ids, and the row of the child that each id names; the other children do not count. Where all rows
+// of all children are equal, those are. A single row is not tried so, which bounds what unions in unions cost.
 pub fn equal_sparse(
     a: &[u8],
     an: u32,
@@ -71,6 +77,13 @@ pub fn equal_sparse(
     let ib = buffer_place(b, bn, 0);
     let ca = first_child(a, an);
     let cb = first_child(b, bn);
+    if SEVERAL <= n {
+        if equal_len(a, b, ia + s, ib + t, n) {
+            if structure::equal(a, an, b, bn, s, t, n, depth) {
+                return true;
+            }
+        }
+    }
     let mut k: usize = 0;
     while k < n {
         let named = byte(a, ia + (s + k));

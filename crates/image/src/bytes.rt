@@ -47,6 +47,14 @@ fn by_bytes(s: &[u8], i: usize, w: usize) -> usize
     x
 }
 
+// The number that the two bytes at a place make, which lie inside: one load.
+pub fn pair(s: &[u8], i: usize) -> usize
+    requires { ⌜ i + 2 ≤ length (now s) ⌝ }
+    ensures { λ r. ⌜ Read (numberAt 2 (now (s .entry)) i) 16 r ⌝ }
+{
+    wide(s[i]) + 256 * wide(s[i + 1])
+}
+
 // The number that the four bytes at a place make, which lie inside: one load.
 pub fn quad(s: &[u8], i: usize) -> usize
     requires { ⌜ i + 4 ≤ length (now s) ⌝ }

@@ -1,17 +1,22 @@
--- What the layout of runs and of unions says of the code, and how wide run ends are.
+-- What the layout of runs and of unions says of the code, and how wide run ends and offsets are.
 -- Each is a test over the 44 codes, computed once.
 use mathlib.Core.Path.{_≡_, refl}
-use mathlib.Core.Bool.{Bool, true, not, _&&_, _||_}
+use mathlib.Core.Bool.{Bool, true, false, not, _&&_, _||_}
+use mathlib.Core.List.{List}
+use mathlib.Core.Logic.{_⊎_, inl, inr}
 use Prim.Native.Nat.{ℕ, _≤_}
 use native.Mathlib.Omega.{arith}
 use lib.Dec.{eqb, leb}
 use borrow.Author.Tests.{eqb-true, le-leb}
-use Rattle.image.specs.declared.type_code.Layout.the-variants.{DenseUnion, SparseUnion, Runs}
+use Rattle.image.specs.declared.type_code.Layout.{Layout}
+use Rattle.image.specs.declared.type_code.Layout.the-variants.{VariableSize, List as Lists, DenseUnion, SparseUnion, Runs}
 use Rattle.image.specs.Ranges.{every}
+use Rattle.image.specs.Record.{codeOf, p1Of}
+use Rattle.image.specs.Element.{elementWidth}
 use Rattle.image.specs.TypeCode.{entries, entryOf, layoutOf, isUnion, integerWidth, widthOf}
 use Rattle.image.proofs.Bools.{when-true, and-true}
 use Rattle.image.proofs.Ranges.{every-below}
-use Rattle.image.proofs.Widths.{code-passes, ownWidth, own-width}
+use Rattle.image.proofs.Widths.{codesOf, code-passes, ownWidth, own-width}
 
 pub runs-code : (code : ℕ) → layoutOf code ≡ Runs → code ≡ 43
 unfolding every layoutOf entryOf entries
@@ -34,3 +39,23 @@ pub run-end-width : (code p1 : ℕ) → 3 ≤ code → code ≤ 5 → integerWid
 run-end-width code p1 low high =
     let test = and-true (leb 3 code) (leb code 5) (le-leb 3 code low) (le-leb code 5 high) in
     eqb-true _ _ (own-width (eqb (integerWidth code)) code p1 (when-true (leb 3 code && leb code 5) _ (every-below _ 44 run-end-codes code (omega arith)) test))
+
+-- offsets of texts and of lists have 4 or 8 bytes
+either-width : (w : ℕ) → eqb w 4 || eqb w 8 ≡ true → (w ≡ 4) ⊎ (w ≡ 8)
+either-width w = cases (eqb w 4) refl
+  where
+    cases : (b : Bool) → eqb w 4 ≡ b → b || eqb w 8 ≡ true → (w ≡ 4) ⊎ (w ≡ 8)
+    cases true e h = inl (eqb-true w 4 e)
+    cases false e h = inr (eqb-true w 8 h)
+
+offset-width : (l : Layout) → codesOf l (ownWidth (λ w. eqb w 4 || eqb w 8)) ≡ true → (s : List ℕ) (k : ℕ) → layoutOf (codeOf s k) ≡ l → (elementWidth s k ≡ 4) ⊎ (elementWidth s k ≡ 8)
+unfolding elementWidth
+offset-width l all s k e = either-width _ (own-width (λ w. eqb w 4 || eqb w 8) (codeOf s k) (p1Of s k) (code-passes l _ all (codeOf s k) e))
+
+pub text-offset-width : (s : List ℕ) (k : ℕ) → layoutOf (codeOf s k) ≡ VariableSize → (elementWidth s k ≡ 4) ⊎ (elementWidth s k ≡ 8)
+unfolding every layoutOf entryOf entries widthOf
+text-offset-width = offset-width VariableSize refl
+
+pub list-offset-width : (s : List ℕ) (k : ℕ) → layoutOf (codeOf s k) ≡ Lists → (elementWidth s k ≡ 4) ⊎ (elementWidth s k ≡ 8)
+unfolding every layoutOf entryOf entries widthOf
+list-offset-width = offset-width Lists refl

@@ -35,7 +35,7 @@ whole w i n =
     omega arith
 
 module _ (a b : List ℕ) (k l : ℕ) (same : elementWidth a k ≡ elementWidth b l) where
-  row : (h g : ℕ) → sameRow (fixedRow a k) (fixedRow b l) h g ≡ all (sameByte a b) (bufferPlace a k 0 + h * elementWidth a k) (bufferPlace b l 0 + g * elementWidth a k) (elementWidth a k)
+  pub row : (h g : ℕ) → sameRow (fixedRow a k) (fixedRow b l) h g ≡ all (sameByte a b) (bufferPlace a k 0 + h * elementWidth a k) (bufferPlace b l 0 + g * elementWidth a k) (elementWidth a k)
   unfolding sameRow fixedRow rowEqual elementPlace
   row h g = rw (← same) (sym (by-bytes a b _ _ (elementWidth a k)))
 

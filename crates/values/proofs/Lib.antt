@@ -1,5 +1,6 @@
 pub mod Blocks
 pub mod ChildRows
+pub mod Distances
 pub mod Fixed
 pub mod Leads
 pub mod LeafRows
@@ -14,5 +15,7 @@ pub mod SameRuns
 pub mod Spans
 pub mod Steps
 pub mod Texts
+pub mod ValidElements
 pub mod Views
+pub mod WordBits
 pub mod Words

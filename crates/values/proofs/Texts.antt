@@ -17,6 +17,7 @@ use Rattle.image.specs.Row.{variableRow}
 use Rattle.image.specs.Equality.{rowEqual}
 use Rattle.laws.specs.Accepted.{AcceptedImage, OffsetsRise}
 use Rattle.laws.proofs.Alike.{same-width}
+use Rattle.laws.proofs.Codes.{text-offset-width}
 use Rattle.values.specs.Pairs.{all, rangeEqual, sameByte, sameSpan, spanAt}
 use Rattle.values.specs.Parts.{Part, Parts, Spans}
 use Rattle.values.proofs.Steps.{sameRow, by-rows, by-bytes}
@@ -52,7 +53,7 @@ pub text-spans : {a b : List ℕ} {k l i j n d : ℕ} → Parts a b k l i j n d 
 text-spans r left =
     let right = sym (ap layoutOf (r .alike .0 .code)) ∙ left in
     record {
-      narrow = text-narrow _ _ _ _ (r .left) left;
+      whole = text-offset-width _ _ left;
       same = same-width _ _ _ _ (r .alike .0 .code) (r .alike .0 .p1);
       left = λ h lo hi. text-rises _ _ _ _ (r .left) left .rise h (omega (arith, r .left .high));
       right = λ h lo hi. text-rises _ _ _ _ (r .right) right .rise h (omega (arith, r .right .high));

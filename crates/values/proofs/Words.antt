@@ -18,7 +18,7 @@ use Rattle.values.specs.Bits.{bitsAt}
 use Rattle.values.specs.Pairs.{all, sameBit}
 
 -- the lowest binary digit, and the others, make the number, both cut off
-cut-off : (x m : ℕ) → 0 < m → x % 2 + 2 * (x / 2 % m) ≡ x % (2 * m)
+pub cut-off : (x m : ℕ) → 0 < m → x % 2 + 2 * (x / 2 % m) ≡ x % (2 * m)
 cut-off x m pos =
     let q : x / 2 % m + m * (x / 2 / m) ≡ x / 2 = mod-add-div (x / 2) m in
     let t : 2 * m * (x / 2 / m) ≡ 2 * (m * (x / 2 / m)) = mul-assoc 2 m (x / 2 / m) in
@@ -55,7 +55,7 @@ bit-number zero lt = refl
 bit-number (suc zero) lt = refl
 bit-number (suc (suc x)) lt = absurd (omega arith)
 
-halved : (x r : ℕ) → x / 2 ^ r / 2 ≡ x / 2 ^ suc r
+pub halved : (x r : ℕ) → x / 2 ^ r / 2 ≡ x / 2 ^ suc r
 halved x r = div-div-eq-div-mul x (2 ^ r) 2 ∙ ap (λ (y : ℕ). x / y) (sym (pow-suc 2 r))
 
 -- n bits from bit i on are the number at bit i's byte, without the bits below bit i, cut off after n bits
@@ -122,7 +122,7 @@ first-pair true false m n = ne-eqb (1 + 2 * m) (0 + 2 * n) (λ e. omega arith)
 first-pair false true m n = ne-eqb (0 + 2 * m) (1 + 2 * n) (λ e. omega arith)
 first-pair false false m n = same-test (0 + 2 * m) (0 + 2 * n) m n (λ e. omega arith) (λ e. omega arith)
 
-same-words : (a : List ℕ) (p : ℕ) (b : List ℕ) (q i j n : ℕ) → eqb (bitsAt a p i n) (bitsAt b q j n) ≡ all (sameBit a p b q) i j n
+pub same-words : (a : List ℕ) (p : ℕ) (b : List ℕ) (q i j n : ℕ) → eqb (bitsAt a p i n) (bitsAt b q j n) ≡ all (sameBit a p b q) i j n
 unfolding bitsAt all sameBit
 same-words a p b q i j zero = refl
 same-words a p b q i j (suc n) =

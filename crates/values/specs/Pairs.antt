@@ -1,10 +1,10 @@
 -- Two ranges compared in step.
-use mathlib.Core.Bool.{Bool, true, Bool·beq, _&&_}
+use mathlib.Core.Bool.{Bool, true, not, Bool·beq, _&&_, _||_}
 use mathlib.Core.List.{List}
-use Prim.Native.Nat.{ℕ, zero, suc, _+_, _-_}
+use Prim.Native.Nat.{ℕ, zero, suc, _+_, _*_, _-_, _/_, _%_, _^_}
 use lib.Dec.{eqb}
-use Rattle.image.specs.Bytes.{byteAt, bitAt}
-use Rattle.image.specs.Element.{valid, elementAt, typeIdAt}
+use Rattle.image.specs.Bytes.{byteAt, numberAt, bitAt}
+use Rattle.image.specs.Element.{valid, elementAt}
 use Rattle.image.specs.Record.{offsetOf}
 use Rattle.image.specs.Row.{Row, range, masked}
 use Rattle.image.specs.Equality.{rowsEqual}
@@ -22,6 +22,14 @@ rangeEqual g h i j n = rowsEqual (range g i n) (range h j n)
 unfoldable pub sameByte : List ℕ → List ℕ → ℕ → ℕ → Bool
 sameByte a b i j = eqb (byteAt a i) (byteAt b j)
 
+-- bit i of a number
+unfoldable pub bitOf : ℕ → ℕ → Bool
+bitOf v i = eqb (v / 2 ^ i % 2) 1
+
+-- elements i and j of those of w bytes that stand side by side from two places on are the same, or bit i of a number is 0
+unfoldable pub validSame : ℕ → List ℕ → List ℕ → ℕ → ℕ → ℕ → ℕ → ℕ → Bool
+validSame bits a b w x y i j = not (bitOf bits i) || all (sameByte a b) (x + i * w) (y + j * w) w
+
 -- bits i and j of the bits that start at two places
 unfoldable pub sameBit : List ℕ → ℕ → List ℕ → ℕ → ℕ → ℕ → Bool
 sameBit a p b q i j = Bool·beq (bitAt a p i) (bitAt b q j)
@@ -30,10 +38,6 @@ sameBit a p b q i j = Bool·beq (bitAt a p i) (bitAt b q j)
 unfoldable pub sameMask : List ℕ → ℕ → List ℕ → ℕ → ℕ → ℕ → Bool
 sameMask a k b l i j = Bool·beq (valid a k i) (valid b l j)
 
--- the type ids at elements i and j of two unions
-unfoldable pub sameId : List ℕ → ℕ → List ℕ → ℕ → ℕ → ℕ → Bool
-sameId a k b l i j = eqb (typeIdAt a k i) (typeIdAt b l j)
-
 -- from the offset at element i up to the next
 unfoldable pub spanAt : List ℕ → ℕ → ℕ → ℕ
 spanAt s k i = elementAt s k (suc i) - elementAt s k i
@@ -41,6 +45,10 @@ spanAt s k i = elementAt s k (suc i) - elementAt s k i
 -- the texts or lists at elements i and j are equally long
 unfoldable pub sameSpan : List ℕ → ℕ → List ℕ → ℕ → ℕ → ℕ → Bool
 sameSpan a k b l i j = eqb (spanAt a k i) (spanAt b l j)
+
+-- numbers i and j of those of w bytes that stand side by side from two places on are equally far above x and y
+unfoldable pub sameDistance : List ℕ → ℕ → List ℕ → ℕ → ℕ → ℕ → ℕ → ℕ → ℕ → Bool
+sameDistance a p b q w x y i j = eqb (numberAt w a (p + i * w) - x) (numberAt w b (q + j * w) - y)
 
 -- row i of a node without children whose values are given: null, or its value
 unfoldable pub maskedRow : (List ℕ → ℕ → ℕ → Row) → List ℕ → ℕ → ℕ → Row

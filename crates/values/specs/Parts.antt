@@ -2,16 +2,20 @@
 use mathlib.Core.Path.{_≡_}
 use mathlib.Core.Bool.{Bool, true, false, _||_}
 use mathlib.Core.List.{List}
+use mathlib.Core.Logic.{_⊎_}
 use Prim.Native.Nat.{ℕ, suc, _+_, _-_, _*_, _≤_, _<_, _^_}
 use lib.ListN.{length}
-use Rattle.image.specs.Record.{nodeCount, codeOf, p1Of, lengthOf, offsetOf, hasBitmap, firstChild, elementsOf, bufferPlace}
+use Rattle.image.specs.Bytes.{numberAt}
+use Rattle.image.specs.Record.{nodeCount, codeOf, p1Of, lengthOf, offsetOf, hasBitmap, firstChild, elementsOf, bufferPlace, bitmapPlace, firstBit}
 use Rattle.image.specs.declared.type_code.Layout.{Layout}
 use Rattle.image.specs.declared.type_code.Layout.the-variants.{FixedWidth, VariableSize, Runs}
 use Rattle.image.specs.TypeCode.{layoutOf}
 use Rattle.image.specs.Element.{valid, elementWidth, elementPlace, elementAt, viewLength, viewData, runEndWidth, runEndAt, runAt}
 use Rattle.laws.specs.Accepted.{AcceptedImage, ViewInside}
 use Rattle.laws.specs.Alike.{Alike}
+use Rattle.image.specs.Reads.{Read}
 use Rattle.values.specs.declared.leaf.Leaves.{Leaves}
+use Rattle.values.specs.declared.primitive.Columns.{Columns}
 use Rattle.values.specs.declared.runs.EndsAt.{EndsAt}
 use Rattle.values.specs.Pairs.{all, sameMask}
 
@@ -50,9 +54,9 @@ pub record Masked (x : Layout) (a b : List ℕ) (k l i j n : ℕ) : Type 0 where
   pub p1 : p1Of a k ≡ p1Of b l
   pub masks : all (sameMask a k b l) i j n ≡ true
 
--- n offsets and one more of each of two nodes, equally wide, rising and inside the image
+-- n offsets and one more of each of two nodes, of 4 or 8 bytes on both sides, rising and inside the image
 pub record Spans (a b : List ℕ) (k l i j n : ℕ) : Type 0 where
-  pub narrow : elementWidth a k ≤ 8
+  pub whole : (elementWidth a k ≡ 4) ⊎ (elementWidth a k ≡ 8)
   pub same : elementWidth a k ≡ elementWidth b l
   pub left : (h : ℕ) → i ≤ h → h < i + n → elementAt a k h ≤ elementAt a k (suc h)
   pub right : (h : ℕ) → j ≤ h → h < j + n → elementAt b l h ≤ elementAt b l (suc h)
@@ -60,6 +64,12 @@ pub record Spans (a b : List ℕ) (k l i j n : ℕ) : Type 0 where
   pub right-small : j + n < 2 ^ 34
   pub left-inside : elementPlace a k i + (n + 1) * elementWidth a k ≤ length a
   pub right-inside : elementPlace b l j + (n + 1) * elementWidth b l ≤ length b
+
+-- n numbers of 4 or 8 bytes each from number i on of those from a place on, inside the image and none below x
+pub record Above (s : List ℕ) (p w x i n : ℕ) : Type 0 where
+  pub whole : (w ≡ 4) ⊎ (w ≡ 8)
+  pub inside : p + (i + n) * w ≤ length s
+  pub above : (h : ℕ) → i ≤ h → h < i + n → x ≤ numberAt w s (p + h * w)
 
 -- an element of a run node of an accepted image
 pub record RunPart (s : List ℕ) (k j : ℕ) : Type 0 where
@@ -111,6 +121,15 @@ pub record Fixed (a b : List ℕ) (k l i j n : ℕ) : Type 0 where
   pub left : Elements a k i n
   pub right : Elements b l j n
   pub width : elementWidth a k ≡ elementWidth b l
+
+-- what is read once of two fixed-width nodes: the width, where the elements of row 0 start, the left bitmap and its bit
+-- of row 0
+pub record ColumnsAt (a b : List ℕ) (k l : ℕ) (r : Columns) : Type 0 where
+  pub width : r .width ≡ elementWidth a k
+  pub left : r .left ≡ elementPlace a k (offsetOf a k)
+  pub right : r .right ≡ elementPlace b l (offsetOf b l)
+  pub place : Read (bitmapPlace a k) 32 (r .place)
+  pub first : Read (firstBit a k) 32 (r .first)
 
 -- the view at v of a node of an accepted image, of a row that is not null
 pub record Viewed (s : List ℕ) (k v len : ℕ) : Type 0 where

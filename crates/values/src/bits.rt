@@ -1,17 +1,14 @@
 // Bits of a slice, 64 at a time: what the Rust has in its bit iterators.
-use image::bytes::bit;
 use image::bytes::byte;
 use image::bytes::le64;
 use image::bytes::octet;
 use image::bytes::wide;
 ghost use mathlib.Core.Path.{_≡_};
-ghost use mathlib.Core.Bool.{true};
 ghost use Prim.Native.Nat.{_+_, _*_, _/_, _<_, _≤_, _^_};
 ghost use lib.ListN.{length};
 ghost use Rattle.image.specs.Bytes.{bitAt};
-ghost use Rattle.image.specs.Ranges.{every};
 ghost use Rattle.values.specs.Bits.{bitsAt, Leading};
-ghost use Rattle.values.specs.Pairs.{all, sameBit};
+ghost use Rattle.values.specs.Pairs.{all, sameBit, bitOf};
 
 const ALL_SET: usize = 18446744073709551615;
 
@@ -63,22 +60,16 @@ fn same_words(a: &[u8], p: usize, i: usize, b: &[u8], q: usize, j: usize, m: usi
     true
 }
 
-// Bits i, i + 1, .. at one place are bits j, j + 1, .. at another, n of them, bit by bit.
-fn same_each(a: &[u8], p: usize, i: usize, b: &[u8], q: usize, j: usize, n: usize) -> bool
-    requires { ⌜ (i + n < 2 ^ 35) × (j + n < 2 ^ 35) ⌝ }
+// Bits i, i + 1, .. at one place are bits j, j + 1, .. at another, n of them, fewer than a word.
+fn same_tail(a: &[u8], p: usize, i: usize, b: &[u8], q: usize, j: usize, n: usize) -> bool
+    requires { ⌜ (n < 64) × (p < 2 ^ 32) × (q < 2 ^ 32) × (i < 2 ^ 35) × (j < 2 ^ 35) ⌝ }
     ensures { λ r. ⌜ r ≡ all (sameBit (now (a .entry)) p (now (b .entry)) q) i j n ⌝ }
 {
-    let mut k: usize = 0;
-    while k < n {
-        if bit(a, p, i + k) != bit(b, q, j + k) {
-            return false;
-        }
-        k += 1;
-    }
-    true
+    let size: usize = 1 << n;
+    word(a, p, i) % size == word(b, q, j) % size
 }
 
-// Bits i, i + 1, .. at one place are bits j, j + 1, .. at another, n of them: 64 at a time, and the rest one by one.
+// Bits i, i + 1, .. at one place are bits j, j + 1, .. at another, n of them: 64 at a time, and the rest.
 pub fn same_bits(a: &[u8], p: usize, i: usize, b: &[u8], q: usize, j: usize, n: usize) -> bool
     requires { ⌜ (p < 2 ^ 32) × (q < 2 ^ 32) × (i + n < 2 ^ 35) × (j + n < 2 ^ 35) ⌝ }
     ensures { λ r. ⌜ r ≡ all (sameBit (now (a .entry)) p (now (b .entry)) q) i j n ⌝ }
@@ -90,7 +81,7 @@ pub fn same_bits(a: &[u8], p: usize, i: usize, b: &[u8], q: usize, j: usize, n: 
             if !same_words(a, p, i, b, q, j, m) {
                 return false;
             }
-            return same_each(a, p, i + whole, b, q, j + whole, n - whole);
+            return same_tail(a, p, i + whole, b, q, j + whole, n - whole);
         }
     }
     let mut k: usize = 0;
@@ -100,7 +91,35 @@ pub fn same_bits(a: &[u8], p: usize, i: usize, b: &[u8], q: usize, j: usize, n: 
         }
         k += 64;
     }
-    same_each(a, p, i + k, b, q, j + k, n - k)
+    same_tail(a, p, i + k, b, q, j + k, n - k)
+}
+
+// How many of the 64 lowest bits of a number are set, up to the first that is not.
+fn ones(bits: usize) -> usize
+    ensures { λ r. ⌜ Leading (bitOf bits) 0 64 r ⌝ }
+{
+    let mut rest = bits;
+    let mut r: usize = 0;
+    while r < 64 {
+        if rest % 2 != 1 {
+            return r;
+        }
+        rest = rest / 2;
+        r += 1;
+    }
+    r
+}
+
+// How many of 64 bits from bit i on are set, up to the first that is not.
+fn leading_word(s: &[u8], place: usize, i: usize) -> usize
+    requires { ⌜ (place < 2 ^ 32) × (i < 2 ^ 35) ⌝ }
+    ensures { λ r. ⌜ Leading (bitAt (now (s .entry)) place) i 64 r ⌝ }
+{
+    let bits = word(s, place, i);
+    if bits == ALL_SET {
+        return 64;
+    }
+    ones(bits)
 }
 
 // How many of n bits from bit i on are set, up to the first that is not.
@@ -110,25 +129,15 @@ pub fn leading_set(s: &[u8], place: usize, i: usize, n: usize) -> usize
 {
     let mut k: usize = 0;
     while 64 <= n - k {
-        if word(s, place, i + k) != ALL_SET {
-            return leading_from(s, place, i, n, k);
+        let r = leading_word(s, place, i + k);
+        if r < 64 {
+            return k + r;
         }
         k += 64;
     }
-    leading_from(s, place, i, n, k)
-}
-
-// The same, bit by bit, where the first k are known to be set.
-fn leading_from(s: &[u8], place: usize, i: usize, n: usize, k: usize) -> usize
-    requires { ⌜ (place < 2 ^ 32) × (i + n < 2 ^ 35) × (k ≤ n) × (every (bitAt (now s) place) i k ≡ true) ⌝ }
-    ensures { λ r. ⌜ Leading (bitAt (now (s .entry)) place) i n r ⌝ }
-{
-    let mut r = k;
-    while r < n {
-        if !bit(s, place, i + r) {
-            return r;
-        }
-        r += 1;
+    let r = leading_word(s, place, i + k);
+    if r < n - k {
+        return k + r;
     }
-    r
+    n
 }

@@ -31,7 +31,7 @@ pub struct Leaves {
 }
 
 // Where the element of a node's row 0 starts, where elements have so many bytes.
-fn first_place(s: &[u8], node: u32, width: usize) -> usize
+pub fn first_place(s: &[u8], node: u32, width: usize) -> usize
     requires { ⌜ (width ≡ elementWidth (now s) node) × (elementPlace (now s) node (offsetOf (now s) node) ≤ length (now s)) ⌝ }
     ensures { λ r. ⌜ r ≡ elementPlace (now (s .entry)) node (offsetOf (now (s .entry)) node) ⌝ }
 {

@@ -1,22 +1,33 @@
 // Fixed-width values. Translated from src/equal/primitive.rs of arrow-data 60.1.0 (Apache-2.0); the element width stands
 // for the generic type.
+use crate::bits::word;
+use crate::leaf::first_place;
 use crate::utils::equal_len;
+use crate::utils::octets_same;
+use crate::utils::quads_same;
+use image::bytes::pair;
 use image::element::element_width;
-use image::element::is_valid;
+use image::record::bitmap_place;
 use image::record::buffer_place;
+use image::record::first_bit;
+use image::record::has_bitmap;
 use image::record::offset;
 ghost use mathlib.Core.Path.{_≡_};
-ghost use Prim.Native.Nat.{_+_};
+ghost use mathlib.Core.Bool.{true};
+ghost use Prim.Native.Nat.{_+_, _*_, _≤_};
+ghost use lib.ListN.{length};
 ghost use Rattle.image.specs.declared.type_code.Layout.the-variants.{FixedWidth};
-ghost use Rattle.image.specs.Record.{codeOf, offsetOf};
+ghost use Rattle.image.specs.Record.{codeOf, offsetOf, hasBitmap};
 ghost use Rattle.image.specs.TypeCode.{layoutOf};
 ghost use Rattle.image.specs.Row.{fixedRow};
-ghost use Rattle.image.specs.Equality.{rowEqual};
-ghost use Rattle.values.specs.Pairs.{rangeEqual, maskedRow};
-ghost use Rattle.values.specs.Parts.{Parts, Masked, Elements, Spanned, Fixed};
+ghost use Rattle.values.specs.Pairs.{all, sameByte, validSame, rangeEqual, maskedRow};
+ghost use Rattle.values.specs.Parts.{Parts, Masked, Elements, Spanned, Fixed, ColumnsAt};
 
-// Rows with nulls are compared so many at a time.
+// Rows with nulls are compared so many at a time, as one block of bytes, and where the blocks differ so many as a word of
+// the null mask has bits.
 const CHUNK: usize = 1024;
+
+const WORD: usize = 64;
 
 // Where some elements of a node stand: the place of the first, and the length of all.
 pub struct Span {
@@ -65,18 +76,137 @@ fn block_equal(a: &[u8], an: u32, b: &[u8], bn: u32, s: usize, t: usize, n: usiz
     elements_equal(a, an, b, bn, offset(a, an) + s, offset(b, bn) + t, n)
 }
 
-// Rows s and t are null, or their bytes are the same.
-fn row_equal(a: &[u8], an: u32, b: &[u8], bn: u32, s: usize, t: usize) -> bool
-    requires { ⌜ Masked FixedWidth (now a) (now b) an bn s t 1 ⌝ }
-    ensures { λ r. ⌜ r ≡ rowEqual (maskedRow fixedRow (now (a .entry)) an s) (maskedRow fixedRow (now (b .entry)) bn t) ⌝ }
+// The w bytes at two places are the same, as numbers: one, or the first and the last, which may share bytes.
+fn element_same(a: &[u8], b: &[u8], at: usize, bt: usize, w: usize) -> bool
+    requires { ⌜ (at + w ≤ length (now a)) × (bt + w ≤ length (now b)) ⌝ }
+    ensures { λ r. ⌜ r ≡ all (sameByte (now (a .entry)) (now (b .entry))) at bt w ⌝ }
 {
-    if !is_valid(a, an, s) {
-        return true;
+    if w == 8 {
+        return octets_same(a, b, at, bt);
     }
-    block_equal(a, an, b, bn, s, t, 1)
+    if w == 1 {
+        return a[at] == b[bt];
+    }
+    if w == 2 {
+        return pair(a, at) == pair(b, bt);
+    }
+    if w < 4 {
+        return equal_len(a, b, at, bt, w);
+    }
+    if w < 8 {
+        let end = w - 4;
+        return quads_same(a, b, at, bt) & quads_same(a, b, at + end, bt + end);
+    }
+    if w <= 16 {
+        let end = w - 8;
+        return octets_same(a, b, at, bt) & octets_same(a, b, at + end, bt + end);
+    }
+    equal_len(a, b, at, bt, w)
 }
 
-// A chunk of rows: where not all bytes are the same, row by row.
+// Of n elements of w bytes at two places, at most 64, those whose bit is set are the same. There is no way out of the loop.
+fn valid_same(a: &[u8], b: &[u8], at: usize, bt: usize, w: usize, bits: usize, n: usize) -> bool
+    requires { ⌜ (n ≤ 64) × (at + n * w ≤ length (now a)) × (bt + n * w ≤ length (now b)) ⌝ }
+    ensures { λ r. ⌜ r ≡ all (validSame bits (now (a .entry)) (now (b .entry)) w at bt) 0 0 n ⌝ }
+{
+    let mut same = true;
+    let mut h: usize = 0;
+    while h < n {
+        let null = (bits >> h) % 2 != 1;
+        same = same & (null | element_same(a, b, at + h * w, bt + h * w, w));
+        h += 1;
+    }
+    same
+}
+
+// The same, with a loop of its own for each of the widths that gain by it.
+fn valid_equal(a: &[u8], b: &[u8], at: usize, bt: usize, w: usize, bits: usize, n: usize) -> bool
+    requires { ⌜ (n ≤ 64) × (at + n * w ≤ length (now a)) × (bt + n * w ≤ length (now b)) ⌝ }
+    ensures { λ r. ⌜ r ≡ all (validSame bits (now (a .entry)) (now (b .entry)) w at bt) 0 0 n ⌝ }
+{
+    if w == 8 {
+        return valid_same(a, b, at, bt, 8, bits, n);
+    }
+    if w == 4 {
+        return valid_same(a, b, at, bt, 4, bits, n);
+    }
+    if w == 2 {
+        return valid_same(a, b, at, bt, 2, bits, n);
+    }
+    if w == 1 {
+        return valid_same(a, b, at, bt, 1, bits, n);
+    }
+    valid_same(a, b, at, bt, w, bits, n)
+}
+
+// What is read once of two nodes: the width of their elements, where those of row 0 start, and the left bitmap and its bit
+// of row 0.
+pub struct Columns {
+    pub width: usize,
+    pub left: usize,
+    pub right: usize,
+    pub place: usize,
+    pub first: usize,
+}
+
+fn columns_of(a: &[u8], an: u32, b: &[u8], bn: u32, s: usize, t: usize, n: usize) -> Columns
+    requires { ⌜ Masked FixedWidth (now a) (now b) an bn s t n ⌝ }
+    ensures { λ r. ⌜ ColumnsAt (now (a .entry)) (now (b .entry)) an bn r ⌝ }
+{
+    let width = element_width(a, an);
+    Columns {
+        width: width,
+        left: first_place(a, an, width),
+        right: first_place(b, bn, width),
+        place: bitmap_place(a, an),
+        first: first_bit(a, an),
+    }
+}
+
+// At most 64 rows from s and from t on.
+fn word_equal(
+    a: &[u8],
+    an: u32,
+    b: &[u8],
+    bn: u32,
+    columns: Columns,
+    s: usize,
+    t: usize,
+    n: usize,
+) -> bool
+    requires { ⌜ (n ≤ 64) × (hasBitmap (now a) an ≡ true) × ColumnsAt (now a) (now b) an bn columns × Masked FixedWidth (now a) (now b) an bn s t n ⌝ }
+    ensures { λ r. ⌜ r ≡ rangeEqual (maskedRow fixedRow (now (a .entry)) an) (maskedRow fixedRow (now (b .entry)) bn) s t n ⌝ }
+{
+    let width = columns.width;
+    let bits = word(a, columns.place, columns.first + s);
+    valid_equal(
+        a,
+        b,
+        columns.left + s * width,
+        columns.right + t * width,
+        width,
+        bits,
+        n,
+    )
+}
+
+// Rows of which some are null: 64 at a time.
+fn words_equal(a: &[u8], an: u32, b: &[u8], bn: u32, s: usize, t: usize, n: usize) -> bool
+    requires { ⌜ (hasBitmap (now a) an ≡ true) × Masked FixedWidth (now a) (now b) an bn s t n ⌝ }
+    ensures { λ r. ⌜ r ≡ rangeEqual (maskedRow fixedRow (now (a .entry)) an) (maskedRow fixedRow (now (b .entry)) bn) s t n ⌝ }
+{
+    let columns = columns_of(a, an, b, bn, s, t, n);
+    let mut k: usize = 0;
+    while WORD <= n - k {
+        if !word_equal(a, an, b, bn, columns, s + k, t + k, WORD) {
+            return false;
+        }
+        k += WORD;
+    }
+    word_equal(a, an, b, bn, columns, s + k, t + k, n - k)
+}
+
+// A chunk of rows: where not all bytes are the same, those of the rows that are not null.
 fn chunk_equal(a: &[u8], an: u32, b: &[u8], bn: u32, s: usize, t: usize, n: usize) -> bool
     requires { ⌜ Masked FixedWidth (now a) (now b) an bn s t n ⌝ }
     ensures { λ r. ⌜ r ≡ rangeEqual (maskedRow fixedRow (now (a .entry)) an) (maskedRow fixedRow (now (b .entry)) bn) s t n ⌝ }
@@ -84,14 +214,10 @@ fn chunk_equal(a: &[u8], an: u32, b: &[u8], bn: u32, s: usize, t: usize, n: usiz
     if block_equal(a, an, b, bn, s, t, n) {
         return true;
     }
-    let mut k: usize = 0;
-    while k < n {
-        if !row_equal(a, an, b, bn, s + k, t + k) {
-            return false;
-        }
-        k += 1;
+    if !has_bitmap(a, an) {
+        return false;
     }
-    true
+    words_equal(a, an, b, bn, s, t, n)
 }
 
 // Rows with nulls, where the null masks agree: chunk by chunk. Only one null mask is looked at, for that reason.

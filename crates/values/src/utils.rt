@@ -41,7 +41,7 @@ fn equal_block(a: &[u8], b: &[u8], at: usize, bt: usize) -> bool
 }
 
 // The eight bytes at two places are the same.
-fn octets_same(a: &[u8], b: &[u8], at: usize, bt: usize) -> bool
+pub fn octets_same(a: &[u8], b: &[u8], at: usize, bt: usize) -> bool
     requires { ⌜ (at + 8 ≤ length (now a)) × (bt + 8 ≤ length (now b)) ⌝ }
     ensures { λ r. ⌜ r ≡ all (sameByte (now (a .entry)) (now (b .entry))) at bt 8 ⌝ }
 {
@@ -49,7 +49,7 @@ fn octets_same(a: &[u8], b: &[u8], at: usize, bt: usize) -> bool
 }
 
 // The four bytes at two places are the same.
-fn quads_same(a: &[u8], b: &[u8], at: usize, bt: usize) -> bool
+pub fn quads_same(a: &[u8], b: &[u8], at: usize, bt: usize) -> bool
     requires { ⌜ (at + 4 ≤ length (now a)) × (bt + 4 ≤ length (now b)) ⌝ }
     ensures { λ r. ⌜ r ≡ all (sameByte (now (a .entry)) (now (b .entry))) at bt 4 ⌝ }
 {

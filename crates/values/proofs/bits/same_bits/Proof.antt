@@ -1,4 +1,4 @@
--- Two runs of bits are the same: 64 at a time, then one by one.
+-- Two runs of bits are the same: 64 at a time, then the rest.
 -- The invariant: the test of all pairs is that of those from pair k on; words are equal where their 64 pairs are.
 use mathlib.Core.Path.{sym, _∙_}
 use borrow.Author.Tests.{not-true, not-false}
@@ -50,20 +50,20 @@ same-words-requires c κs = search needs
 returns : tie.Need-returns Inv-loop μ-loop
 returns c = front-fails _ _ _ _ _ (omega arith) (sym (c .before .same-words .ensures) ∙ not-true _ (c .if3 .taken))
 
-add-same-each : tie.Need-add-same-each Inv-loop μ-loop
-add-same-each c = search needs
+add-same-tail : tie.Need-add-same-tail Inv-loop μ-loop
+add-same-tail c = search needs
 
-add-same-each-2 : tie.Need-add-same-each-2 Inv-loop μ-loop
-add-same-each-2 c = search needs
+add-same-tail-2 : tie.Need-add-same-tail-2 Inv-loop μ-loop
+add-same-tail-2 c = search needs
 
-sub-same-each : tie.Need-sub-same-each Inv-loop μ-loop
-sub-same-each c = search needs
+sub-same-tail : tie.Need-sub-same-tail Inv-loop μ-loop
+sub-same-tail c = search needs
 
-same-each-requires : tie.Need-same-each-requires Inv-loop μ-loop
-same-each-requires c κs = search needs
+same-tail-requires : tie.Need-same-tail-requires Inv-loop μ-loop
+same-tail-requires c κs = search needs
 
 returns-2 : tie.Need-returns-2 Inv-loop μ-loop
-returns-2 c = left-rest _ _ _ _ _ (front-left _ _ _ _ _ (omega arith) (sym (c .before .before .same-words .ensures) ∙ not-false _ (c .before .if3 .left))) (c .same-each .ensures)
+returns-2 c = left-rest _ _ _ _ _ (front-left _ _ _ _ _ (omega arith) (sym (c .before .before .same-words .ensures) ∙ not-false _ (c .before .if3 .left))) (c .same-tail .ensures)
 
 loop-holds : tie.Need-loop-holds Inv-loop μ-loop
 loop-holds c = left-none _ _ _ _
@@ -95,20 +95,20 @@ loop-less c = omega (arith, c .before .before .before .before .loop .inv .within
 loop-again : tie.Need-loop-again Inv-loop μ-loop
 loop-again c = left-jump _ _ _ _ _ 64 (c .before .before .before .before .loop .inv .within) (c .before .before .before .loop-test .taken) (c .before .before .before .before .loop .inv) (words-same _ _ _ _ _ _ (c .before .before .word .ensures) (c .before .word2 .ensures) (c .if4 .left))
 
-add-same-each-3 : tie.Need-add-same-each-3 Inv-loop μ-loop
-add-same-each-3 c = search needs
+add-same-tail-3 : tie.Need-add-same-tail-3 Inv-loop μ-loop
+add-same-tail-3 c = search needs
 
-add-same-each-4 : tie.Need-add-same-each-4 Inv-loop μ-loop
-add-same-each-4 c = search needs
+add-same-tail-4 : tie.Need-add-same-tail-4 Inv-loop μ-loop
+add-same-tail-4 c = search needs
 
-sub-same-each-2 : tie.Need-sub-same-each-2 Inv-loop μ-loop
-sub-same-each-2 c = search needs
+sub-same-tail-2 : tie.Need-sub-same-tail-2 Inv-loop μ-loop
+sub-same-tail-2 c = search needs
 
-same-each-requires-2 : tie.Need-same-each-requires-2 Inv-loop μ-loop
-same-each-requires-2 c κs = search needs
+same-tail-requires-2 : tie.Need-same-tail-requires-2 Inv-loop μ-loop
+same-tail-requires-2 c κs = search needs
 
 returns-4 : tie.Need-returns-4 Inv-loop μ-loop
-returns-4 c = left-rest _ _ _ _ _ (c .before .before .loop .inv) (c .same-each2 .ensures)
+returns-4 c = left-rest _ _ _ _ _ (c .before .before .loop .inv) (c .same-tail2 .ensures)
 
 pub same-bits-spec : {M : Type 1} → statement M
 same-bits-spec =
@@ -127,10 +127,10 @@ same-bits-spec =
     add-if2-3
     same-words-requires
     returns
-    add-same-each
-    add-same-each-2
-    sub-same-each
-    same-each-requires
+    add-same-tail
+    add-same-tail-2
+    sub-same-tail
+    same-tail-requires
     returns-2
     loop-holds
     sub-loop
@@ -142,8 +142,8 @@ same-bits-spec =
     add-k
     loop-less
     loop-again
-    add-same-each-3
-    add-same-each-4
-    sub-same-each-2
-    same-each-requires-2
+    add-same-tail-3
+    add-same-tail-4
+    sub-same-tail-2
+    same-tail-requires-2
     returns-4)

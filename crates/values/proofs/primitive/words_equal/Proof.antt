@@ -1,0 +1,89 @@
+-- `words_equal` compares 64 rows at a time.
+-- The loop keeps that what is left to look at gives the answer; the measure is how much is left.
+use Rattle.values.proofs.Steps.{Left, left-none, left-jump, jump-fails, left-rest, by-rows, sameRow}
+use Rattle.values.proofs.MaskedRows.{masked-ahead}
+use Rattle.values.proofs.Fixed.{side-small}
+use Rattle.image.specs.Row.{fixedRow}
+use Rattle.values.specs.Pairs.{maskedRow}
+use borrow.Author.Tests.{not-true, not-false}
+use native.Mathlib.Nat.{le-refl}
+use mathlib.Core.Path.{sym, _∙_}
+use Prim.Native.Nat.{ℕ, _+_, _-_, _*_, _<_, _≤_}
+use lib.ListN.{length, getD}
+use native.Mathlib.Omega.{arith}
+use borrow.Author.Needs.{needs}
+use Rattle.values.proofs.primitive.words_equal.Statement.{statement}
+use Rattle.values.proofs.primitive.words_equal.Tie as tie
+
+abbrev Inv-loop : tie.InvT-loop
+Inv-loop a an b bn s t n columns k₀ k = Left (sameRow (maskedRow fixedRow a an) (maskedRow fixedRow b bn)) s t n k
+
+abbrev μ-loop : tie.MeasureT-loop
+μ-loop a an b bn s t n columns k₀ k = n - k
+
+columns-of-requires : tie.Need-columns-of-requires Inv-loop μ-loop
+columns-of-requires c κs = c .before .before .pre .1
+
+loop-holds : tie.Need-loop-holds Inv-loop μ-loop
+loop-holds c = left-none _ _ _ _
+
+sub-loop : tie.Need-sub-loop Inv-loop μ-loop
+sub-loop c = c .loop .inv .within
+
+add-word-equal : tie.Need-add-word-equal Inv-loop μ-loop
+add-word-equal c = omega (arith, c .before .loop .inv .within, side-small _ _ _ _ (c .before .before .before .before .before .pre .1 .left))
+
+add-word-equal-2 : tie.Need-add-word-equal-2 Inv-loop μ-loop
+add-word-equal-2 c = omega (arith, c .before .loop .inv .within, side-small _ _ _ _ (c .before .before .before .before .before .pre .1 .right))
+
+word-equal-requires : tie.Need-word-equal-requires Inv-loop μ-loop
+word-equal-requires c κs = (omega arith, c .before .before .before .before .before .pre .0, c .before .before .columns-of .ensures, masked-ahead (c .before .before .before .before .before .pre .1) (c .before .loop .inv .within) (c .loop-test .taken))
+
+returns : tie.Need-returns Inv-loop μ-loop
+returns c = jump-fails _ _ _ _ _ 64 (c .before .before .loop-test .taken) (c .before .before .before .loop .inv) (by-rows _ _ _ _ _ ∙ sym (c .before .word-equal .ensures) ∙ not-true _ (c .if1 .taken)) ∙ by-rows _ _ _ _ _
+
+add-k : tie.Need-add-k Inv-loop μ-loop
+add-k c = omega (arith, c .before .before .before .loop .inv .within, c .before .before .loop-test .taken)
+
+loop-less : tie.Need-loop-less Inv-loop μ-loop
+loop-less c = omega (arith, c .before .before .before .loop .inv .within, c .before .before .loop-test .taken)
+
+loop-again : tie.Need-loop-again Inv-loop μ-loop
+loop-again c = left-jump _ _ _ _ _ 64 (c .before .before .before .loop .inv .within) (c .before .before .loop-test .taken) (c .before .before .before .loop .inv) (by-rows _ _ _ _ _ ∙ sym (c .before .word-equal .ensures) ∙ not-false _ (c .if1 .left))
+
+add-word-equal-3 : tie.Need-add-word-equal-3 Inv-loop μ-loop
+add-word-equal-3 c = omega (arith, c .before .loop .inv .within, side-small _ _ _ _ (c .before .before .before .before .before .pre .1 .left))
+
+add-word-equal-4 : tie.Need-add-word-equal-4 Inv-loop μ-loop
+add-word-equal-4 c = omega (arith, c .before .loop .inv .within, side-small _ _ _ _ (c .before .before .before .before .before .pre .1 .right))
+
+sub-word-equal : tie.Need-sub-word-equal Inv-loop μ-loop
+sub-word-equal c = c .before .loop .inv .within
+
+word-equal-requires-2 : tie.Need-word-equal-requires-2 Inv-loop μ-loop
+word-equal-requires-2 c κs = (omega (arith, c .loop-test .left), c .before .before .before .before .before .pre .0, c .before .before .columns-of .ensures, masked-ahead (c .before .before .before .before .before .pre .1) (c .before .loop .inv .within) (le-refl _))
+
+returns-2 : tie.Need-returns-2 Inv-loop μ-loop
+returns-2 c = left-rest _ _ _ _ _ (c .before .before .loop .inv) (c .word-equal2 .ensures ∙ sym (by-rows _ _ _ _ _)) ∙ by-rows _ _ _ _ _
+
+pub words-equal-spec : {M : Type 1} → statement M
+words-equal-spec =
+    tie.close
+    (tie.spec
+    Inv-loop
+    μ-loop
+    columns-of-requires
+    loop-holds
+    sub-loop
+    add-word-equal
+    add-word-equal-2
+    word-equal-requires
+    returns
+    add-k
+    loop-less
+    loop-again
+    add-word-equal-3
+    add-word-equal-4
+    sub-word-equal
+    word-equal-requires-2
+    returns-2)
