@@ -1,11 +1,11 @@
 /* editions.h: which rows of two Arrow tables are equal, whatever layout each table has.
  *
- * A table is an image: one block of bytes, laid out as the library's scope paper says (little-endian; a header, node
- * records, buffer entries, then the buffers). Link with libeditions_c.a; it needs no other library.
+ * A table is an image: one block of bytes, little-endian, with a header, node records, buffer entries and then the buffers;
+ * the library's docs/FORMAT.md says how to write one. Link with libeditions_c.a; it needs no other library.
  *
- * The three calls read only the bytes that they are lent, keep nothing between calls, allocate nothing and may run in any
- * number of threads. Any bytes may be lent as an image; an image that breaks the rules is refused by number. A pointer may
- * be NULL where its length is 0.
+ * The calls read only the bytes that they are lent, keep nothing between calls, allocate nothing and may run in any number
+ * of threads. Any bytes may be lent as an image; one that breaks the rules is refused by number. A pointer may be NULL where
+ * its length is 0. The images of a comparison may overlap; `out` must not overlap what is lent to be read.
  *
  * Every call answers with one number; take it apart with the functions at the end. */
 #ifndef EDITIONS_H
@@ -36,19 +36,11 @@ uint64_t editions_write(const uint8_t *image, size_t image_length, uint32_t star
 }
 #endif
 
-/* The refusals. */
+/* The refusals; editions_refusal_text says what each is. The three calls never answer EDITIONS_TYPES. */
 enum {
-    EDITIONS_SHORT = 10,        /* shorter than header and tables, longer than 16,777,216 bytes, or too many nodes or buffers */
-    EDITIONS_CODE = 11,         /* an unknown type code or flag, a parameter out of range, a bitmap where none may be */
-    EDITIONS_TREE = 12,         /* the tree of nodes is broken */
-    EDITIONS_NAME = 13,         /* a name too long or outside the image */
-    EDITIONS_BUFFER = 14,       /* a buffer or bitmap outside the image, or not whole elements */
-    EDITIONS_TOO_FEW = 15,      /* a bitmap or buffer with fewer elements than rows */
-    EDITIONS_CHILD = 16,        /* a child with too few rows */
-    EDITIONS_OFFSETS = 17,      /* offsets that fall or lie outside, a list view outside its child */
-    EDITIONS_ROWS = 18,         /* a key, view, type id or run end that does not fit */
-    EDITIONS_RANGE = 21,        /* start + count exceeds the table's length */
-    EDITIONS_OUTPUT = 43        /* the output is longer than the buffer */
+    EDITIONS_SHORT = 10, EDITIONS_CODE = 11, EDITIONS_TREE = 12, EDITIONS_NAME = 13, EDITIONS_BUFFER = 14,
+    EDITIONS_TOO_FEW = 15, EDITIONS_CHILD = 16, EDITIONS_OFFSETS = 17, EDITIONS_ROWS = 18, EDITIONS_TYPES = 20,
+    EDITIONS_RANGE = 21, EDITIONS_OUTPUT = 43
 };
 
 enum { EDITIONS_LEFT = 0, EDITIONS_RIGHT = 1 };
@@ -64,5 +56,26 @@ static inline unsigned editions_node(uint64_t answer) { return (unsigned)(answer
 
 /* Of a call that is not refused: 1 or 0 for a comparison, the number of bytes for a write. */
 static inline uint32_t editions_value(uint64_t answer) { return (uint32_t)(answer >> 32); }
+
+/* What a refusal's number says, as a sentence; 0 has one too, and so has a number that is no refusal. Never NULL. */
+static inline const char *editions_refusal_text(unsigned refusal)
+{
+    switch (refusal) {
+    case 0: return "The call is not refused.";
+    case EDITIONS_SHORT: return "The image is too long, too short for its tables, or has too few or too many nodes or buffers.";
+    case EDITIONS_CODE: return "A type code, flag or parameter is not allowed, or a bitmap stands where none may be.";
+    case EDITIONS_TREE: return "The tree is broken: child counts, numbering, depth, type ids, a Map's entries or run ends.";
+    case EDITIONS_NAME: return "A name is too long or lies outside the image.";
+    case EDITIONS_BUFFER: return "Buffers are miscounted, lie outside or are not whole elements, or rows are too many.";
+    case EDITIONS_TOO_FEW: return "A bitmap or a buffer has too few elements for the rows.";
+    case EDITIONS_CHILD: return "A child has too few rows, or run ends and run values are not equally many.";
+    case EDITIONS_OFFSETS: return "Offsets are negative, fall or pass the end, or a list view lies outside its child.";
+    case EDITIONS_ROWS: return "A row's type id, dense offset, key or view is not allowed, or run ends are not.";
+    case EDITIONS_TYPES: return "Ranges of tables of unequal type are not compared.";
+    case EDITIONS_RANGE: return "The range passes the table's last row.";
+    case EDITIONS_OUTPUT: return "The output is longer than the buffer.";
+    default: return "The number is not a refusal of these calls.";
+    }
+}
 
 #endif

@@ -50,8 +50,8 @@ static void int8_table(struct image *image, const uint8_t *values, uint32_t coun
 static void report(const char *what, uint64_t answer)
 {
     if (editions_refusal(answer) != 0)
-        printf("%s: refused by %u, side %u, node %u\n", what, editions_refusal(answer), editions_side(answer),
-               editions_node(answer));
+        printf("%s: refused by %u, side %u, node %u. %s\n", what, editions_refusal(answer), editions_side(answer),
+               editions_node(answer), editions_refusal_text(editions_refusal(answer)));
     else
         printf("%s: %lu\n", what, (unsigned long)editions_value(answer));
 }

@@ -1,5 +1,5 @@
 /* The three calls as a host uses them: on the model's cases, at the largest size, on empty slices, and with output buffers
- * that fit exactly or are one byte short. */
+ * that fit exactly or are one byte short; and the refusals' sentences. */
 #define _DEFAULT_SOURCE
 #include "../../host/editions.h"
 #include "memory.h"
@@ -207,6 +207,36 @@ static void nested_views(void)
     expect("nested views", 2, editions_write(image, sizeof image, 0, ROWS, out, sizeof out), answer_of(EDITIONS_OUTPUT, 0, 0, 0));
 }
 
+/* A test that is no call. */
+static void must(const char *what, unsigned which, int holds)
+{
+    if (!holds) {
+        failures++;
+        printf("%s %u\n", what, which);
+    }
+}
+
+/* Every number has a sentence of its own; all those that no call answers share one. */
+static void texts(void)
+{
+    static const unsigned numbers[] = {0, 10, 11, 12, 13, 14, 15, 16, 17, 18, 20, 21, 43};
+    enum { COUNT = sizeof numbers / sizeof numbers[0] };
+    const char *other = editions_refusal_text(255);
+    for (unsigned k = 0; k < COUNT; k++) {
+        const char *text = editions_refusal_text(numbers[k]);
+        size_t length = strlen(text);
+        must("no sentence for", numbers[k], length > 10 && text[0] >= 'A' && text[0] <= 'Z' && text[length - 1] == '.');
+        must("no sentence of its own for", numbers[k], strcmp(text, other) != 0);
+        for (unsigned j = 0; j < k; j++)
+            must("no sentence of its own for", numbers[k], strcmp(text, editions_refusal_text(numbers[j])) != 0);
+    }
+    for (unsigned number = 0, k = 0; number < 300; number++)
+        if (k < COUNT && numbers[k] == number)
+            k++;
+        else
+            must("the sentence of a refusal for", number, strcmp(editions_refusal_text(number), other) == 0);
+}
+
 int main(int argc, char **argv)
 {
     if (argc != 2) {
@@ -217,6 +247,7 @@ int main(int argc, char **argv)
     largest();
     empty();
     nested_views();
+    texts();
     printf("host: %lu calls, %lu failed\n", calls, failures);
     return failures != 0;
 }

@@ -43,7 +43,7 @@ pub fails-and : (x y : Bool) → (x ≡ true → y ≡ false) → x && y ≡ fal
 fails-and true y h = h refl
 fails-and false y h = refl
 
--- "if c then x" as a test
+-- that x holds if c does, as a test
 pub when-true : (c x : Bool) → not c || x ≡ true → c ≡ true → x ≡ true
 when-true true x e p = e
 when-true false true e p = refl

@@ -58,6 +58,6 @@ unfoldable mutual
 unfoldable pub rangesEqual : List ℕ → List ℕ → ℕ → ℕ → ℕ → Bool
 rangesEqual s t i j n = rowsEqual (tableRows s i n) (tableRows t j n)
 
--- two accepted tables are equal "exactly when types and lengths agree and each row agrees"
+-- two accepted tables are equal: types and lengths agree, where unequal ones are turned "into no", and all rows in turn
 unfoldable pub tablesEqual : List ℕ → List ℕ → Bool
 tablesEqual s t = typesAgree s t && eqb (lengthOf s 0) (lengthOf t 0) && rangesEqual s t 0 0 (lengthOf s 0)

@@ -1,5 +1,5 @@
--- Demand 3: "Written ranges of equally many rows of equal type: neither output a proper prefix of the other, and the same
--- bytes exactly when the ranges are equal." What it speaks of, and what a proper prefix is.
+-- Demand 3: of two written ranges of equally many rows of tables of equal type neither output is a proper prefix of the
+-- other, and the two are the same bytes exactly when the ranges are equal. What it speaks of, and what a proper prefix is.
 use mathlib.Core.Path.{_≡_}
 use mathlib.Core.Bool.{true}
 use mathlib.Core.List.{List, [], _++_}
