@@ -11,13 +11,13 @@ use lib.Dec.{eqb}
 use borrow.Author.Tests.{eqb-true, eq-eqb}
 use Rattle.image.specs.declared.answer.Checked.{Checked}
 use Rattle.image.specs.declared.answer.Checked.the-variants.{Accepted, Refused}
-use Rattle.image.specs.declared.answer.Compared.the-variants.{Yes}
+use Rattle.answers.specs.declared.Compared.the-variants.{Yes}
 use Rattle.image.specs.Record.{lengthOf}
 use Rattle.image.specs.Faults.{checkImage}
 use Rattle.image.specs.Types.{typesAgree}
 use Rattle.image.specs.Row.{Row, Rows, more, range, rowAt, tableRows}
 use Rattle.image.specs.Equality.{rangesEqual, tablesEqual}
-use Rattle.image.specs.Answers.{compareAnswer, afterChecks, yesOrNo}
+use Rattle.answers.specs.Answers.{compareAnswer, afterChecks, yesOrNo}
 use Rattle.image.proofs.Bools.{and-left, and-right}
 use Rattle.image.proofs.Ranges.{range-same}
 use Rattle.laws.proofs.Sound.{rowsEqual-is}

@@ -12,12 +12,12 @@ use lib.Dec.{ltb}
 use borrow.Author.Tests.{ltb-false}
 use Rattle.image.specs.declared.answer.Checked.{Checked}
 use Rattle.image.specs.declared.answer.Checked.the-variants.{Accepted, Refused}
-use Rattle.image.specs.declared.answer.Compared.the-variants.{Yes}
-use Rattle.image.specs.declared.answer.Written.the-variants.{Bytes, OutOfRange as WriteOutOfRange, TooLong}
+use Rattle.answers.specs.declared.Compared.the-variants.{Yes}
+use Rattle.answers.specs.declared.Written.the-variants.{Bytes, OutOfRange as WriteOutOfRange, TooLong}
 use Rattle.image.specs.Faults.{checkImage}
 use Rattle.image.specs.RowBytes.{rangeBytes}
 use Rattle.image.specs.Equality.{rangesEqual}
-use Rattle.image.specs.Answers.{compareRangeAnswer, rangeAnswer, exceeds, yesOrNo, afterCheck, writeRange, writeAnswer, writeOutput}
+use Rattle.answers.specs.Answers.{compareRangeAnswer, pairedOf, boundsOf, exceeds, yesOrNo, afterCheck, writeRange, writeAnswer, writeOutput}
 use Rattle.laws.specs.Demand3.{WrittenRanges, ProperPrefix}
 use Rattle.laws.proofs.Demand3.{same-bytes, no-proper-prefix}
 use Rattle.api.specs.Demand3.{BothWritten, putOut}
@@ -67,7 +67,7 @@ module _ (s t : List ℕ) (i j n : ℕ) (out over : List ℕ) (v w : ℕ) (both 
   }
 
   compared : compareRangeAnswer s t i j n ≡ yesOrNo (rangesEqual s t i j n)
-  unfolding compareRangeAnswer rangeAnswer
+  unfolding compareRangeAnswer pairedOf boundsOf
   compared = rw (left .image, right .image, both .types, left .inside, right .inside)
 
   -- the same bytes exactly when the comparison says yes

@@ -8,15 +8,13 @@ use native.Mathlib.Omega.{arith}
 use lib.ListN.{length, take, drop}
 use lib.Dec.{ltb}
 use borrow.Author.Tests.{lt-ltb, le-ltb}
-use Rattle.image.specs.declared.answer.Checked.{Checked}
 use Rattle.image.specs.declared.answer.Checked.the-variants.{Accepted, Refused}
 use Rattle.image.specs.declared.answer.Fault.{Fault}
-use Rattle.image.specs.declared.answer.Written.{Written}
-use Rattle.image.specs.declared.answer.Written.the-variants.{Bytes, OutOfRange, TooLong}
+use Rattle.answers.specs.declared.Written.the-variants.{Bytes, Refused as WriteRefused, OutOfRange, TooLong}
 use Rattle.image.specs.Faults.{checkImage}
 use Rattle.image.specs.Row.{rowAt, range, tableRows}
 use Rattle.image.specs.RowBytes.{rowsBytes, rangeBytes}
-use Rattle.image.specs.Answers.{exceeds, afterCheck, writeRange, writeAnswer, writeOutput}
+use Rattle.answers.specs.Answers.{exceeds, writeRange, writeAnswer, writeOutput}
 use Rattle.rows.specs.declared.measure.Room.the-variants.{Left, Short}
 use Rattle.rows.specs.Output.{over, roomAfter, Fits}
 use Rattle.rows.proofs.Rooms.{left-told, short-told}
@@ -35,12 +33,9 @@ module _ (s : List ℕ) (i n : ℕ) (out : List ℕ) where
   bytes = rowsBytes (range (rowAt 16 s 0) i n)
 
   -- a refusal leaves the buffer as it was
-  pub write-refused : {x : Checked} {r : Written} {f : Fault} → x ≡ checkImage s → x ≡ Refused f → r ≡ afterCheck x TooLong
-      → (r ≡ writeAnswer s i n out) × (out ≡ writeOutput s i n out)
+  pub write-refused : {f : Fault} → checkImage s ≡ Refused f → (WriteRefused f ≡ writeAnswer s i n out) × (out ≡ writeOutput s i n out)
   unfolding writeAnswer writeOutput
-  write-refused checked is e =
-      let refused = sym checked ∙ is in
-      (rw refused (rw is at e), rw refused)
+  write-refused is = (rw is, rw is)
 
   module _ (image : checkImage s ≡ Accepted) where
     pub write-out-of-range : exceeds s i n ≡ true → (OutOfRange ≡ writeAnswer s i n out) × (out ≡ writeOutput s i n out)

@@ -4,9 +4,9 @@ use mathlib.Core.Bool.{true}
 use mathlib.Core.List.{List}
 use Prim.Native.Nat.{ℕ}
 use lib.ListN.{take}
-use Rattle.image.specs.declared.answer.Written.the-variants.{Bytes}
+use Rattle.answers.specs.declared.Written.the-variants.{Bytes}
 use Rattle.image.specs.Types.{typesAgree}
-use Rattle.image.specs.Answers.{writeAnswer, writeOutput}
+use Rattle.answers.specs.Answers.{writeAnswer, writeOutput}
 
 -- the write of n rows of s from row i on into the buffer out, and that of n rows of t from row j on into the buffer over,
 -- answer that v and w bytes were written, and the types of s and t agree

@@ -1,10 +1,12 @@
 // The public calls: check an image, compare two tables, compare ranges of their rows, write rows. Each checks its images
 // itself.
+use answers::Bounds;
+use answers::Compared;
+use answers::Paired;
+use answers::Written;
 use equal::equal_range;
 use image::answer::Checked;
-use image::answer::Compared;
 use image::answer::Side;
-use image::answer::Written;
 use image::place::Place;
 use image::record::length;
 use rows::measure::Room;
@@ -13,10 +15,11 @@ use rows::write::write_rows;
 use values::types::types_equal;
 use values::utils::base_equal;
 ghost use mathlib.Core.Path.{_≡_};
+ghost use Rattle.image.specs.declared.answer.Checked.the-variants.{Accepted};
+ghost use Rattle.image.specs.Equality.{tablesEqual, rangesEqual};
 ghost use Rattle.image.specs.Faults.{checkImage};
-ghost use Rattle.image.specs.Types.{typesAgree};
-ghost use Rattle.image.specs.declared.answer.Written.the-variants.{TooLong};
-ghost use Rattle.image.specs.Answers.{compareAnswer, compareRangeAnswer, writeAnswer, writeOutput, afterCheck, exceeds, yesOrNo, refusedOf};
+ghost use Rattle.answers.specs.declared.Paired.the-variants.{Agreed};
+ghost use Rattle.answers.specs.Answers.{compareAnswer, pairedOf, boundsOf, boundedAnswer, compareRangeAnswer, writeAnswer, writeOutput, exceeds, yesOrNo};
 
 // A table's depth is at most so much.
 const DEPTH: usize = 16;
@@ -28,38 +31,62 @@ pub fn check(image: &[u8]) -> Checked
     validate::check(image)
 }
 
-// What a refused check answers for a comparison; an accepted one has no such answer.
-fn refused(checked: Checked, side: Side) -> Compared
-    ensures { λ r. ⌜ r ≡ refusedOf side checked ⌝ }
-{
-    match checked {
-        Checked::Refused(fault) => Compared::Refused(side, fault),
-        Checked::Accepted => Compared::No,
-    }
-}
-
 fn yes_or_no(equal: bool) -> Compared
     ensures { λ r. ⌜ r ≡ yesOrNo equal ⌝ }
 {
     if equal { Compared::Yes } else { Compared::No }
 }
 
-// Whether two tables are equal: their types and lengths agree, and every row.
-pub fn compare(left: &[u8], right: &[u8]) -> Compared
-    ensures { λ r. ⌜ r ≡ compareAnswer (now (left .entry)) (now (right .entry)) ⌝ }
+// Whether two tables are equal, both accepted: their types and lengths agree, and every row.
+fn compare_accepted(left: &[u8], right: &[u8]) -> Compared
+    requires { ⌜ (checkImage (now left) ≡ Accepted) × (checkImage (now right) ≡ Accepted) ⌝ }
+    ensures { λ r. ⌜ r ≡ yesOrNo (tablesEqual (now (left .entry)) (now (right .entry))) ⌝ }
 {
-    let first = check(left);
-    let Checked::Accepted = first else {
-        return refused(first, Side::Left);
-    };
-    let second = check(right);
-    let Checked::Accepted = second else {
-        return refused(second, Side::Right);
-    };
     if !base_equal(left, right) {
         return Compared::No;
     }
     yes_or_no(equal_range(left, 0, right, 0, 0, 0, length(left, 0), DEPTH))
+}
+
+// Whether two tables are equal, the left one accepted.
+fn compare_right(left: &[u8], right: &[u8]) -> Compared
+    requires { ⌜ checkImage (now left) ≡ Accepted ⌝ }
+    ensures { λ r. ⌜ r ≡ compareAnswer (now (left .entry)) (now (right .entry)) ⌝ }
+{
+    let checked = check(right);
+    let Checked::Refused(fault) = checked else {
+        return compare_accepted(left, right);
+    };
+    Compared::Refused(Side::Right, fault)
+}
+
+// Whether two tables are equal. A refused check ends the comparison with its own answer.
+pub fn compare(left: &[u8], right: &[u8]) -> Compared
+    ensures { λ r. ⌜ r ≡ compareAnswer (now (left .entry)) (now (right .entry)) ⌝ }
+{
+    let checked = check(left);
+    let Checked::Refused(fault) = checked else {
+        return compare_right(left, right);
+    };
+    Compared::Refused(Side::Left, fault)
+}
+
+// What two images are: one of them refused, left before right, or of unequal types, or neither.
+fn paired(left: &[u8], right: &[u8]) -> Paired
+    ensures { λ r. ⌜ r ≡ pairedOf (now (left .entry)) (now (right .entry)) ⌝ }
+{
+    let first = check(left);
+    if let Checked::Refused(fault) = first {
+        return Paired::Refused(Side::Left, fault);
+    }
+    let second = check(right);
+    if let Checked::Refused(fault) = second {
+        return Paired::Refused(Side::Right, fault);
+    }
+    if !types_equal(left, right, 0, 0, Place::Root, DEPTH) {
+        return Paired::UnequalTypes;
+    }
+    Paired::Agreed
 }
 
 // start + count exceeds the table's length.
@@ -73,6 +100,52 @@ fn out_of_range(image: &[u8], start: usize, count: usize) -> bool
     rows - start < count
 }
 
+// Whether `count` rows of each of two tables from their starts on lie within.
+fn bounds_of(
+    left: &[u8],
+    right: &[u8],
+    left_start: usize,
+    right_start: usize,
+    count: usize,
+) -> Bounds
+    ensures { λ r. ⌜ r ≡ boundsOf (now (left .entry)) (now (right .entry)) «left_start» «right_start» count ⌝ }
+{
+    if out_of_range(left, left_start, count) {
+        return Bounds::OutOfRange(Side::Left);
+    }
+    if out_of_range(right, right_start, count) {
+        return Bounds::OutOfRange(Side::Right);
+    }
+    Bounds::Within
+}
+
+// The comparison of ranges of two accepted tables of equal type.
+fn compare_agreed(
+    left: &[u8],
+    right: &[u8],
+    left_start: usize,
+    right_start: usize,
+    count: usize,
+) -> Compared
+    requires { ⌜ pairedOf (now left) (now right) ≡ Agreed ⌝ }
+    ensures { λ r. ⌜ r ≡ boundedAnswer (boundsOf (now (left .entry)) (now (right .entry)) «left_start» «right_start» count) (rangesEqual (now (left .entry)) (now (right .entry)) «left_start» «right_start» count) ⌝ }
+{
+    let bounds = bounds_of(left, right, left_start, right_start, count);
+    match bounds {
+        Bounds::OutOfRange(side) => Compared::OutOfRange(side),
+        Bounds::Within => yes_or_no(equal_range(
+            left,
+            0,
+            right,
+            0,
+            left_start,
+            right_start,
+            count,
+            DEPTH,
+        )),
+    }
+}
+
 // Whether `count` rows of two tables from their starts on are equal.
 pub fn compare_range(
     left: &[u8],
@@ -83,33 +156,11 @@ pub fn compare_range(
 ) -> Compared
     ensures { λ r. ⌜ r ≡ compareRangeAnswer (now (left .entry)) (now (right .entry)) «left_start» «right_start» count ⌝ }
 {
-    let first = check(left);
-    let Checked::Accepted = first else {
-        return refused(first, Side::Left);
-    };
-    let second = check(right);
-    let Checked::Accepted = second else {
-        return refused(second, Side::Right);
-    };
-    if !types_equal(left, right, 0, 0, Place::Root, DEPTH) {
-        return Compared::UnequalTypes;
-    }
-    if out_of_range(left, left_start, count) {
-        return Compared::OutOfRange(Side::Left);
-    }
-    if out_of_range(right, right_start, count) {
-        return Compared::OutOfRange(Side::Right);
-    }
-    yes_or_no(equal_range(left, 0, right, 0, left_start, right_start, count, DEPTH))
-}
-
-// What a refused check answers for a write; an accepted one has no such answer.
-fn not_written(checked: Checked) -> Written
-    ensures { λ r. ⌜ r ≡ afterCheck checked TooLong ⌝ }
-{
-    match checked {
-        Checked::Refused(fault) => Written::Refused(fault),
-        Checked::Accepted => Written::TooLong,
+    let both = paired(left, right);
+    match both {
+        Paired::Refused(side, fault) => Compared::Refused(side, fault),
+        Paired::UnequalTypes => Compared::UnequalTypes,
+        Paired::Agreed => compare_agreed(left, right, left_start, right_start, count),
     }
 }
 
@@ -119,9 +170,9 @@ pub fn write(image: &[u8], start: usize, count: usize, out: &mut [u8]) -> Writte
     ensures { λ _. ⌜ now (out .exit) ≡ writeOutput (now (image .entry)) start count (now (out .entry)) ⌝ }
 {
     let checked = check(image);
-    let Checked::Accepted = checked else {
-        return not_written(checked);
-    };
+    if let Checked::Refused(fault) = checked {
+        return Written::Refused(fault);
+    }
     if out_of_range(image, start, count) {
         return Written::OutOfRange;
     }

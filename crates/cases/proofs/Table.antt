@@ -17,7 +17,7 @@ use Rattle.image.specs.Types
 use Rattle.image.specs.Row
 use Rattle.image.specs.Equality
 use Rattle.image.specs.RowBytes
-use Rattle.image.specs.Answers
+use Rattle.answers.specs.Answers
 use Rattle.image.specs.Types.{sameBytes}
 use Rattle.cases.specs.Build
 use Rattle.cases.specs.Calls

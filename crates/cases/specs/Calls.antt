@@ -4,7 +4,9 @@ use mathlib.Core.Path.{_≡_}
 use mathlib.Core.List.{List, [], _∷_}
 use Prim.Native.Nat.{ℕ}
 use Rattle.image.specs.Faults.{checkImage}
-use Rattle.image.specs.Answers.{Numbers, checkedNumbers, comparedNumbers, writtenNumbers, compareAnswer, compareRangeAnswer, writeAnswer, writeOutput}
+use Rattle.answers.specs.Answers.{compareAnswer, compareRangeAnswer, writeAnswer, writeOutput}
+use Rattle.answers.specs.declared.numbers.Numbers.{Numbers}
+use Rattle.answers.specs.Numbers.{checkedNumbers, comparedNumbers, writtenNumbers}
 
 pub data Call : Type 0 where
   -- check an image

@@ -1,9 +1,9 @@
--- The part of a buffer that is lent is the part that is used, and the length that a write answers fits into 32 bits.
+-- The part of a buffer that is lent is the part that is used, and the value of every answer fits into 56 bits.
 -- A write answers no more bytes than its buffer has.
 use mathlib.Core.Path.{_≡_, refl, sym, ap, _∙_}
 use mathlib.Core.Bool.{Bool, true, false, cond}
 use mathlib.Core.List.{List, [], _++_, append-nil}
-use Prim.Native.Nat.{ℕ, _≤_, _<_, min}
+use Prim.Native.Nat.{ℕ, _≤_, _<_, _^_, min}
 use native.Mathlib.Omega.{arith}
 use lib.ListN.{length, take, drop, length-take, drop-of-length-le}
 use lib.Seq.{take-all}
@@ -11,37 +11,52 @@ use lib.Dec.{ltb}
 use borrow.Author.Tests.{ltb-true, ltb-false}
 use Rattle.image.specs.declared.answer.Checked.{Checked}
 use Rattle.image.specs.declared.answer.Checked.the-variants.{Accepted, Refused}
-use Rattle.image.specs.declared.answer.Written.{Written}
-use Rattle.image.specs.declared.answer.Written.the-variants.{Bytes, OutOfRange, TooLong}
+use Rattle.answers.specs.declared.Compared.{Compared}
+use Rattle.answers.specs.declared.Compared.the-variants.{Yes, No, Refused as CompareRefused, UnequalTypes, OutOfRange as RangeOut}
+use Rattle.answers.specs.declared.Written.{Written}
+use Rattle.answers.specs.declared.Written.the-variants.{Bytes, OutOfRange, TooLong}
 use Rattle.image.specs.Faults.{checkImage}
 use Rattle.image.specs.RowBytes.{rangeBytes}
-use Rattle.image.specs.Answers.{exceeds, afterCheck, writeRange, writeAnswer, writeOutput, writtenNumbers}
-use Rattle.editions_c.specs.Packed.{packed, most, used, unused, Short}
+use Rattle.answers.specs.Answers.{exceeds, afterCheck, writeRange, writeAnswer, writeOutput}
+use Rattle.answers.specs.Numbers.{checkedNumbers, comparedNumbers, writtenNumbers}
+use Rattle.editions_c.specs.Outputs.{most, used, unused}
 
--- an answer of a write into a buffer of less than 2 ^ 32 bytes
-answer-short : (s : List ℕ) (i n : ℕ) (out : List ℕ) {r : Written} → r ≡ writeAnswer s i n out → length out < 4294967296 → Short r
+-- the values of checks and comparisons
+pub checked-small : (answer : Checked) → checkedNumbers answer .value < 2 ^ 56
+checked-small Accepted = omega arith
+checked-small (Refused f) = omega arith
+
+pub compared-small : (answer : Compared) → comparedNumbers answer .value < 2 ^ 56
+compared-small Yes = omega arith
+compared-small No = omega arith
+compared-small (CompareRefused side f) = omega arith
+compared-small UnequalTypes = omega arith
+compared-small (RangeOut side) = omega arith
+
+-- the value of a write into a buffer of less than 2 ^ 56 bytes
+answer-small : (s : List ℕ) (i n : ℕ) (out : List ℕ) {r : Written} → r ≡ writeAnswer s i n out → length out < 2 ^ 56 → writtenNumbers r .value < 2 ^ 56
 unfolding writeAnswer writeRange
-answer-short s i n out e few = rw e (cases (checkImage s) (exceeds s i n) (ltb (length out) (length (rangeBytes s i n))) refl)
+answer-small s i n out e few = rw e (cases (checkImage s) (exceeds s i n) (ltb (length out) (length (rangeBytes s i n))) refl)
   where
     cases : (c : Checked) (beyond long : Bool) → ltb (length out) (length (rangeBytes s i n)) ≡ long
-        → Short (afterCheck c (cond beyond OutOfRange (cond long TooLong (Bytes (length (rangeBytes s i n))))))
-    cases (Refused f) beyond long is = tt
-    cases Accepted true long is = tt
-    cases Accepted false true is = tt
+        → writtenNumbers (afterCheck c (cond beyond OutOfRange (cond long TooLong (Bytes (length (rangeBytes s i n)))))) .value < 2 ^ 56
+    cases (Refused f) beyond long is = omega arith
+    cases Accepted true long is = omega arith
+    cases Accepted false true is = omega arith
     cases Accepted false false is =
         let h : length (rangeBytes s i n) ≤ length out = ltb-false _ _ is in
         omega arith
 
 -- the length that is lent
-pub short-used : (n : ℕ) → n < 4294967295 → n ≡ min n most
+pub short-used : (n : ℕ) → n < 72057594037927935 → n ≡ min n most
 unfolding most
 short-used n lt = omega arith
 
-pub long-used : (n : ℕ) → 4294967295 ≤ n → 4294967295 ≡ min n most
+pub long-used : (n : ℕ) → 72057594037927935 ≤ n → 72057594037927935 ≡ min n most
 unfolding most
 long-used n le = omega arith
 
-most-small : (n : ℕ) → min n most < 4294967296
+most-small : (n : ℕ) → min n most < 2 ^ 56
 unfolding most
 most-small n = omega arith
 
@@ -67,10 +82,10 @@ left-unused : (out : List ℕ) {end : ℕ} → end ≡ min (length out) most →
 unfolding unused
 left-unused out e = rw e (at-most out most .1)
 
-pub lent-short : (s : List ℕ) (i n : ℕ) (out : List ℕ) {end : ℕ} {r : Written} → end ≡ min (length out) most → r ≡ writeAnswer s i n (take end out) → Short r
-lent-short s i n out {end = end} ee er =
+pub lent-small : (s : List ℕ) (i n : ℕ) (out : List ℕ) {end : ℕ} {r : Written} → end ≡ min (length out) most → r ≡ writeAnswer s i n (take end out) → writtenNumbers r .value < 2 ^ 56
+lent-small s i n out {end = end} ee er =
     let few : length (take end out) ≤ end = rw (length-take end out) (omega arith) in
-    answer-short s i n (take end out) er (omega (arith, most-small (length out)))
+    answer-small s i n (take end out) er (omega (arith, most-small (length out)))
 
 -- the buffer after a write: what was written into the part that is lent, and the rest
 pub lent-output : (s : List ℕ) (i n : ℕ) (out : List ℕ) {end : ℕ} {after : List ℕ} → end ≡ min (length out) most → after ≡ writeOutput s i n (take end out)

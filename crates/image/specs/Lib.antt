@@ -9,4 +9,3 @@ pub mod Types
 pub mod Row
 pub mod Equality
 pub mod RowBytes
-pub mod Answers

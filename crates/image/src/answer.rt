@@ -1,4 +1,4 @@
-// The answers of the library's calls.
+// The answer of the image check. What the other calls answer stands in the crate `answers`.
 
 // The image that an answer speaks of. A call on one image takes it as the left one.
 pub enum Side {
@@ -16,26 +16,4 @@ pub struct Fault {
 pub enum Checked {
     Accepted,
     Refused(Fault),
-}
-
-// The answer of a comparison of tables or of ranges of their rows.
-pub enum Compared {
-    Yes,
-    No,
-    Refused(Side, Fault),
-    // 20: ranges of rows whose types differ
-    UnequalTypes,
-    // 21: start + count exceeds the length
-    OutOfRange(Side),
-}
-
-// The answer of a writer of rows.
-pub enum Written {
-    // so many bytes stand at the front of the buffer
-    Bytes(usize),
-    Refused(Fault),
-    // 21: start + count exceeds the length
-    OutOfRange,
-    // 43: the output is longer than the buffer
-    TooLong,
 }

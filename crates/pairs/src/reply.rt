@@ -1,9 +1,9 @@
 // An answer in document 01's numbers, and its line.
+use answers::Compared;
+use answers::Written;
 use image::answer::Checked;
-use image::answer::Compared;
 use image::answer::Fault;
 use image::answer::Side;
-use image::answer::Written;
 
 // What an answer does not return is 0.
 pub struct Reply {

@@ -13,7 +13,7 @@ use Rattle.image.specs.Types
 use Rattle.image.specs.Row
 use Rattle.image.specs.Equality
 use Rattle.image.specs.RowBytes
-use Rattle.image.specs.Answers
+use Rattle.answers.specs.Answers
 use Rattle.session.specs.Lines
 use Rattle.session.specs.Frames
 use Rattle.session.specs.Replies

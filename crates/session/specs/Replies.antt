@@ -8,12 +8,12 @@ use lib.Dec.{ltb}
 use Rattle.image.specs.declared.answer.Side.{Side}
 use Rattle.image.specs.declared.answer.Fault.{Fault}
 use Rattle.image.specs.declared.answer.Checked.{Checked}
-use Rattle.image.specs.declared.answer.Compared.{Compared}
-use Rattle.image.specs.declared.answer.Compared.the-variants.{Yes, No, Refused as CompareRefused, UnequalTypes, OutOfRange as RangeOut}
-use Rattle.image.specs.declared.answer.Written.{Written}
-use Rattle.image.specs.declared.answer.Written.the-variants.{Bytes as Wrote, Refused as WriteRefused, OutOfRange as WriteOut, TooLong}
+use Rattle.answers.specs.declared.Compared.{Compared}
+use Rattle.answers.specs.declared.Compared.the-variants.{Yes, No, Refused as CompareRefused, UnequalTypes, OutOfRange as RangeOut}
+use Rattle.answers.specs.declared.Written.{Written}
+use Rattle.answers.specs.declared.Written.the-variants.{Bytes as Wrote, Refused as WriteRefused, OutOfRange as WriteOut, TooLong}
 use Rattle.image.specs.Bytes.{numberBytes}
-use Rattle.image.specs.Answers.{sideNumber}
+use Rattle.answers.specs.Numbers.{sideNumber}
 use Rattle.session.specs.declared.reply.Reply.{Reply}
 use Rattle.session.specs.declared.reply.Reply.the-variants.{Done, Answer, Bytes, Refused, Faulty, OutOfRange}
 

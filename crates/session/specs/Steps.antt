@@ -10,7 +10,7 @@ use Rattle.image.specs.declared.answer.Side.the-variants.{Left, Right}
 use Rattle.image.specs.declared.answer.Checked.{Checked}
 use Rattle.image.specs.declared.answer.Checked.the-variants.{Accepted, Refused as CheckRefused}
 use Rattle.image.specs.Faults.{checkImage}
-use Rattle.image.specs.Answers.{compareAnswer, compareRangeAnswer, writeAnswer, writeOutput}
+use Rattle.answers.specs.Answers.{compareAnswer, compareRangeAnswer, writeAnswer, writeOutput}
 use Rattle.session.specs.declared.frame.Frame.{Frame}
 use Rattle.session.specs.declared.frame.Frame.the-variants.{Piece, Close, Compare, CompareRange, Write, Empty, Refused as BadFrame}
 use Rattle.session.specs.declared.reply.Reply.{Reply}

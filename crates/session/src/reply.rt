@@ -1,13 +1,13 @@
 // Replies, and the line of characters that each is printed as.
-use image::answer::Compared;
+use answers::Compared;
+use answers::Written;
 use image::answer::Fault;
 use image::answer::Side;
-use image::answer::Written;
 ghost use mathlib.Core.Path.{_≡_};
 ghost use mathlib.Core.List.{_++_};
 ghost use Prim.Native.Nat.{_+_, _/_, _%_, _≤_};
 ghost use lib.ListN.{length, take, drop};
-ghost use Rattle.image.specs.Answers.{sideNumber};
+ghost use Rattle.answers.specs.Numbers.{sideNumber};
 ghost use Rattle.session.specs.Replies.{comparedReply, writtenReply, outputBytes, agreedByte, replyBytes, digitText, lineText, replyLine};
 
 pub enum Reply {

@@ -9,17 +9,14 @@ use Rattle.api.proofs.write.Tie as tie
 check-requires : tie.Need-check-requires
 check-requires c κs = search needs
 
-enum-told : tie.Need-enum-told
-enum-told c = search needs
-
-enum-told-2 : tie.Need-enum-told-2
-enum-told-2 c = search needs
-
-not-written-requires : tie.Need-not-written-requires
-not-written-requires c κs = search needs
+enum-known-checked : tie.Need-enum-known-checked
+enum-known-checked c = search needs
 
 returns : tie.Need-returns
-returns c = write-refused _ _ _ _ (c .before .before .before .check .ensures) (c .before .enum-told2 .given .1) (c .not-written .ensures)
+returns c = write-refused _ _ _ _ (sym (c .before .before .before .check .ensures) ∙ c .before .checked .given .1)
+
+enum-told : tie.Need-enum-told
+enum-told c = search needs
 
 out-of-range-requires : tie.Need-out-of-range-requires
 out-of-range-requires c κs = search needs
@@ -33,11 +30,11 @@ measure-rows-requires c κs = table-side _ _ _ (sym (c .before .before .before .
 enum-known-rest : tie.Need-enum-known-rest
 enum-known-rest c = search needs
 
-enum-told-3 : tie.Need-enum-told-3
-enum-told-3 c = search needs
+enum-told-2 : tie.Need-enum-told-2
+enum-told-2 c = search needs
 
 returns-3 : tie.Need-returns-3
-returns-3 c = write-too-long _ _ _ _ (sym (c .before .before .before .before .before .before .before .check .ensures) ∙ c .before .before .before .before .before .enum-told .given .1) (sym (c .before .before .before .before .out-of-range .ensures) ∙ c .before .before .before .if1 .left) (sym (c .before .before .measure-rows .ensures) ∙ c .enum-told3 .given .1)
+returns-3 c = write-too-long _ _ _ _ (sym (c .before .before .before .before .before .before .before .check .ensures) ∙ c .before .before .before .before .before .enum-told .given .1) (sym (c .before .before .before .before .out-of-range .ensures) ∙ c .before .before .before .if1 .left) (sym (c .before .before .measure-rows .ensures) ∙ c .enum-told2 .given .1)
 
 write-rows-requires : tie.Need-write-rows-requires
 write-rows-requires c κs = (table-side _ _ _ (sym (c .before .before .before .before .before .before .before .before .before .check .ensures) ∙ c .before .before .before .before .before .before .before .enum-told .given .1) (sym (c .before .before .before .before .before .before .out-of-range .ensures) ∙ c .before .before .before .before .before .if1 .left), write-fits _ _ _ _ (sym (c .before .before .before .before .before .before .before .before .before .check .ensures) ∙ c .before .before .before .before .before .before .before .enum-told .given .1) (sym (c .before .before .before .before .measure-rows .ensures) ∙ c .before .before .rest .given .1))
@@ -53,15 +50,14 @@ write-spec =
     tie.close
     (tie.spec
     check-requires
-    enum-told
-    enum-told-2
-    not-written-requires
+    enum-known-checked
     returns
+    enum-told
     out-of-range-requires
     returns-2
     measure-rows-requires
     enum-known-rest
-    enum-told-3
+    enum-told-2
     returns-3
     write-rows-requires
     same-length

@@ -1,5 +1,6 @@
 -- The number is that of the comparison's answer.
 -- By the contracts of the comparison and of the number.
+use Rattle.editions_c.proofs.Outputs.{compared-small}
 use borrow.Author.Needs.{needs}
 use Rattle.editions_c.proofs.editions_compare.Statement.{statement}
 use Rattle.editions_c.proofs.editions_compare.Tie as tie
@@ -7,11 +8,14 @@ use Rattle.editions_c.proofs.editions_compare.Tie as tie
 compare-requires : tie.Need-compare-requires
 compare-requires c κs = search needs
 
-pack-compared-requires : tie.Need-pack-compared-requires
-pack-compared-requires c κs = search needs
+compared-numbers-requires : tie.Need-compared-numbers-requires
+compared-numbers-requires c κs = search needs
+
+pack-requires : tie.Need-pack-requires
+pack-requires c κs = rw (c .compared-numbers .ensures) (compared-small (c .before .compare .result))
 
 returns : tie.Need-returns
-returns c = rw (← c .before .compare .ensures) (c .pack-compared .ensures)
+returns c = rw (← c .before .before .compare .ensures, ← c .before .compared-numbers .ensures) (c .pack .ensures)
 
 pub editions-compare-spec : {M : Type 1} → statement M
-editions-compare-spec = tie.close (tie.spec compare-requires pack-compared-requires returns)
+editions-compare-spec = tie.close (tie.spec compare-requires compared-numbers-requires pack-requires returns)

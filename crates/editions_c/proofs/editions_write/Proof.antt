@@ -2,7 +2,7 @@
 -- By the contracts of the write and of the number, over the part of the buffer that is lent.
 use native.Mathlib.Omega.{arith}
 use lib.ListN.{length-take}
-use Rattle.editions_c.proofs.Outputs.{lent-used, lent-short, lent-output}
+use Rattle.editions_c.proofs.Outputs.{lent-used, lent-small, lent-output}
 use borrow.Author.Needs.{needs}
 use Rattle.editions_c.proofs.editions_write.Statement.{statement}
 use Rattle.editions_c.proofs.editions_write.Tie as tie
@@ -19,14 +19,17 @@ slice-aggregate-write c = simp length-take (omega (arith, c .before .used-length
 write-requires : tie.Need-write-requires
 write-requires c κs = search needs
 
-pack-written-requires : tie.Need-pack-written-requires
-pack-written-requires c κs = lent-short _ _ _ _ (c .before .before .before .before .used-length .ensures) (c .before .before .write .ensures .0)
+written-numbers-requires : tie.Need-written-numbers-requires
+written-numbers-requires c κs = search needs
+
+pack-requires : tie.Need-pack-requires
+pack-requires c κs = rw (c .written-numbers .ensures) (lent-small _ _ _ _ (c .before .before .before .before .before .used-length .ensures) (c .before .before .before .write .ensures .0))
 
 same-length : tie.Need-same-length
 same-length c = search needs
 
 returns : tie.Need-returns
-returns c = (rw (← lent-used _ (c .before .before .before .before .before .used-length .ensures), ← c .before .before .before .write .ensures .0) (c .pack-written .ensures), lent-output _ _ _ _ (c .before .before .before .before .before .used-length .ensures) (c .before .before .before .write .ensures .1))
+returns c = (rw (← lent-used _ (c .before .before .before .before .before .before .used-length .ensures), ← c .before .before .before .before .write .ensures .0, ← c .before .written-numbers .ensures) (c .pack .ensures), lent-output _ _ _ _ (c .before .before .before .before .before .before .used-length .ensures) (c .before .before .before .before .write .ensures .1))
 
 pub editions-write-spec : {M : Type 1} → statement M
 editions-write-spec =
@@ -36,6 +39,7 @@ editions-write-spec =
     slice-relend-prefix-write
     slice-aggregate-write
     write-requires
-    pack-written-requires
+    written-numbers-requires
+    pack-requires
     same-length
     returns)

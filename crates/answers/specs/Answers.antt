@@ -1,0 +1,103 @@
+-- What each of the library's calls answers, for all inputs.
+use mathlib.Core.Bool.{Bool, true, false, cond, not}
+use mathlib.Core.List.{List, _++_}
+use Prim.Native.Nat.{ℕ, _+_}
+use lib.ListN.{length, drop}
+use lib.Dec.{ltb}
+use Rattle.image.specs.declared.answer.Side.{Side}
+use Rattle.image.specs.declared.answer.Side.the-variants.{Left, Right}
+use Rattle.image.specs.declared.answer.Fault.{Fault}
+use Rattle.image.specs.declared.answer.Checked.{Checked}
+use Rattle.image.specs.declared.answer.Checked.the-variants.{Accepted, Refused}
+use Rattle.image.specs.Record.{lengthOf}
+use Rattle.image.specs.Faults.{checkImage}
+use Rattle.image.specs.Types.{typesAgree}
+use Rattle.image.specs.Equality.{rangesEqual, tablesEqual}
+use Rattle.image.specs.RowBytes.{rangeBytes}
+use Rattle.answers.specs.declared.Paired.{Paired}
+use Rattle.answers.specs.declared.Paired.the-variants.{Agreed, Refused as PairRefused, UnequalTypes as PairUnequal}
+use Rattle.answers.specs.declared.Bounds.{Bounds}
+use Rattle.answers.specs.declared.Bounds.the-variants.{Within, OutOfRange as BoundsOut}
+use Rattle.answers.specs.declared.Compared.{Compared}
+use Rattle.answers.specs.declared.Compared.the-variants.{Yes, No, Refused as CompareRefused, UnequalTypes, OutOfRange}
+use Rattle.answers.specs.declared.Written.{Written}
+use Rattle.answers.specs.declared.Written.the-variants.{Bytes, Refused as WriteRefused, OutOfRange as WriteOutOfRange, TooLong}
+
+abbrev pub yesOrNo : Bool → Compared
+yesOrNo true = Yes
+yesOrNo false = No
+
+-- Whole comparison. "The left image is checked wholly before the right"; a refused check ends the comparison.
+abbrev pub afterChecks : Checked → Checked → Compared → Compared
+afterChecks (Refused f) r c = CompareRefused Left f
+afterChecks Accepted (Refused f) c = CompareRefused Right f
+afterChecks Accepted Accepted c = c
+
+-- unequal types or lengths are a no
+unfoldable pub compareAnswer : List ℕ → List ℕ → Compared
+compareAnswer s t =
+    let rest = yesOrNo (tablesEqual s t) in
+    afterChecks (checkImage s) (checkImage t) rest
+
+-- What every call on ranges of two tables begins with: 10 to 18 of the left image, then of the right, then 20.
+abbrev pub pairedAfter : Checked → Checked → Bool → Paired
+pairedAfter (Refused f) r agree = PairRefused Left f
+pairedAfter Accepted (Refused f) agree = PairRefused Right f
+pairedAfter Accepted Accepted true = Agreed
+pairedAfter Accepted Accepted false = PairUnequal
+
+unfoldable pub pairedOf : List ℕ → List ℕ → Paired
+pairedOf s t =
+    let agree = typesAgree s t in
+    pairedAfter (checkImage s) (checkImage t) agree
+
+-- 21: "start + count exceeds the length"
+unfoldable pub exceeds : List ℕ → ℕ → ℕ → Bool
+exceeds s start n = ltb (lengthOf s 0) (start + n)
+
+-- of two ranges, "left first"
+unfoldable pub boundsOf : List ℕ → List ℕ → ℕ → ℕ → ℕ → Bounds
+boundsOf s t i j n = cond (exceeds s i n) (BoundsOut Left) (cond (exceeds t j n) (BoundsOut Right) Within)
+
+-- range comparison: what the two images are, then whether the ranges lie within, then the rows
+abbrev pub boundedAnswer : Bounds → Bool → Compared
+boundedAnswer (BoundsOut side) equal = OutOfRange side
+boundedAnswer Within equal = yesOrNo equal
+
+abbrev pub pairedAnswer : Paired → Compared → Compared
+pairedAnswer (PairRefused side f) c = CompareRefused side f
+pairedAnswer PairUnequal c = UnequalTypes
+pairedAnswer Agreed c = c
+
+unfoldable pub compareRangeAnswer : List ℕ → List ℕ → ℕ → ℕ → ℕ → Compared
+compareRangeAnswer s t i j n =
+    let equal = rangesEqual s t i j n in
+    let bounded = boundedAnswer (boundsOf s t i j n) equal in
+    pairedAnswer (pairedOf s t) bounded
+
+-- 43: "output longer than the buffer"
+unfoldable pub writeRange : List ℕ → ℕ → ℕ → List ℕ → Written
+writeRange s i n out = cond (ltb (length out) (length (rangeBytes s i n))) TooLong (Bytes (length (rangeBytes s i n)))
+
+-- a write: 10 to 18, then 21, then 43
+abbrev pub afterCheck : Checked → Written → Written
+afterCheck (Refused f) w = WriteRefused f
+afterCheck Accepted w = w
+
+unfoldable pub writeAnswer : List ℕ → ℕ → ℕ → List ℕ → Written
+writeAnswer s i n out =
+    let rest = writeRange s i n out in
+    let ranged = cond (exceeds s i n) WriteOutOfRange rest in
+    afterCheck (checkImage s) ranged
+
+-- the buffer afterwards: the range's bytes and then what it held; unchanged by a refusal
+abbrev pub writtenOver : Written → List ℕ → List ℕ → List ℕ
+writtenOver (Bytes n) bytes out = bytes ++ drop n out
+writtenOver (WriteRefused f) bytes out = out
+writtenOver WriteOutOfRange bytes out = out
+writtenOver TooLong bytes out = out
+
+unfoldable pub writeOutput : List ℕ → ℕ → ℕ → List ℕ → List ℕ
+writeOutput s i n out =
+    let bytes = rangeBytes s i n in
+    writtenOver (writeAnswer s i n out) bytes out

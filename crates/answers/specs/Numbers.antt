@@ -1,0 +1,52 @@
+-- The number, side, node and value of every answer, and these as one number of 64 bits.
+use mathlib.Core.Bool.{cond}
+use Prim.Native.Nat.{ℕ, _+_, _*_}
+use lib.Dec.{eqb}
+use Rattle.image.specs.declared.answer.Side.{Side}
+use Rattle.image.specs.declared.answer.Side.the-variants.{Left, Right}
+use Rattle.image.specs.declared.answer.Fault.{Fault}
+use Rattle.image.specs.declared.answer.Checked.{Checked}
+use Rattle.image.specs.declared.answer.Checked.the-variants.{Accepted, Refused}
+use Rattle.answers.specs.declared.Compared.{Compared}
+use Rattle.answers.specs.declared.Compared.the-variants.{Yes, No, Refused as CompareRefused, UnequalTypes, OutOfRange}
+use Rattle.answers.specs.declared.Written.{Written}
+use Rattle.answers.specs.declared.Written.the-variants.{Bytes, Refused as WriteRefused, OutOfRange as WriteOutOfRange, TooLong}
+use Rattle.answers.specs.declared.numbers.Numbers.{Numbers}
+
+-- An answer in document 01's numbers: 0 or the refusal's number; the side, 0 left and 1 right; the node; the value.
+-- What an answer does not return is 0.
+abbrev pub numbers : ℕ → ℕ → ℕ → ℕ → Numbers
+numbers number side node value = record { number = number; side = side; node = node; value = value }
+
+abbrev pub sideNumber : Side → ℕ
+sideNumber Left = 0
+sideNumber Right = 1
+
+-- "10 to 18 return side and node"
+abbrev pub faultNumbers : Side → Fault → Numbers
+faultNumbers side f = numbers (f .number) (sideNumber side) (f .node) 0
+
+-- "A library call on one image takes it as left."
+abbrev pub checkedNumbers : Checked → Numbers
+checkedNumbers Accepted = numbers 0 0 0 0
+checkedNumbers (Refused f) = faultNumbers Left f
+
+-- yes is 1, no is 0; "21 its side", "the others only the number"
+abbrev pub comparedNumbers : Compared → Numbers
+comparedNumbers Yes = numbers 0 0 0 1
+comparedNumbers No = numbers 0 0 0 0
+comparedNumbers (CompareRefused side f) = faultNumbers side f
+comparedNumbers UnequalTypes = numbers 20 0 0 0
+comparedNumbers (OutOfRange side) = numbers 21 (sideNumber side) 0 0
+
+-- the value of a write is how many bytes it put out
+abbrev pub writtenNumbers : Written → Numbers
+writtenNumbers (Bytes n) = numbers 0 0 0 n
+writtenNumbers (WriteRefused f) = faultNumbers Left f
+writtenNumbers WriteOutOfRange = numbers 21 0 0 0
+writtenNumbers TooLong = numbers 43 0 0 0
+
+-- One number of 64 bits: bits 0 to 7 the refusal's number, or 0. Where it is 0, bits 8 to 63 the value; else bits 8 to 15
+-- the side and bits 16 to 31 the node.
+unfoldable pub packed : Numbers → ℕ
+packed n = cond (eqb (n .number) 0) (256 * n .value) (n .number + 256 * n .side + 65536 * n .node)

@@ -1,0 +1,46 @@
+// What the library's calls answer, each call with an enum of its own, and the numbers of every answer.
+pub mod numbers;
+
+use image::answer::Fault;
+use image::answer::Side;
+
+// What two images are found to be before their rows are compared.
+pub enum Paired {
+    // both are accepted, and their types agree
+    Agreed,
+    // 10 to 18
+    Refused(Side, Fault),
+    // 20: the types differ
+    UnequalTypes,
+}
+
+// Whether two ranges of rows lie within their tables.
+pub enum Bounds {
+    Within,
+    // 21: start + count exceeds the length
+    OutOfRange(Side),
+}
+
+// The answer of a comparison of tables or of ranges of their rows.
+pub enum Compared {
+    Yes,
+    No,
+    // 10 to 18
+    Refused(Side, Fault),
+    // 20: ranges of rows whose types differ
+    UnequalTypes,
+    // 21: start + count exceeds the length
+    OutOfRange(Side),
+}
+
+// The answer of a writer of rows.
+pub enum Written {
+    // so many bytes stand at the front of the buffer
+    Bytes(usize),
+    // 10 to 18
+    Refused(Fault),
+    // 21: start + count exceeds the length
+    OutOfRange,
+    // 43: the output is longer than the buffer
+    TooLong,
+}
