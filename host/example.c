@@ -5,9 +5,17 @@
 #include <stdio.h>
 #include <string.h>
 
+/* The sizes of an image's header, of a node's record and of a buffer's entry. */
+enum { HEADER = 4, RECORD = 44, ENTRY = 8 };
+
+/* Of a record: where its type code stands, two codes, and a flag. */
+enum { CODE = 0, INT8 = 2, NO_SUCH_CODE = 44, HAS_BITMAP = 2 };
+
+enum { ROWS = 3, MOST_BYTES = 256 };
+
 /* An image under construction. */
 struct image {
-    uint8_t bytes[256];
+    uint8_t bytes[MOST_BYTES];
     size_t length;
 };
 
@@ -20,12 +28,12 @@ static void put(struct image *image, size_t width, uint32_t value)
 /* One node of Int8 with a bitmap: the header, the node's record, its buffer's entry, the values, the bitmap. */
 static void int8_table(struct image *image, const uint8_t *values, uint32_t count, uint8_t bitmap)
 {
-    const uint32_t data = 4 + 44 + 8;
+    const uint32_t data = HEADER + RECORD + ENTRY;
     image->length = 0;
     put(image, 2, 1);            /* nodes */
     put(image, 2, 1);            /* buffers */
-    put(image, 1, 2);            /* type code: Int8 */
-    put(image, 1, 2);            /* flags: has a bitmap */
+    put(image, 1, INT8);         /* type code */
+    put(image, 1, HAS_BITMAP);   /* flags */
     put(image, 1, 0);            /* type id */
     put(image, 1, 0);            /* name length */
     put(image, 4, 0);            /* p1 */
@@ -58,26 +66,27 @@ static void report(const char *what, uint64_t answer)
 
 int main(void)
 {
-    const uint8_t january[] = {5, 0, 7};
-    const uint8_t june[] = {5, 9, 7};
+    const uint8_t january[ROWS] = {5, 0, 7};
+    const uint8_t june[ROWS] = {5, 9, 7};
+    const uint8_t bitmap = 5; /* rows 0 and 2 are not null */
     struct image left, right;
     uint8_t rows[16];
 
-    int8_table(&left, january, 3, 5);
-    int8_table(&right, june, 3, 5);
+    int8_table(&left, january, ROWS, bitmap);
+    int8_table(&right, june, ROWS, bitmap);
     report("check the left table", editions_check(left.bytes, left.length));
     report("check the right table", editions_check(right.bytes, right.length));
     report("compare", editions_compare(left.bytes, left.length, right.bytes, right.length));
 
-    uint64_t answer = editions_write(left.bytes, left.length, 0, 3, rows, sizeof rows);
+    uint64_t answer = editions_write(left.bytes, left.length, 0, ROWS, rows, sizeof rows);
     report("write the left rows", answer);
     printf("the bytes:");
     for (uint32_t k = 0; k < editions_value(answer); k++)
         printf(" %02x", rows[k]);
     printf("\n");
 
-    report("write into four bytes", editions_write(left.bytes, left.length, 0, 3, rows, 4));
-    left.bytes[4] = 44; /* no such type code */
+    report("write into four bytes", editions_write(left.bytes, left.length, 0, ROWS, rows, 4));
+    left.bytes[HEADER + CODE] = NO_SUCH_CODE; /* of node 0 */
     report("compare a damaged table", editions_compare(left.bytes, left.length, right.bytes, right.length));
     return 0;
 }

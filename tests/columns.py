@@ -5,18 +5,15 @@ gives rows a layout: offsets, first bits, garbage under nulls, keys and runs and
 rows make equal tables.
 """
 
-from model import BOOLEAN, DENSE_UNION, DICTIONARY, FIXED_SIZE_BINARY, FIXED_SIZE_LIST, LIST_VIEWS, LISTS, MAP, NULL, OFFSET_WIDTH
-from model import P1, RUN_END_ENCODED, SPARSE_UNION, STRUCT, TEXTS, UNIONS, VIEWS, WIDTHS
+from image import FIELDS, INLINE, LONGEST_NAME, VIEW, by_level, flags, number, tables, tables_size, view
+from model import BOOLEAN, DENSE_UNION, DICTIONARY, FIXED_SIZE_BINARY, FIXED_SIZE_LIST, LIST, LIST_VIEWS, LISTS, MAP, NULL
+from model import OFFSET_WIDTH, P1, RUN_END_ENCODED, SPARSE_UNION, STRUCT, TEXTS, UNIONS, VIEWS, WIDTHS
 
-LEAVES = [NULL, BOOLEAN, *range(2, 33)]
-NESTED = [*range(33, 44)]
+LEAVES = [NULL, BOOLEAN, *range(2, LIST)]
+NESTED = [*range(LIST, RUN_END_ENCODED + 1)]
 
 # how long texts that are not among the usual few are
 TEXT_LENGTHS = [1, 4, 12, 13, 20]
-
-
-def number(width, value):
-    return (value % 256**width).to_bytes(width, "little")
 
 
 class Type:
@@ -43,7 +40,7 @@ def random_type(rng, depth=3, code=None):
     """A type of at most that depth."""
     if code is None:
         code = rng.choice(LEAVES if depth <= 1 else LEAVES + NESTED * 3)
-    made = Type(code, name=rng.randbytes(rng.choice([0, 0, 1, 3, 64])), nullable=rng.random() < 0.5)
+    made = Type(code, name=rng.randbytes(rng.choice([0, 0, 1, 3, LONGEST_NAME])), nullable=rng.random() < 0.5)
     low, high = P1.get(code, (0, 0))
     made.p1 = rng.choice([0, 1, 2, 3, 7, 16]) if code in (FIXED_SIZE_BINARY,) else rng.choice([0, 1, 2, 3]) if code == FIXED_SIZE_LIST else rng.randint(low, high)
     if 15 <= code <= 18:
@@ -170,12 +167,12 @@ def lay_views(rng, stored, judged, odd):
     views = b""
     for text, counts in zip(stored, judged):
         if not counts and rng.random() < odd:
-            views += rng.randbytes(16)
-        elif len(text) <= 12:
-            views += number(4, len(text)) + text.ljust(12, b"\x00")
+            views += rng.randbytes(VIEW)
+        elif len(text) <= INLINE:
+            views += view(text)
         else:
             k = rng.randrange(len(data))
-            views += number(4, len(text)) + text[:4] + number(4, k) + number(4, len(data[k]))
+            views += view(text, k, len(data[k]))
             data[k] += text + rng.randbytes(rng.choice([0, 2]))
     return [views] + [bytes(part) for part in data]
 
@@ -272,13 +269,9 @@ def lay_runs(rng, type, stored, odd, plain):
 
 
 def image(rng, root, plain=False):
-    """The bytes of a laid out column: nodes depth by depth, then the buffers, bitmaps and names, in any order and apart."""
-    nodes, level = [], [root]
-    while level:
-        nodes += level
-        level = [child for node in level for child in node.children]
-    count = sum(len(node.buffers) for node in nodes)
-    place = 4 + 44 * len(nodes) + 8 * count
+    """The bytes of a laid out column: nodes level by level, then the buffers, bitmaps and names, in any order and apart."""
+    nodes = by_level(root)
+    start = tables_size(len(nodes), sum(len(node.buffers) for node in nodes))
     parts = [part for node in nodes for part in (*node.buffers, node.bitmap, node.type.name) if part]
     if not plain:
         rng.shuffle(parts)
@@ -287,25 +280,25 @@ def image(rng, root, plain=False):
         if part in places and not plain:
             continue
         data += rng.randbytes(rng.choice([0, 0, 0, 1, 5])) if not plain else b""
-        places[part] = place + len(data)
+        places[part] = start + len(data)
         data += part
-    garbage = (lambda width: 0) if plain else (lambda width: rng.randrange(256**width))
-    records, entries, child, buffer = b"", b"", 1, 0
-    for node in nodes:
+
+    def garbage(field):
+        """What a field holds that is not read."""
+        return 0 if plain else rng.randrange(256 ** FIELDS[field])
+
+    def described(node):
         t = node.type
-        records += bytes([t.code, t.nullable + 2 * (node.bitmap is not None), t.id, len(t.name)])
-        records += number(4, t.p1) + number(4, t.p2) + number(4, node.length) + number(4, node.offset)
-        records += number(4, places[t.name] if t.name else garbage(4))
+        fields = dict(code=t.code, flags=flags(t.nullable, node.bitmap is not None), type_id=t.id, p1=t.p1, p2=t.p2)
+        fields |= dict(length=node.length, offset=node.offset, name_length=len(t.name))
+        fields["name_place"] = places[t.name] if t.name else garbage("name_place")
         if node.bitmap is None:
-            records += number(4, garbage(4)) + number(4, garbage(4)) + number(4, garbage(4))
+            fields |= {field: garbage(field) for field in ("bitmap_place", "bitmap_length", "first_bit")}
         else:
-            records += number(4, places.get(node.bitmap, 0)) + number(4, len(node.bitmap)) + number(4, node.first_bit)
-        records += number(2, child) + number(2, len(node.children)) + number(2, buffer) + number(2, len(node.buffers))
-        for stored in node.buffers:
-            entries += number(4, places.get(stored, 0)) + number(4, len(stored))
-        child += len(node.children)
-        buffer += len(node.buffers)
-    return number(2, len(nodes)) + number(2, count) + records + entries + data
+            fields |= dict(bitmap_place=places.get(node.bitmap, 0), bitmap_length=len(node.bitmap), first_bit=node.first_bit)
+        return fields, [(places.get(stored, 0), len(stored)) for stored in node.buffers]
+
+    return b"".join(tables(nodes, described)) + data
 
 
 def change_row(rng, type, row):
@@ -389,7 +382,7 @@ def damage(rng, data):
             data += rng.randbytes(rng.randint(1, 8))
         elif data:
             # half of the changes hit the header and the tables
-            end = min(len(data), 4 + 44 * data[0] + 8) if rng.random() < 0.6 else len(data)
+            end = min(len(data), tables_size(data[0], 1)) if rng.random() < 0.6 else len(data)
             at = rng.randrange(end)
             data[at] = rng.choice([0, 1, 255, data[at] ^ (1 << rng.randrange(8)), rng.randrange(256)])
     return bytes(data)

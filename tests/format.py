@@ -38,7 +38,7 @@ def main():
     for size, data, told in images:
         assert len(data) == size, f"{len(data)} bytes and not {size}"
         assert model.check(data) == (0, 0, 0, 0), f"refused: {model.check(data)}"
-        rows = model.unsigned(data, 16, 4)
+        rows = model.Image(data).nodes[0].length
         written = model.write(data, 0, rows, 1 << 20)[1]
         assert written == told, f"the rows' bytes are {written.hex(' ')}"
     print(f"format: {len(images)} worked images are as the model has them")

@@ -9,8 +9,43 @@ UTF8, BINARY, LARGE_UTF8, LARGE_BINARY, FIXED_SIZE_BINARY, UTF8_VIEW, BINARY_VIE
 LIST, LARGE_LIST, LIST_VIEW, LARGE_LIST_VIEW, FIXED_SIZE_LIST, STRUCT = 33, 34, 35, 36, 37, 38
 DENSE_UNION, SPARSE_UNION, DICTIONARY, MAP, RUN_END_ENCODED = 39, 40, 41, 42, 43
 
+LAST_CODE = RUN_END_ENCODED
+
+# The sizes of the header, of a node's record and of a buffer's entry. These, the fields and the limits below are read from
+# document 01 once more: what lays images out (tests/image.py) has its own, and neither takes anything from the other.
+HEADER, RECORD, ENTRY = 4, 44, 8
+
+# The fields of a record: place and width.
+FIELDS = {
+    "code": (0, 1),
+    "flags": (1, 1),
+    "id": (2, 1),
+    "name_length": (3, 1),
+    "p1": (4, 4),
+    "p2": (8, 4),
+    "length": (12, 4),
+    "offset": (16, 4),
+    "name_place": (20, 4),
+    "bitmap_place": (24, 4),
+    "bitmap_length": (28, 4),
+    "first_bit": (32, 4),
+    "first_child": (36, 2),
+    "child_count": (38, 2),
+    "first_buffer": (40, 2),
+    "buffer_count": (42, 2),
+}
+SIGNED = {"p1", "p2"}
+
+NULLABLE, HAS_BITMAP = 1, 2
+
 LONGEST_IMAGE = 16_777_216
-MOST_ELEMENTS = 1_073_741_824
+MOST_NODES, MOST_BUFFERS, MOST_ELEMENTS = 256, 1_024, 1_073_741_824
+DEEPEST, LONGEST_NAME, LAST_ID = 16, 64, 127
+# the width of a FixedSizeBinary, the rows of a FixedSizeList
+WIDEST = 16_777_216
+
+# a view, and the longest text that stands in it
+VIEW, INLINE = 16, 12
 
 # the widths of the codes 2 to 25
 WIDTHS = {2: 1, 3: 2, 4: 4, 5: 8, 6: 1, 7: 2, 8: 4, 9: 8, 10: 2, 11: 4, 12: 8, 13: 4, 14: 8}
@@ -18,7 +53,7 @@ WIDTHS |= {15: 4, 16: 8, 17: 16, 18: 32, 19: 4, 20: 8, 21: 8, 22: 8, 23: 4, 24: 
 
 # (lowest, highest) p1 of the codes that use it
 P1 = {15: (1, 9), 16: (1, 18), 17: (1, 38), 18: (1, 76), 19: (0, 1), 20: (2, 3), 21: (0, 3), 22: (0, 3)}
-P1 |= {30: (0, 16_777_216), 37: (0, 16_777_216), 41: (2, 9), 42: (0, 1)}
+P1 |= {30: (0, WIDEST), 37: (0, WIDEST), 41: (2, 9), 42: (0, 1)}
 
 OFFSET_WIDTH = {UTF8: 4, BINARY: 4, LARGE_UTF8: 8, LARGE_BINARY: 8, LIST: 4, LARGE_LIST: 8, LIST_VIEW: 4, LARGE_LIST_VIEW: 8, MAP: 4}
 
@@ -46,16 +81,15 @@ class Fault(Exception):
 
 
 class Record:
+    """What a node's record says, under the names of FIELDS."""
+
     def __init__(self, data, node):
-        at = 4 + 44 * node
-        self.code, self.flags, self.id, self.name_length = data[at : at + 4]
-        self.p1, self.p2 = signed(data, at + 4, 4), signed(data, at + 8, 4)
-        self.length, self.offset, self.name_place = (unsigned(data, at + k, 4) for k in (12, 16, 20))
-        self.bitmap_place, self.bitmap_length, self.first_bit = (unsigned(data, at + k, 4) for k in (24, 28, 32))
-        self.first_child, self.child_count, self.first_buffer, self.buffer_count = (unsigned(data, at + k, 2) for k in (36, 38, 40, 42))
+        at = HEADER + RECORD * node
+        for field, (place, width) in FIELDS.items():
+            setattr(self, field, (signed if field in SIGNED else unsigned)(data, at + place, width))
         self.elements = self.length + self.offset
-        self.has_bitmap = self.flags & 2 != 0
-        self.nullable = self.flags & 1 != 0
+        self.has_bitmap = self.flags & HAS_BITMAP != 0
+        self.nullable = self.flags & NULLABLE != 0
 
 
 class Image:
@@ -63,13 +97,14 @@ class Image:
 
     def __init__(self, data):
         self.data = data
-        if len(data) < 4 or len(data) > LONGEST_IMAGE:
+        if len(data) < HEADER or len(data) > LONGEST_IMAGE:
             raise Fault(10)
         n, m = unsigned(data, 0, 2), unsigned(data, 2, 2)
-        if not 1 <= n <= 256 or m > 1024 or len(data) < 4 + 44 * n + 8 * m:
+        entries = HEADER + RECORD * n
+        if not 1 <= n <= MOST_NODES or m > MOST_BUFFERS or len(data) < entries + ENTRY * m:
             raise Fault(10)
         self.nodes = [Record(data, node) for node in range(n)]
-        self.entries = [(unsigned(data, 4 + 44 * n + 8 * k, 4), unsigned(data, 8 + 44 * n + 8 * k, 4)) for k in range(m)]
+        self.entries = [(unsigned(data, at, 4), unsigned(data, at + 4, 4)) for at in range(entries, entries + ENTRY * m, ENTRY)]
 
     def children(self, node):
         record = self.nodes[node]
@@ -94,7 +129,7 @@ class Image:
 
     def fault_11(self, node):
         r = self.nodes[node]
-        if r.code > 43 or r.flags > 3:
+        if r.code > LAST_CODE or r.flags > NULLABLE + HAS_BITMAP:
             return True
         low, high = P1.get(r.code, (0, 0))
         if not low <= r.p1 <= high:
@@ -122,13 +157,13 @@ class Image:
         if r.first_child != start or not r.first_child > node or start + r.child_count > len(nodes):
             return True
         parent = self.parent(node)
-        if self.depth(node) > 16:
+        if self.depth(node) > DEEPEST:
             return True
         if r.id != 0 and (parent is None or nodes[parent].code not in UNIONS):
             return True
         if r.code in UNIONS:
             ids = [nodes[c].id for c in self.children(node)]
-            if any(x > 127 for x in ids) or any(x >= y for x, y in zip(ids, ids[1:])):
+            if any(x > LAST_ID for x in ids) or any(x >= y for x, y in zip(ids, ids[1:])):
                 return True
         if r.code == MAP:
             entries = nodes[r.first_child]
@@ -154,13 +189,13 @@ class Image:
         while node != 0 and seen <= len(self.nodes):
             above = self.parent(node)
             if above is None or above >= node:
-                return 17
+                return DEEPEST + 1
             node, depth, seen = above, depth + 1, seen + 1
         return depth
 
     def fault_13(self, node):
         r = self.nodes[node]
-        return r.name_length > 64 or (r.name_length > 0 and r.name_place + r.name_length > len(self.data))
+        return r.name_length > LONGEST_NAME or (r.name_length > 0 and r.name_place + r.name_length > len(self.data))
 
     def fault_14(self, node):
         r = self.nodes[node]
@@ -194,7 +229,7 @@ class Image:
         if r.code == DICTIONARY:
             whole.append((0, WIDTHS[r.p1]))
         if r.code in VIEWS:
-            whole.append((0, 16))
+            whole.append((0, VIEW))
         return any(self.buffer(node, k)[1] % width for k, width in whole)
 
     def fault_15(self, node):
@@ -209,7 +244,7 @@ class Image:
         if r.code in LIST_VIEWS:
             return min(lengths) < e * OFFSET_WIDTH[r.code]
         if r.code in VIEWS:
-            return lengths[0] < 16 * e
+            return lengths[0] < VIEW * e
         if r.code == DENSE_UNION:
             return lengths[0] < e or lengths[1] < 4 * e
         if r.code == SPARSE_UNION:
@@ -274,10 +309,10 @@ class Image:
         return False
 
     def bad_view(self, node, j):
-        data, at = self.data, self.buffer(node, 0)[0] + 16 * j
+        data, at = self.data, self.buffer(node, 0)[0] + VIEW * j
         length = unsigned(data, at, 4)
-        if length <= 12:
-            return any(data[at + 4 + length : at + 16])
+        if length <= INLINE:
+            return any(data[at + 4 + length : at + VIEW])
         buffer, offset = unsigned(data, at + 8, 4), unsigned(data, at + 12, 4)
         if 1 + buffer >= self.nodes[node].buffer_count:
             return True
@@ -316,9 +351,9 @@ class Image:
             width, place = OFFSET_WIDTH[r.code], self.buffer(node, 1)[0]
             return ("text", bytes(data[place + self.number(node, 0, width, j) : place + self.number(node, 0, width, j + 1)]))
         if r.code in VIEWS:
-            at = self.buffer(node, 0)[0] + 16 * j
+            at = self.buffer(node, 0)[0] + VIEW * j
             length = unsigned(data, at, 4)
-            place = at + 4 if length <= 12 else self.buffer(node, 1 + unsigned(data, at + 8, 4))[0] + unsigned(data, at + 12, 4)
+            place = at + 4 if length <= INLINE else self.buffer(node, 1 + unsigned(data, at + 8, 4))[0] + unsigned(data, at + 12, 4)
             return ("text", bytes(data[place : place + length]))
         if r.code in LISTS:
             width = OFFSET_WIDTH[r.code]
@@ -475,7 +510,8 @@ def write(data, i, n, room):
 
 
 class Session:
-    STORE, OUTPUT = 24576, 64
+    # the bytes of a side's store, of a piece and of a write's output
+    STORE, PIECE, OUTPUT = 24576, 64, 64
 
     def __init__(self):
         self.stores, self.closed = [b"", b""], [False, False]
@@ -543,7 +579,7 @@ def frame_of(line):
             break
         if line[at] == 0x20:
             at += 1
-    if len(frame) > 65:
+    if len(frame) > 1 + Session.PIECE:
         raise Fault(1)
     kind, length = frame[0], len(frame)
     if not 1 <= kind <= 7:

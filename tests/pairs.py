@@ -1,7 +1,7 @@
 #!/usr/bin/env python3
 """Writes the program `pairs`: the pairs that document 01 names, as calls on images, and what it must print.
 
-Images are laid out from columns as crates/cases/specs/Build.antt lays them out: nodes depth by depth, and the bytes of
+Images are laid out from columns as crates/cases/specs/Build.antt lays them out: nodes level by level, and the bytes of
 each node's buffers, bitmap and name after the tables, in that order. The expected answers are document 01's.
 
     python3 tests/pairs.py            write crates/pairs/src/calls.rt, crates/pairs/src/main.rt and crates/pairs/stdout
@@ -11,15 +11,13 @@ each node's buffers, bitmap and name after the tables, in that order. The expect
 import os
 import sys
 
+from image import DEEPEST, by_level, flags, number, tables, tables_size, view
+
 CRATE = os.path.join(os.path.dirname(os.path.abspath(__file__)), "..", "crates", "pairs")
 
 # The type codes that the pairs use.
 INT8, INT16, FLOAT32, UTF8, FIXED_SIZE_BINARY, UTF8_VIEW = 2, 3, 11, 26, 30, 31
 LIST, LARGE_LIST_VIEW, STRUCT, SPARSE_UNION, DICTIONARY, MAP, RUN_END_ENCODED = 33, 36, 38, 40, 41, 42, 43
-
-
-def number(width, value):
-    return (value % 256**width).to_bytes(width, "little")
 
 
 class Column:
@@ -37,50 +35,28 @@ class Column:
     def placed(self):
         return b"".join(self.buffers) + self.bitmap + self.name
 
-    def record(self, child, buffer, place):
-        bitmap_place = place + sum(map(len, self.buffers))
-        name_place = bitmap_place + len(self.bitmap)
-        return (
-            number(1, self.code)
-            + number(1, self.nullable + (2 if self.bitmap else 0))
-            + number(1, self.id)
-            + number(1, len(self.name))
-            + number(4, self.p1)
-            + number(4, 0)
-            + number(4, self.rows)
-            + number(4, 0)
-            + number(4, name_place if self.name else 0)
-            + number(4, bitmap_place if self.bitmap else 0)
-            + number(4, len(self.bitmap))
-            + number(4, 0)
-            + number(2, child)
-            + number(2, len(self.children))
-            + number(2, buffer)
-            + number(2, len(self.buffers))
-        )
+    def described(self, place):
+        """The fields of its record, and the places and lengths of its buffers, where its bytes stand from that place on."""
+        buffers = []
+        for stored in self.buffers:
+            buffers.append((place, len(stored)))
+            place += len(stored)
+        fields = dict(code=self.code, flags=flags(self.nullable, self.bitmap), type_id=self.id, p1=self.p1, length=self.rows)
+        if self.bitmap:
+            fields |= dict(bitmap_place=place, bitmap_length=len(self.bitmap))
+        if self.name:
+            fields |= dict(name_place=place + len(self.bitmap), name_length=len(self.name))
+        return fields, buffers
 
 
 def image(root):
     """The image of a column, in parts: the header, the records, the entries and the bytes of each node."""
-    nodes, depth = [], [root]
-    while depth:
-        nodes += depth
-        depth = [child for node in depth for child in node.children]
-    count = sum(len(node.buffers) for node in nodes)
-    place = 4 + 44 * len(nodes) + 8 * count
-    records, entries, data = [], [], []
-    child, buffer = 1, 0
+    nodes = by_level(root)
+    places, place = {}, tables_size(len(nodes), sum(len(node.buffers) for node in nodes))
     for node in nodes:
-        records.append(node.record(child, buffer, place))
-        child += len(node.children)
-        buffer += len(node.buffers)
-        at = place
-        for stored in node.buffers:
-            entries.append(number(4, at) + number(4, len(stored)))
-            at += len(stored)
-        data.append(node.placed())
+        places[node] = place
         place += len(node.placed())
-    return [number(2, len(nodes)) + number(2, count)] + records + entries + [part for part in data if part]
+    return tables(nodes, lambda node: node.described(places[node])) + [node.placed() for node in nodes if node.placed()]
 
 
 # Columns.
@@ -144,11 +120,6 @@ def depth_of(depth):
     for _ in range(depth - 1):
         column = Column(STRUCT, 1, [], [column])
     return image(column)
-
-
-def view(text, buffer, offset):
-    """A view of a text longer than 12 bytes: length, prefix, buffer and offset."""
-    return number(4, len(text)) + text[:4] + number(4, buffer) + number(4, offset)
 
 
 def sparse_of(first, second):
@@ -275,13 +246,13 @@ PAIRS = [
         (0, 0, 0, 5),
     ),
     ("p9_four", "P9-four", "P9 the session's five row bytes into 4: 43.", write(session(0), 0, 3, 4), refused(43)),
-    ("p10_sixteen", "P10-16", "P10 depth 16 accepted.", check(depth_of(16)), ACCEPTED),
+    ("p10_sixteen", "P10-16", "P10 depth 16 accepted.", check(depth_of(DEEPEST)), ACCEPTED),
     (
         "p10_seventeen",
         "P10-17",
         "P10 depth 17: 12, of the node of that depth.",
-        check(depth_of(17)),
-        refused(12, node=16),
+        check(depth_of(DEEPEST + 1)),
+        refused(12, node=DEEPEST),
     ),
     (
         "views",

@@ -17,16 +17,13 @@ import sys
 import columns
 import model
 import pairs
+from image import CODES, DEEPEST, number
 
 CRATE = os.path.join(os.path.dirname(os.path.abspath(__file__)), "..", "crates", "editions")
 
 ANSWERS = os.path.join(os.path.dirname(os.path.abspath(__file__)), "rust", "answers.txt")
 
 LEFT, RIGHT = 0, 1
-
-
-def number(width, value):
-    return (value % 256**width).to_bytes(width, "little")
 
 
 class Script:
@@ -49,7 +46,7 @@ class Script:
     def frame(self, *parts):
         self.line(b"".join(parts).hex())
 
-    def pieces(self, side, data, size=64):
+    def pieces(self, side, data, size=model.Session.PIECE):
         for at in range(0, len(data), size):
             self.frame(bytes([1 + side]), data[at : at + size])
 
@@ -129,9 +126,9 @@ def every_state(script):
 
 
 def full_store(script):
-    """40: a store of 24,576 bytes, filled to its last byte; a piece that does not fit is not stored in part."""
+    """40: a store filled to its last byte; a piece that does not fit is not stored in part."""
     good = b"".join(pairs.session(0))
-    filler = good + bytes(24576 - len(good))
+    filler = good + bytes(model.Session.STORE - len(good))
     script.empty(LEFT)
     script.pieces(LEFT, filler[:-1])
     script.frame(b"\x01", b"\x00\x00")
@@ -171,7 +168,7 @@ def view_of_all(depth, rows):
 def written(script):
     """A few rows of each layout, written; the length is often over 64."""
     rng = random.Random(9)
-    for code in range(44):
+    for code in range(CODES):
         kind = columns.random_type(rng, 2, code)
         rows = [columns.random_row(rng, kind, 0.25) for _ in range(5)]
         script.store(LEFT, columns.image(rng, columns.lay(rng, kind, rows)))
@@ -183,7 +180,7 @@ def written(script):
         script.write(LEFT, 5, 1)
         script.write(LEFT, 0xFFFFFFFF, 0xFFFFFFFF)
     # 43 at once, where the rows would take more bytes than there are atoms
-    script.store(LEFT, view_of_all(15, 64))
+    script.store(LEFT, view_of_all(DEEPEST - 1, 64))
     for count in (0, 1, 64):
         script.write(LEFT, 0, count)
 
@@ -210,10 +207,10 @@ def faults(script):
 
 def tables(script):
     """Random tables of every code: the same rows in two layouts, and with one difference; ranges; writes."""
-    for seed in range(132):
+    for seed in range(3 * CODES):
         rng = random.Random(seed)
         while True:
-            kind = columns.random_type(rng, rng.choice([1, 2, 2, 3]), seed % 44)
+            kind = columns.random_type(rng, rng.choice([1, 2, 2, 3]), seed % CODES)
             rows = [columns.random_row(rng, kind) for _ in range(rng.choice([1, 2, 4]))]
             k = rng.randrange(len(rows))
             other = rows[:k] + [columns.change_row(rng, kind, rows[k])] + rows[k + 1 :]

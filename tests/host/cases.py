@@ -16,10 +16,7 @@ sys.path.insert(0, os.path.join(os.path.dirname(os.path.abspath(__file__)), ".."
 
 import columns
 import model
-
-
-def number(width, value):
-    return value.to_bytes(width, "little")
+from image import CODES, number
 
 
 def sized(data):
@@ -32,7 +29,7 @@ def packed(answer):
 
 
 def table(rng, seed):
-    kind = columns.random_type(rng, rng.choice([1, 2, 3, 4]), seed % 44)
+    kind = columns.random_type(rng, rng.choice([1, 2, 3, 4]), seed % CODES)
     return kind, [columns.random_row(rng, kind) for _ in range(rng.choice([0, 1, 3, 9, 40, 70, 150]))]
 
 

@@ -6,6 +6,7 @@
  * seconds: fuzz CORPUS SECONDS SEED. */
 #define _DEFAULT_SOURCE
 #include "../../host/editions.h"
+#include "../image.h"
 #include "memory.h"
 
 #include <dirent.h>
@@ -26,9 +27,7 @@ static void must(int holds, const char *what)
 /* The rows of a table, written into a buffer of that room. */
 static uint64_t rows_of(const uint8_t *image, size_t length, uint8_t *out, size_t room)
 {
-    uint32_t count = 0;
-    for (unsigned k = 0; k < 4; k++)
-        count |= (uint32_t)image[16 + k] << 8 * k;
+    uint32_t count = (uint32_t)image_get(image, image_record(0) + RECORD_LENGTH, 4);
     memset(out, 0xa5, room);
     uint64_t answer = editions_write(image, length, 0, count, out, room);
     size_t kept = editions_refusal(answer) ? 0 : editions_value(answer);
@@ -142,9 +141,9 @@ static unsigned read_seeds(const char *path)
 
 static void mutate(uint8_t *image, size_t length)
 {
-    static const uint8_t odd[] = {0, 1, 2, 3, 12, 13, 16, 43, 44, 64, 127, 128, 255};
+    static const uint8_t odd[] = {0, 1, 2, 3, 12, 13, IMAGE_DEEPEST, IMAGE_CODES - 1, IMAGE_CODES, IMAGE_LONGEST_NAME, 127, 128, 255};
     for (uint32_t turns = next(4); turns > 0 && length > 0; turns--) {
-        size_t tables = 4 + 44u * image[0] + 8;
+        size_t tables = IMAGE_TABLES(image[HEADER_NODES], 1u);
         size_t end = next(3) != 0 && tables < length ? tables : length;
         size_t at = next((uint32_t)end);
         switch (next(4)) {

@@ -2,10 +2,13 @@
  * that fit exactly or are one byte short; and the refusals' sentences. */
 #define _DEFAULT_SOURCE
 #include "../../host/editions.h"
+#include "../image.h"
 #include "memory.h"
 
-#define LONGEST_IMAGE 16777216u
 #define MOST 65536u
+
+/* The type codes that are laid out here. */
+enum { INT8 = 2, LIST_VIEW = 35 };
 
 static unsigned long failures, calls;
 
@@ -104,61 +107,56 @@ static void model_cases(const char *path)
     free(whole);
 }
 
-/* A table of so many Int8 rows that its image has that many bytes. */
-static void int8_image(uint8_t *image, uint32_t length)
+/* How many rows a table of Int8 has whose image has that many bytes. */
+static uint32_t int8_rows(uint32_t length) { return length - IMAGE_TABLES(1, 1); }
+
+/* A table of Int8 whose image has that many bytes. Returns the place of the values. */
+static uint32_t int8_image(uint8_t *bytes, uint32_t length)
 {
-    uint32_t rows = length - 56;
-    memset(image, 0, 56);
-    image[0] = 1;
-    image[2] = 1;
-    image[4] = 2;
-    image[40] = 1;
-    image[46] = 1;
-    for (unsigned k = 0; k < 4; k++) {
-        image[16 + k] = (uint8_t)(rows >> 8 * k);
-        image[48 + k] = (uint8_t)(56u >> 8 * k);
-        image[52 + k] = (uint8_t)(rows >> 8 * k);
-    }
+    uint32_t rows = int8_rows(length);
+    struct image m = image_in(bytes, length, 1, 1);
+    image_node(&m, INT8, 0, rows, 0, 1);
+    uint32_t values = image_buffer(&m, rows);
     for (uint32_t k = 0; k < rows; k++)
-        image[56 + k] = (uint8_t)(k * 31 + (k >> 8));
+        bytes[values + k] = (uint8_t)(k * 31 + (k >> 8));
+    return values;
 }
 
 static void largest(void)
 {
-    struct lent first = lent_pages(LONGEST_IMAGE + 1), second = lent_pages(LONGEST_IMAGE + 1);
-    uint8_t *left = lent_bytes(first, LONGEST_IMAGE, 1), *right = lent_bytes(second, LONGEST_IMAGE, 1);
-    int8_image(left, LONGEST_IMAGE);
-    int8_image(right, LONGEST_IMAGE);
-    expect("largest check", 0, editions_check(left, LONGEST_IMAGE), 0);
-    expect("largest compare", 0, editions_compare(left, LONGEST_IMAGE, right, LONGEST_IMAGE), answer_of(0, 0, 0, 1));
-    right[LONGEST_IMAGE - 1] ^= 1;
-    expect("largest compare", 1, editions_compare(left, LONGEST_IMAGE, right, LONGEST_IMAGE), 0);
-    uint32_t rows = LONGEST_IMAGE - 56;
+    struct lent first = lent_pages(IMAGE_LONGEST + 1), second = lent_pages(IMAGE_LONGEST + 1);
+    uint8_t *left = lent_bytes(first, IMAGE_LONGEST, 1), *right = lent_bytes(second, IMAGE_LONGEST, 1);
+    uint32_t rows = int8_rows(IMAGE_LONGEST), values = int8_image(left, IMAGE_LONGEST);
+    int8_image(right, IMAGE_LONGEST);
+    expect("largest check", 0, editions_check(left, IMAGE_LONGEST), 0);
+    expect("largest compare", 0, editions_compare(left, IMAGE_LONGEST, right, IMAGE_LONGEST), answer_of(0, 0, 0, 1));
+    right[IMAGE_LONGEST - 1] ^= 1;
+    expect("largest compare", 1, editions_compare(left, IMAGE_LONGEST, right, IMAGE_LONGEST), 0);
     uint8_t *out = malloc((size_t)2 * rows);
     if (!out)
         exit(1);
-    expect("largest write", 0, editions_write(left, LONGEST_IMAGE, 0, rows, out, (size_t)2 * rows), answer_of(0, 0, 0, 2u * rows));
+    expect("largest write", 0, editions_write(left, IMAGE_LONGEST, 0, rows, out, (size_t)2 * rows), answer_of(0, 0, 0, 2u * rows));
     unsigned long wrong = 0;
     for (uint32_t k = 0; k < rows; k++)
-        wrong += out[2 * (size_t)k] != 1 || out[2 * (size_t)k + 1] != left[56 + k];
+        wrong += out[2 * (size_t)k] != 1 || out[2 * (size_t)k + 1] != left[values + k];
     expect("largest write's bytes", 0, wrong, 0);
     out[0] = 77;
-    expect("largest write, one short", 0, editions_write(left, LONGEST_IMAGE, 0, rows, out, (size_t)2 * rows - 1),
+    expect("largest write, one short", 0, editions_write(left, IMAGE_LONGEST, 0, rows, out, (size_t)2 * rows - 1),
            answer_of(EDITIONS_OUTPUT, 0, 0, 0));
     expect("largest write, one short, unchanged", 0, out[0], 77);
-    expect("past the rows", 0, editions_write(left, LONGEST_IMAGE, rows, 1, out, 2), answer_of(EDITIONS_RANGE, 0, 0, 0));
-    expect("past the rows", 1, editions_write(left, LONGEST_IMAGE, UINT32_MAX, UINT32_MAX, out, 2), answer_of(EDITIONS_RANGE, 0, 0, 0));
+    expect("past the rows", 0, editions_write(left, IMAGE_LONGEST, rows, 1, out, 2), answer_of(EDITIONS_RANGE, 0, 0, 0));
+    expect("past the rows", 1, editions_write(left, IMAGE_LONGEST, UINT32_MAX, UINT32_MAX, out, 2), answer_of(EDITIONS_RANGE, 0, 0, 0));
     free(out);
     /* one byte more than the most */
-    left = lent_bytes(first, LONGEST_IMAGE + 1, 1);
-    int8_image(left, LONGEST_IMAGE);
-    expect("too large", 0, editions_check(left, LONGEST_IMAGE + 1), answer_of(EDITIONS_SHORT, 0, 0, 0));
-    expect("too large", 1, editions_compare(right, LONGEST_IMAGE, left, LONGEST_IMAGE + 1), answer_of(EDITIONS_SHORT, EDITIONS_RIGHT, 0, 0));
+    left = lent_bytes(first, IMAGE_LONGEST + 1, 1);
+    int8_image(left, IMAGE_LONGEST);
+    expect("too large", 0, editions_check(left, IMAGE_LONGEST + 1), answer_of(EDITIONS_SHORT, 0, 0, 0));
+    expect("too large", 1, editions_compare(right, IMAGE_LONGEST, left, IMAGE_LONGEST + 1), answer_of(EDITIONS_SHORT, EDITIONS_RIGHT, 0, 0));
 }
 
 static void empty(void)
 {
-    uint8_t image[57], out[4] = {1, 2, 3, 4};
+    uint8_t image[IMAGE_TABLES(1, 1) + 1], out[4] = {1, 2, 3, 4};
     int8_image(image, sizeof image);
     expect("no image", 0, editions_check(NULL, 0), answer_of(EDITIONS_SHORT, 0, 0, 0));
     expect("no image", 1, editions_check(image, 0), answer_of(EDITIONS_SHORT, 0, 0, 0));
@@ -173,34 +171,25 @@ static void empty(void)
     expect("the byte past it", 0, out[2], 3);
 }
 
-/* 15 list views, each of which covers all 64 rows of its child: a row takes 64 ^ 15 bytes, and 43 is said at once. */
+/* List views as deep as may be, each of which covers all 64 rows of its child: a row takes 64 ^ VIEWS bytes, and 43 is said
+ * at once. All of them have the same offsets and sizes. */
 static void nested_views(void)
 {
-    enum { DEPTH = 15, ROWS = 64 };
-    static uint8_t image[4 + 44 * (DEPTH + 1) + 8 * (2 * DEPTH + 1) + 8 * ROWS + ROWS];
-    uint32_t views = 4 + 44 * (DEPTH + 1) + 8 * (2 * DEPTH + 1);
-    image[0] = DEPTH + 1;
-    image[2] = 2 * DEPTH + 1;
-    for (unsigned node = 0; node <= DEPTH; node++) {
-        uint8_t *record = image + 4 + 44 * node;
-        record[0] = node < DEPTH ? 35 : 2;
-        record[12] = ROWS;
-        record[36] = (uint8_t)(node + 1);
-        record[38] = node < DEPTH;
-        record[40] = (uint8_t)(2 * node);
-        record[42] = node < DEPTH ? 2 : 1;
-        uint8_t *entry = image + 4 + 44 * (DEPTH + 1) + 8 * 2 * node;
-        for (unsigned k = 0; k < 4; k++) {
-            entry[k] = (uint8_t)((views + (node < DEPTH ? 0 : 8 * ROWS)) >> 8 * k);
-            entry[4 + k] = (uint8_t)((node < DEPTH ? 4u * ROWS : ROWS) >> 8 * k);
-            if (node < DEPTH) {
-                entry[8 + k] = (uint8_t)((views + 4 * ROWS) >> 8 * k);
-                entry[12 + k] = (uint8_t)((4u * ROWS) >> 8 * k);
-            }
-        }
+    enum { VIEWS = IMAGE_DEEPEST - 1, NODES = VIEWS + 1, BUFFERS = 2 * VIEWS + 1, ROWS = 64, NUMBERS = 4 * ROWS };
+    static uint8_t image[IMAGE_TABLES(NODES, BUFFERS) + 2 * NUMBERS + ROWS];
+    struct image m = image_in(image, sizeof image, NODES, BUFFERS);
+    uint32_t offsets = image_part(&m, NUMBERS), sizes = image_part(&m, NUMBERS);
+    for (unsigned row = 0; row < ROWS; row++) {
+        image_put(&m, offsets + 4 * row, 0, 4);
+        image_put(&m, sizes + 4 * row, ROWS, 4);
     }
-    for (unsigned row = 0; row < ROWS; row++)
-        image[views + 4 * ROWS + 4 * row] = ROWS;
+    for (unsigned node = 0; node < VIEWS; node++) {
+        image_node(&m, LIST_VIEW, 0, ROWS, 1, 2);
+        image_entry(&m, offsets, NUMBERS);
+        image_entry(&m, sizes, NUMBERS);
+    }
+    image_node(&m, INT8, 0, ROWS, 0, 1);
+    image_buffer(&m, ROWS);
     static uint8_t out[100000];
     expect("nested views", 0, editions_check(image, sizeof image), 0);
     expect("nested views", 1, editions_write(image, sizeof image, 0, 1, out, sizeof out), answer_of(EDITIONS_OUTPUT, 0, 0, 0));

@@ -17,7 +17,8 @@ import sys
 
 from cases import KINDS, Case, random_case
 from columns import image
-from compare import CODES, answers
+from compare import answers
+from image import CODES
 from suspects import NO, SUSPECTS, YES, item, lists, numbers, structs
 
 import model

@@ -12,12 +12,10 @@ sys.path.insert(0, os.path.join(os.path.dirname(os.path.abspath(__file__)), ".."
 
 import columns
 import model
+from image import DEEPEST, VIEW, number
 from model import DENSE_UNION, DICTIONARY, FIXED_SIZE_BINARY, LIST_VIEWS, LISTS, OFFSET_WIDTH, RUN_END_ENCODED, STRUCT, TEXTS, UNIONS, VIEWS, WIDTHS
 
 KINDS = ["layouts", "difference", "labels", "types", "range", "range with a difference", "no rows"]
-
-# as deep as an image may be
-DEEPEST = 16
 
 # how many of the long tables have more than a block of rows
 VERY_LONG = 0.03
@@ -41,14 +39,14 @@ class Case:
         """The session's frames that store the pair and ask about it."""
         for side, data in enumerate((self.left, self.right)):
             yield bytes([7, side])
-            for at in range(0, len(data), 64):
-                yield bytes([1 + side]) + data[at : at + 64]
+            for at in range(0, len(data), model.Session.PIECE):
+                yield bytes([1 + side]) + data[at : at + model.Session.PIECE]
             yield bytes([3, side])
         yield b"\x05" + struct.pack("<III", *self.range) if self.range else b"\x04"
 
     def rows(self):
         """The rows of the longer table."""
-        return max(struct.unpack_from("<I", image, 16)[0] for image in (self.left, self.right))
+        return max(model.Image(image).nodes[0].length for image in (self.left, self.right))
 
     def line(self):
         starts = " ".join(map(str, self.range or (0, 0, 0)))
@@ -216,7 +214,7 @@ def odd_places(rng, node):
                 pair[1] = rng.randint(0, end - pair[0])
             elif pair[1] == 0:
                 pair[0] = rng.randint(0, end)
-        node.buffers = [b"".join(columns.number(width, pair[k]) for pair in pairs) + rng.randbytes(past * width) for k in (0, 1)]
+        node.buffers = [b"".join(number(width, pair[k]) for pair in pairs) + rng.randbytes(past * width) for k in (0, 1)]
     elif code in UNIONS:
         node.buffers[0] += rng.randbytes(past)
         if code == DENSE_UNION:
@@ -224,7 +222,7 @@ def odd_places(rng, node):
     elif code == DICTIONARY:
         node.buffers[0] += rng.randbytes(past * node.type.width())
     elif code in VIEWS:
-        node.buffers[0] += rng.randbytes(past * 16)
+        node.buffers[0] += rng.randbytes(past * VIEW)
         node.buffers += [rng.randbytes(past)] * past
     elif code == FIXED_SIZE_BINARY or code == model.BOOLEAN or code in WIDTHS:
         node.buffers[0] += rng.randbytes(past)

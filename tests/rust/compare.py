@@ -19,12 +19,12 @@ import cases
 import columns
 import model
 from cases import KINDS, random_case
+from image import CODES
 
 TARGET = os.path.join(os.path.dirname(os.path.abspath(__file__)), "..", "..", "target")
 BUILT = os.path.join(TARGET, "rust")
 SESSION = os.environ.get("EDITIONS") or os.path.join(TARGET, "bin", "editions")
 BATCH = 20000
-CODES = 44
 
 # tables of so many rows and more are counted
 LONG = [64, 1023]

@@ -5,10 +5,11 @@ The left image is the refused one. After tests/rust/run has built the programs.
 """
 
 from cases import Case
-from columns import image, number
+from columns import image
 from compare import answers
+from image import DEEPEST, number, view
 from suspects import INT8, INT16, INT32, LARGE_LIST_VIEW, LONG, MAP, RUNS, UTF8
-from suspects import column, dense, dictionary, item, list_views, lists, numbers, runs, sparse, structs, texts, view, views, wide
+from suspects import column, dense, dictionary, item, list_views, lists, numbers, runs, sparse, structs, texts, views, wide
 
 REFUSED = []
 
@@ -31,7 +32,7 @@ def offsets(values, data, code=UTF8):
 WRONG_PREFIX = number(4, 13) + b"----" + number(4, 0) + number(4, 0)
 
 refused("FixedSizeBinary of width -1", wide([], -1))
-refused("depth 17", deep(17))
+refused("depth %d" % (DEEPEST + 1), deep(DEEPEST + 1))
 refused("union ids 3 and 3", sparse([3], item([1], id=3), item([2], id=3)), sparse([3], item([1], id=3), item([9], id=3)))
 refused("a Map's Struct of one", lists([0, 1], structs(1, item([1])), MAP))
 refused("run ends of Int8", runs(2, [2], item([1]), INT8, 1))

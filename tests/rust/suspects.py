@@ -4,7 +4,9 @@ Each entry: the Rust's file, what the pair is about, the case, the answer.
 """
 
 from cases import Case
-from columns import Node, Type, image, number
+from columns import Node, Type, image
+from image import MOST_ELEMENTS as MOST
+from image import VIEW, number, view
 
 YES, NO = 1, 0
 
@@ -44,12 +46,6 @@ def texts(values, code=UTF8, before=b"", after=b"", offset=0, **field):
         ends.append(len(data))
     width = 8 if code in (28, 29) else 4
     return column(code, len(values) - offset, [b"".join(number(width, end) for end in ends), data + after], offset=offset, **field)
-
-
-def view(text, buffer=0, place=0):
-    if len(text) <= 12:
-        return number(4, len(text)) + text.ljust(12, b"\0")
-    return number(4, len(text)) + text[:4] + number(4, buffer) + number(4, place)
 
 
 def views(rows, data=(), offset=0, code=UTF8_VIEW, **field):
@@ -237,9 +233,9 @@ suspect(f, "13 bytes, the fifth differs", views([view(LONG)], [LONG]), views([vi
 suspect(f, "13 bytes, the last differs", views([view(LONG)], [LONG]), views([view(LONG[:-1] + b"G")], [LONG[:-1] + b"G"]), NO)
 suspect(f, "the same prefix, other lengths", views([view(LONG)], [LONGER]), views([view(LONGER)], [LONGER]), NO)
 suspect(f, "lengths 0 and 1 of a zero byte", views([view(b"")]), views([view(b"\0")]), NO)
-suspect(f, "anything under a null", views([view(b"a"), b"\xff" * 16], bits="10"), views([b"\xee" * 16, view(b"a"), view(b"b")], offset=1, bits="10"), YES)
-suspect(f, "anything under a null before the range's start", views([b"\xff" * 16, view(b"a")], bits="01"), views([view(b"a")]), YES, (1, 0, 1))
-suspect(f, "BinaryView at an offset", views([b"\xff" * 16, view(LONG)], [LONG], offset=1, code=BINARY_VIEW), views([view(LONG, 0, 3)], [b"abc" + LONG], code=BINARY_VIEW), YES)
+suspect(f, "anything under a null", views([view(b"a"), b"\xff" * VIEW], bits="10"), views([b"\xee" * VIEW, view(b"a"), view(b"b")], offset=1, bits="10"), YES)
+suspect(f, "anything under a null before the range's start", views([b"\xff" * VIEW, view(b"a")], bits="01"), views([view(b"a")]), YES, (1, 0, 1))
+suspect(f, "BinaryView at an offset", views([b"\xff" * VIEW, view(LONG)], [LONG], offset=1, code=BINARY_VIEW), views([view(LONG, 0, 3)], [b"abc" + LONG], code=BINARY_VIEW), YES)
 
 f = "list.rs"
 suspect(f, "offsets 0,2,4 and 4,6,8", lists([0, 2, 4], item([1, 2, 3, 4])), lists([4, 6, 8], item([9, 9, 9, 9, 1, 2, 3, 4])), YES)
@@ -362,7 +358,6 @@ suspect(f, "a range of no rows at the end", runs(5, [2, 5], item([1, 2])), runs(
 
 # as many rows as a node may have; the model, which counts rows, is not asked about these
 f = "most rows"
-MOST = 1 << 30
 suspect(f, "Null", column(NULL, MOST), column(NULL, MOST), YES)
 suspect(f, "FixedSizeBinary of width 0", column(FIXED_SIZE_BINARY, MOST, [b""]), column(FIXED_SIZE_BINARY, MOST, [b""]), YES)
 suspect(f, "a Struct without children", structs(MOST), structs(MOST), YES)

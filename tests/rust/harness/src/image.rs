@@ -19,12 +19,13 @@ pub enum Masks {
 }
 
 pub fn load(image: &[u8], masks: Masks) -> ArrayData {
-    let reader = Reader { image, nodes: number(image, 0, 2), masks };
+    let reader = Reader { image, nodes: number(image, 0, NODES), masks };
     reader.array(0)
 }
 
-fn number(bytes: &[u8], at: usize, width: usize) -> usize {
-    bytes[at..at + width].iter().rev().fold(0, |value, byte| value << 8 | *byte as usize)
+/// The number at a place that is counted from `start` on.
+fn number(bytes: &[u8], start: usize, (place, width): Place) -> usize {
+    bytes[start + place..start + place + width].iter().rev().fold(0, |value, byte| value << 8 | *byte as usize)
 }
 
 struct Reader<'a> {
@@ -33,36 +34,50 @@ struct Reader<'a> {
     masks: Masks,
 }
 
-/// The places of a record's fields.
-const CODE: usize = 0;
-const FLAGS: usize = 1;
-const ID: usize = 2;
-const NAME_LENGTH: usize = 3;
-const P1: usize = 4;
-const P2: usize = 8;
-const LENGTH: usize = 12;
-const OFFSET: usize = 16;
-const NAME_PLACE: usize = 20;
-const BITMAP_PLACE: usize = 24;
-const BITMAP_LENGTH: usize = 28;
-const FIRST_BIT: usize = 32;
-const FIRST_CHILD: usize = 36;
-const CHILD_COUNT: usize = 38;
-const FIRST_BUFFER: usize = 40;
-const BUFFER_COUNT: usize = 42;
-
+/// The sizes of the header, of a node's record and of a buffer's entry.
+const HEADER: usize = 4;
 const RECORD: usize = 44;
+const ENTRY: usize = 8;
+
+/// A place and a width, in bytes.
+type Place = (usize, usize);
+
+/// Of the header: the number of nodes.
+const NODES: Place = (0, 2);
+
+/// Of a record: its fields.
+const CODE: Place = (0, 1);
+const FLAGS: Place = (1, 1);
+const ID: Place = (2, 1);
+const NAME_LENGTH: Place = (3, 1);
+const P1: Place = (4, 4);
+const P2: Place = (8, 4);
+const LENGTH: Place = (12, 4);
+const OFFSET: Place = (16, 4);
+const NAME_PLACE: Place = (20, 4);
+const BITMAP_PLACE: Place = (24, 4);
+const BITMAP_LENGTH: Place = (28, 4);
+const FIRST_BIT: Place = (32, 4);
+const FIRST_CHILD: Place = (36, 2);
+const CHILD_COUNT: Place = (38, 2);
+const FIRST_BUFFER: Place = (40, 2);
+const BUFFER_COUNT: Place = (42, 2);
+
+/// Of an entry: a buffer's place and length.
+const ENTRY_PLACE: Place = (0, 4);
+const ENTRY_LENGTH: Place = (4, 4);
+
 const NULLABLE: usize = 1;
 const HAS_BITMAP: usize = 2;
 
 impl Reader<'_> {
-    fn field(&self, node: usize, place: usize, width: usize) -> usize {
-        number(self.image, 4 + RECORD * node + place, width)
+    fn field(&self, node: usize, field: Place) -> usize {
+        number(self.image, HEADER + RECORD * node, field)
     }
 
     fn children(&self, node: usize) -> std::ops::Range<usize> {
-        let first = self.field(node, FIRST_CHILD, 2);
-        first..first + self.field(node, CHILD_COUNT, 2)
+        let first = self.field(node, FIRST_CHILD);
+        first..first + self.field(node, CHILD_COUNT)
     }
 
     fn bytes(&self, place: usize, len: usize) -> &[u8] {
@@ -70,13 +85,13 @@ impl Reader<'_> {
     }
 
     fn array(&self, node: usize) -> ArrayData {
-        let len = self.field(node, LENGTH, 4);
-        let first = self.field(node, FIRST_BUFFER, 2);
-        let buffers = first..first + self.field(node, BUFFER_COUNT, 2);
+        let len = self.field(node, LENGTH);
+        let first = self.field(node, FIRST_BUFFER);
+        let buffers = first..first + self.field(node, BUFFER_COUNT);
         ArrayData::from_parts(
             self.data_type(node),
             len,
-            self.field(node, OFFSET, 4),
+            self.field(node, OFFSET),
             self.nulls(node, len),
             buffers.map(|buffer| self.buffer(buffer)).collect(),
             self.children(node).map(|child| self.array(child)).collect(),
@@ -84,29 +99,29 @@ impl Reader<'_> {
     }
 
     fn buffer(&self, buffer: usize) -> Buffer {
-        let entry = 4 + RECORD * self.nodes + 8 * buffer;
-        Buffer::new(self.bytes(number(self.image, entry, 4), number(self.image, entry + 4, 4)))
+        let entry = HEADER + RECORD * self.nodes + ENTRY * buffer;
+        Buffer::new(self.bytes(number(self.image, entry, ENTRY_PLACE), number(self.image, entry, ENTRY_LENGTH)))
     }
 
     fn nulls(&self, node: usize, len: usize) -> Option<NullBuffer> {
-        if self.field(node, FLAGS, 1) & HAS_BITMAP == 0 {
+        if self.field(node, FLAGS) & HAS_BITMAP == 0 {
             return None;
         }
-        let bytes = self.bytes(self.field(node, BITMAP_PLACE, 4), self.field(node, BITMAP_LENGTH, 4));
-        let bits = BooleanBuffer::new(Buffer::new(bytes), self.field(node, FIRST_BIT, 4), len);
+        let bytes = self.bytes(self.field(node, BITMAP_PLACE), self.field(node, BITMAP_LENGTH));
+        let bits = BooleanBuffer::new(Buffer::new(bytes), self.field(node, FIRST_BIT), len);
         let nulls = NullBuffer::new(bits);
         (self.masks == Masks::All || nulls.null_count() != 0).then_some(nulls)
     }
 
     fn schema_field(&self, node: usize) -> FieldRef {
-        let length = self.field(node, NAME_LENGTH, 1);
+        let length = self.field(node, NAME_LENGTH);
         let mut name = String::with_capacity(2 * length);
         if length > 0 {
-            for byte in self.bytes(self.field(node, NAME_PLACE, 4), length) {
+            for byte in self.bytes(self.field(node, NAME_PLACE), length) {
                 write!(name, "{byte:02x}").unwrap();
             }
         }
-        Arc::new(Field::new(name, self.data_type(node), self.field(node, FLAGS, 1) & NULLABLE != 0))
+        Arc::new(Field::new(name, self.data_type(node), self.field(node, FLAGS) & NULLABLE != 0))
     }
 
     fn only_child(&self, node: usize) -> FieldRef {
@@ -114,9 +129,9 @@ impl Reader<'_> {
     }
 
     fn data_type(&self, node: usize) -> DataType {
-        let p1 = self.field(node, P1, 4) as u32 as i32;
-        let (precision, scale) = (p1 as u8, self.field(node, P2, 4) as i8);
-        match self.field(node, CODE, 1) {
+        let p1 = self.field(node, P1) as u32 as i32;
+        let (precision, scale) = (p1 as u8, self.field(node, P2) as i8);
+        match self.field(node, CODE) {
             0 => DataType::Null,
             1 => DataType::Boolean,
             code @ 2..=9 => integer(code),
@@ -165,7 +180,7 @@ impl Reader<'_> {
     }
 
     fn union(&self, node: usize, mode: UnionMode) -> DataType {
-        let fields = self.children(node).map(|child| (self.field(child, ID, 1) as i8, self.schema_field(child)));
+        let fields = self.children(node).map(|child| (self.field(child, ID) as i8, self.schema_field(child)));
         DataType::Union(fields.collect::<Vec<_>>().into(), mode)
     }
 }
