@@ -30,9 +30,9 @@ afterLines [] a = a
 afterLines (line ∷ lines) a = afterLines lines (next line a)
 
 -- what is printed for each of them
-unfoldable pub printed : List (List ℕ) → After → List (List ℕ)
-printed [] a = []
-printed (line ∷ lines) a = replyLine (next line a .stepped .reply) (next line a .out) ∷ printed lines (next line a)
+unfoldable pub replies : List (List ℕ) → After → List (List ℕ)
+replies [] a = []
+replies (line ∷ lines) a = replyLine (next line a .stepped .reply) (next line a .out) ∷ replies lines (next line a)
 
 -- a side that is closed holds an accepted image
 abbrev pub Sound : Held → List ℕ → Type 0
