@@ -8,6 +8,7 @@ pub mod Inputs
 pub mod KeptEnough
 pub mod Lines
 pub mod Reading
+pub mod RefusedLines
 pub mod Sides
 pub mod Takes
 pub mod Texts
