@@ -1,4 +1,5 @@
 pub mod Answers
 pub mod Writes
+pub mod RefusedWrites
 pub mod Demand2
 pub mod Demand3

@@ -1,8 +1,7 @@
--- Document 01's session: its lines are answered as the document says.
+-- Document 01's session: its whole input is answered by the whole output that it gives.
 -- Both sides are computed.
 use mathlib.Core.Path.{_≡_, refl}
-use mathlib.Core.List.{[], _∷_, map}
-use lib.ListN.{replicate}
+use mathlib.Core.List
 use Rattle.image.specs.Ranges
 use Rattle.image.specs.Bytes
 use Rattle.image.specs.Record
@@ -19,24 +18,19 @@ use Rattle.session.specs.Frames
 use Rattle.session.specs.Replies
 use Rattle.session.specs.Steps
 use Rattle.session.specs.Sessions
-use Rattle.session.specs.Sessions.{characters, started, printed}
+use Rattle.session.specs.Sessions.{characters}
+use Rattle.session.specs.Input
+use Rattle.session.specs.Input.{printed}
 
 pub document-session :
     printed
-    (map characters
-    ("01 01000100 02020000 00000000 00000000 03000000 00000000 00000000 3b000000 01000000 00000000 01000000 00000100 38000000 03000000 05000705"
-    ∷ "02 01000100 02020000 00000000 00000000 03000000 00000000 00000000 3b000000 01000000 00000000 01000000 00000100 38000000 03000000 05090705"
-    ∷ "03 00"
-    ∷ "03 01"
-    ∷ "04"
-    ∷ "06 00 00000000 03000000"
-    ∷ []))
-    (started (replicate 24576 0) (replicate 24576 0) (replicate 64 0))
-    ≡ map characters ("00\n" ∷ "00\n" ∷ "00\n" ∷ "00\n" ∷ "0001\n" ∷ "000105000107\n" ∷ [])
-unfolding Sessions.characters Sessions.printed
+    (characters
+    "01 01000100 02020000 00000000 00000000 03000000 00000000 00000000 3b000000 01000000 00000000 01000000 00000100 38000000 03000000 05000705\n02 01000100 02020000 00000000 00000000 03000000 00000000 00000000 3b000000 01000000 00000000 01000000 00000100 38000000 03000000 05090705\n03 00\n03 01\n04\n06 00 00000000 03000000\n")
+    ≡ characters "00\n00\n00\n00\n0001\n000105000107\n"
+unfolding Sessions.characters Sessions.replies Input.inFront Input.linesOf Input.printedFrom List.flatten
     Lines.digitOf Lines.preceded Lines.scan Lines.short Lines.bytesOf
     Frames.bySide Frames.ofLength Frames.pieceFrame Frames.closeFrame Frames.compareFrame Frames.writeFrame Frames.byKind Frames.frameOf
-    Replies.outputBytes Replies.digitText Replies.hexText Replies.lineText Replies.replyLine
+    Replies.digitText Replies.hexText Replies.lineText Replies.replyLine
     Steps.imageOf Steps.pastStore Steps.pieceKept Steps.pieceStore Steps.closeKept Steps.bothClosed Steps.comparesReply
     Steps.writeReply Steps.writeOut Steps.pieceStepped Steps.closeStepped Steps.writeStepped Steps.writtenOut Steps.afterFrame Steps.afterLine
     Ranges.any Ranges.every Ranges.first Ranges.sumTo Ranges.rises

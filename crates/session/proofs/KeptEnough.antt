@@ -1,20 +1,17 @@
--- A line's first 195 characters are answered as the whole line is, and they are what feeding keeps of it.
+-- A line's first 195 characters are answered as the whole line is.
 -- A byte takes two characters and at most one space, so a line of 195 characters or more is no 65 bytes.
 use mathlib.Core.Path.{_≡_, refl, sym, ap, _∙_}
 use mathlib.Core.Bool.{Bool, true, false, cond}
-use mathlib.Core.List.{List, [], _∷_, _++_}
-use Prim.Native.Nat.{ℕ, suc, _+_, _*_, _-_, _≤_, _<_, min}
+use mathlib.Core.List.{List, [], _∷_}
+use Prim.Native.Nat.{ℕ, suc, _+_, _*_, _≤_, _<_}
 use native.Mathlib.Omega.{arith}
-use lib.ListN.{length, take, drop, length-take}
-use lib.Seq.{paste, take-all, length-take-le, take-paste, take-append-add}
+use lib.ListN.{length, take}
+use lib.Seq.{take-all, length-take-le}
 use lib.Dec.{eqb, ltb}
 use borrow.Author.Tests.{lt-ltb, ltb-true, ltb-false}
 use Rattle.session.specs.declared.step.State.{State}
 use Rattle.session.specs.Lines.{digitOf, Stand, begin, half, between, Found, bad, good, preceded, scan, short, bytesOf}
-use Rattle.session.specs.Feeds.{beforeFeed, keptAfter, fedOf, lineAfter}
 use Rattle.session.specs.Steps.{afterLine}
-use Rattle.session.proofs.Fronts.{front}
-use Rattle.session.proofs.Chunks.{kept-least}
 
 -- how many characters of the next byte are behind a reader, its space with them
 behind : Stand → ℕ
@@ -82,29 +79,3 @@ kept-enough line = cases (ltb (length line) 195) refl
 pub kept-answers : (line left right : List ℕ) (state : State) (out : List ℕ) → afterLine (take 195 line) left right state out ≡ afterLine line left right state out
 unfolding afterLine
 kept-answers line left right state out = rw (kept-enough line)
-
-count : (len m : ℕ) → len ≤ 195 → keptAfter len m - len ≡ min (195 - len) m
-unfolding keptAfter
-count len m h = cases (ltb len 195) refl
-  where
-    cases : (b : Bool) → ltb len 195 ≡ b → cond b (min 195 (len + m)) len - len ≡ min (195 - len) m
-    cases true e = omega arith
-    cases false e = let full : 195 ≤ len = ltb-false _ _ e in omega arith
-
--- What feeding keeps: the first 195 of the characters that were kept and those up to the line feed. Over chunks this is
--- the front of the whole line (`Fronts.front-over`).
-pub fed-front : (chunk line : List ℕ) (at len : ℕ) → length line ≡ 195 → len ≤ 195 →
-    take (fedOf chunk at len .len) (lineAfter chunk at line len) ≡ take 195 (take len line ++ beforeFeed (drop at chunk))
-unfolding fedOf lineAfter
-fed-front chunk line at len sized h =
-    let cs = beforeFeed (drop at chunk) in
-    let k = keptAfter len (length cs) in
-    let some : k - len ≡ length (take (195 - len) cs) = count len (length cs) h ∙ sym (length-take (195 - len) cs) in
-    let fits : k - len ≤ length cs = omega (arith, some, length-take (195 - len) cs) in
-    let end : len + (k - len) ≡ k = omega (arith, kept-least len (length cs)) in
-    let most : length (take len line) + (195 - len) ≡ 195 = omega (arith, length-take-le len line (omega arith)) in
-    ap (λ (n : ℕ). take n (paste line len cs (k - len))) (sym end)
-    ∙ take-paste line len cs (k - len) (omega arith) fits
-    ∙ ap (λ (r : List ℕ). take len line ++ r) (ap (λ (n : ℕ). take n cs) some ∙ front (195 - len) cs)
-    ∙ sym (take-append-add (take len line) cs (195 - len))
-    ∙ ap (λ (n : ℕ). take n (take len line ++ cs)) most

@@ -2,8 +2,14 @@ pub mod Chunks
 pub mod ClosedAccepted
 pub mod Copies
 pub mod Document
+pub mod Feeds
 pub mod Fronts
+pub mod Inputs
 pub mod KeptEnough
 pub mod Lines
+pub mod Reading
+pub mod RefusedLines
 pub mod Sides
+pub mod Takes
 pub mod Texts
+pub mod Turns

@@ -1,6 +1,6 @@
 -- What a line does to a side and to the state, from what the calls give.
 -- The part of a store that is lent is its image; the rest is by rewriting with the calls' equations.
-use mathlib.Core.Path.{_≡_, refl, sym, ap, _∙_}
+use mathlib.Core.Path.{_≡_, refl, _∙_}
 use mathlib.Core.Bool.{Bool, true, false, cond}
 use mathlib.Core.List.{List, [], _∷_}
 use Prim.Native.Nat.{ℕ, _+_, _-_, _≤_, _<_}
@@ -22,7 +22,7 @@ use Rattle.session.specs.declared.step.Held.{Held}
 use Rattle.session.specs.declared.step.State.{State}
 use Rattle.session.specs.Frames.{frameOf}
 use Rattle.session.specs.Steps.{held, kept, emptied, imageOf, pastStore, pieceKept, pieceStore, closeKept, closedBoth, bothClosed}
-use Rattle.session.proofs.Fronts.{front}
+use Rattle.session.proofs.Fronts.{front-same, front-length}
 
 -- the arm that a test takes
 yes : {A : Type 0} (b : Bool) (x y : A) → b ≡ true → x ≡ cond b x y
@@ -36,10 +36,11 @@ no false x y e = refl
 module _ (store : List ℕ) (h : Held) (n : ℕ) (fills : n ≡ length (imageOf h store)) where
   pub front-image : take n store ≡ imageOf h store
   unfolding imageOf
-  front-image = rw fills (front (h .used) store)
+  front-image = front-same n (h .used) store fills
 
-  pub front-length : n ≡ length (take n store)
-  front-length = fills ∙ ap length (sym front-image)
+  pub image-length : n ≡ length (take n store)
+  unfolding imageOf
+  image-length = front-length n (h .used) store fills
 
   -- a close of an open side
   pub close-accepts : (x : Checked) → h .closed ≡ false → x ≡ checkImage (take n store) → x ≡ Accepted → kept (held (h .used) true) Done ≡ closeKept store h

@@ -6,12 +6,13 @@ use Prim.Native.Nat.{ℕ, suc, _+_, _*_, _/_, _%_, _≤_, _<_}
 use native.Mathlib.Numerals.{add-one}
 use native.Mathlib.Omega.{arith}
 use lib.ListN.{length, getD, take, drop, set, length-take, length-append, length-set}
-use lib.Seq.{sets, sets-eq, take-append-seam, take-paste, take-take, take-all, take-suc, length-take-le, drop-cons, set-at, append-snoc}
+use lib.Seq.{sets, sets-eq, take-append-seam, take-paste, take-all, take-suc, length-take-le, drop-cons, set-at, append-snoc}
 use Rattle.image.specs.Bytes.{numberBytes}
 use Rattle.session.specs.declared.reply.Reply.{Reply}
 use Rattle.session.specs.declared.reply.Reply.the-variants.{Done, Answer, Bytes, Refused, Faulty, OutOfRange}
-use Rattle.session.specs.Replies.{outputBytes, replyBytes, digitText, hexText, lineText, replyLine}
+use Rattle.session.specs.Replies.{replyBytes, digitText, hexText, lineText}
 use Rattle.session.proofs.Copies.{Pasted}
+use Rattle.session.proofs.Fronts.{front-same}
 
 -- bytes that are stored one by one from the front on
 pub puts : (bytes vs : List ℕ) → length vs ≤ length bytes → take (length vs) (sets bytes 0 vs) ≡ vs
@@ -19,45 +20,21 @@ puts bytes vs h =
     let h′ : 0 + length vs ≤ length bytes = omega arith in
     rw (sets-eq vs bytes 0 h′) (take-append-seam vs (drop (0 + length vs) bytes))
 
--- an output has at most 64 bytes
-pub output-few : (n : ℕ) (out : List ℕ) → length (outputBytes n out) ≤ 64
-unfolding outputBytes
-output-few n out = simp length-take (omega arith)
-
-pub reply-few : (reply : Reply) (out : List ℕ) → length (replyBytes reply out) ≤ 65
+-- a reply has at most 65 bytes
+pub reply-few : (reply : Reply) (out : List ℕ) → length out ≤ 64 → length (replyBytes reply out) ≤ 65
 unfolding numberBytes
-reply-few Done out = omega arith
-reply-few (Answer agreed) out = omega arith
-reply-few (Bytes n) out = omega (arith, output-few n out)
-reply-few (Refused number) out = omega arith
-reply-few (Faulty f) out = omega arith
-reply-few (OutOfRange side) out = omega arith
+reply-few Done out h = omega arith
+reply-few (Answer agreed) out h = omega arith
+reply-few (Bytes n) out h = omega (arith, length-take n out)
+reply-few (Refused number) out h = omega arith
+reply-few (Faulty f) out h = omega arith
+reply-few (OutOfRange side) out h = omega arith
 
--- so many bytes of an output are copied after the first byte, and no more are to be
-pub copied : (bytes₀ out bytes : List ℕ) (n k : ℕ) → length bytes₀ ≡ 65 → Pasted bytes₀ 1 out bytes k → take k out ≡ outputBytes n out →
-    (k ≡ length (outputBytes n out)) × (take (1 + k) bytes ≡ take 1 bytes₀ ++ outputBytes n out)
-copied bytes₀ out bytes n k sized p all = (
-  sym (ap length (sym all) ∙ length-take-le k out (p .within)),
-  rw (p .same) (take-paste bytes₀ 1 out k (omega arith) (p .within)) ∙ ap (λ (r : List ℕ). take 1 bytes₀ ++ r) all,
-)
-
--- all that are asked for, all that an output has, or 64
-pub output-asked : (n k : ℕ) (out : List ℕ) → k ≡ n → k ≤ 64 → take k out ≡ outputBytes n out
-unfolding outputBytes
-output-asked n k out e h = rw e (sym (take-take n 64 out (omega arith)))
-
-pub output-all : (n k : ℕ) (out : List ℕ) → k ≤ n → k ≤ 64 → length out ≤ k → take k out ≡ outputBytes n out
-unfolding outputBytes
-output-all n k out h few whole =
-    let most : length out ≤ 64 = omega arith in
-    let asked : length out ≤ n = omega arith in
-    rw (take-all k out whole, take-all 64 out most, take-all n out asked)
-
-pub output-full : (n k : ℕ) (out : List ℕ) → k ≤ n → k ≡ 64 → take k out ≡ outputBytes n out
-unfolding outputBytes
-output-full n k out h e =
-    let few : length (take 64 out) ≤ n = simp length-take (omega arith) in
-    rw (e, take-all n (take 64 out) few)
+-- the bytes of an output that are asked for are copied after the first byte
+pub copied : (bytes₀ out bytes : List ℕ) (n k : ℕ) → length bytes₀ ≡ 65 → Pasted bytes₀ 1 out bytes k → k ≡ length (take n out) →
+    (k ≡ length (take n out)) × (take (1 + k) bytes ≡ take 1 bytes₀ ++ take n out)
+copied bytes₀ out bytes n k sized p all =
+    (all, rw (p .same) (take-paste bytes₀ 1 out k (omega arith) (p .within)) ∙ ap (λ (r : List ℕ). take 1 bytes₀ ++ r) (front-same k n out all))
 
 -- the characters of bytes
 hex-more : (xs : List ℕ) (x : ℕ) → hexText (xs ++ (x ∷ [])) ≡ hexText xs ++ (digitText (x / 16) ∷ digitText (x % 16) ∷ [])
@@ -112,7 +89,3 @@ module _ (bytes text₀ text : List ℕ) (k : ℕ) (p : Printed bytes text₀ te
       let all : take k bytes ≡ bytes = take-all k bytes end in
       let long : length (hexText bytes) ≡ 2 * k = rw all at front-long in
       (rw length-append (omega (arith, long)), rw (p .same, all) (put (hexText bytes) (2 * k) 10 long inside))
-
--- a reply's line stands within the text that it is put into
-pub line-within : (reply : Reply) (out rest text : List ℕ) (n : ℕ) → n ≡ length (replyLine reply out) → text ≡ replyLine reply out ++ rest → n ≤ length text
-line-within reply out rest text n e is = rw is (rw length-append (omega arith))

@@ -3,7 +3,7 @@
 use mathlib.Core.Bool.{Bool, true, false, cond}
 use mathlib.Core.List.{List, [], _∷_, _++_}
 use Prim.Native.Nat.{ℕ, _+_, _/_, _%_}
-use lib.ListN.{length, take}
+use lib.ListN.{take}
 use lib.Dec.{ltb}
 use Rattle.image.specs.declared.answer.Side.{Side}
 use Rattle.image.specs.declared.answer.Fault.{Fault}
@@ -32,19 +32,15 @@ writtenReply (WriteRefused f) side = Faulty f
 writtenReply WriteOut side = OutOfRange side
 writtenReply TooLong side = Refused 43
 
--- the written bytes; the session's output has 64
-unfoldable pub outputBytes : ℕ → List ℕ → List ℕ
-outputBytes n out = take n (take 64 out)
-
 abbrev pub agreedByte : Bool → ℕ
 agreedByte true = 1
 agreedByte false = 0
 
--- the bytes of a reply
+-- the bytes of a reply; the written bytes stand at the output's front
 abbrev pub replyBytes : Reply → List ℕ → List ℕ
 replyBytes Done out = 0 ∷ []
 replyBytes (Answer agreed) out = 0 ∷ agreedByte agreed ∷ []
-replyBytes (Bytes n) out = 0 ∷ outputBytes n out
+replyBytes (Bytes n) out = 0 ∷ take n out
 replyBytes (Refused number) out = number ∷ []
 replyBytes (Faulty f) out = f .number ∷ numberBytes 2 (f .node)
 replyBytes (OutOfRange side) out = 21 ∷ sideNumber side ∷ []

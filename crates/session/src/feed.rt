@@ -1,10 +1,9 @@
 // Lines out of the chunks that the input arrives in.
+use crate::front::front;
+use crate::sizes::KEPT;
 ghost use mathlib.Core.Path.{_≡_};
+ghost use lib.ListN.{take};
 ghost use Rattle.session.specs.Feeds.{fedOf, lineAfter};
-
-// A line of 65 bytes has at most 194 characters. One more is kept, so that a longer line is known to be too long; its
-// other characters are dropped.
-pub const KEPT: usize = 195;
 
 const LINE_FEED: u8 = 10;
 
@@ -20,12 +19,12 @@ pub struct Fed {
 // Takes characters of a chunk from a place on, up to a line feed or the chunk's end, to those of the line that are kept
 // already.
 pub fn feed(chunk: &[u8], at: usize, line: &mut [u8; KEPT], len: usize) -> Fed
-    ensures { λ r. ⌜ r ≡ fedOf (now (chunk .entry)) at len ⌝ }
+    ensures { λ r. ⌜ r ≡ fedOf (now (chunk .entry)) at (take len (now (line .entry))) ⌝ }
     ensures { λ _. ⌜ now (line .exit) ≡ lineAfter (now (chunk .entry)) at (now (line .entry)) len ⌝ }
 {
     let kept: &mut [u8] = line;
     let mut i = at;
-    let mut n = len;
+    let mut n = front(kept, len);
     while i < chunk.len() {
         let c = chunk[i];
         i += 1;

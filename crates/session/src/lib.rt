@@ -1,6 +1,9 @@
 // The session: lines of hexadecimal, two image stores, one reply for each line.
-pub mod feed;
+mod feed;
 mod frame;
+mod front;
 mod line;
-pub mod reply;
-pub mod step;
+mod reply;
+pub mod sizes;
+mod step;
+pub mod turn;

@@ -1,4 +1,7 @@
 // Replies, and the line of characters that each is printed as.
+use crate::front::front;
+use crate::sizes::LONGEST_REPLY;
+use crate::sizes::OUTPUT;
 use answers::Compared;
 use answers::Written;
 use image::answer::Fault;
@@ -8,7 +11,7 @@ ghost use mathlib.Core.List.{_++_};
 ghost use Prim.Native.Nat.{_+_, _/_, _%_, _≤_};
 ghost use lib.ListN.{length, take, drop};
 ghost use Rattle.answers.specs.Numbers.{sideNumber};
-ghost use Rattle.session.specs.Replies.{comparedReply, writtenReply, outputBytes, agreedByte, replyBytes, digitText, lineText, replyLine};
+ghost use Rattle.session.specs.Replies.{comparedReply, writtenReply, agreedByte, replyBytes, digitText, lineText, replyLine};
 
 pub enum Reply {
     // 00
@@ -27,9 +30,6 @@ pub enum Reply {
 
 // A reply has at most so many bytes, of which an output has all but the first.
 const LONGEST_BYTES: usize = 65;
-
-// The reply's line has at most so many characters: two for each byte, and the line feed.
-pub const LONGEST_REPLY: usize = 131;
 
 const LINE_FEED: u8 = 10;
 
@@ -95,20 +95,15 @@ fn high_byte(node: u16) -> u8
     (node / 256) as u8
 }
 
-// The first n bytes of an output, at most 64 of them, put after the first byte; how many they are.
+// The first n bytes of an output, put after the first byte; how many they are.
 fn copy(n: usize, out: &[u8], bytes: &mut [u8]) -> usize
-    requires { ⌜ length (now bytes) ≡ 65 ⌝ }
-    ensures { λ r. ⌜ r ≡ length (outputBytes n (now (out .entry))) ⌝ }
-    ensures { λ r. ⌜ take (1 + r) (now (bytes .exit)) ≡ take 1 (now (bytes .entry)) ++ outputBytes n (now (out .entry)) ⌝ }
+    requires { ⌜ (length (now out) ≤ 64) × (length (now bytes) ≡ 65) ⌝ }
+    ensures { λ r. ⌜ r ≡ length (take n (now (out .entry))) ⌝ }
+    ensures { λ r. ⌜ take (1 + r) (now (bytes .exit)) ≡ take 1 (now (bytes .entry)) ++ take n (now (out .entry)) ⌝ }
 {
+    let most = front(out, n);
     let mut k: usize = 0;
-    while k < n {
-        if out.len() <= k {
-            return k;
-        }
-        if LONGEST_BYTES <= k + 1 {
-            return k;
-        }
+    while k < most {
         bytes[1 + k] = out[k];
         k += 1;
     }
@@ -117,7 +112,7 @@ fn copy(n: usize, out: &[u8], bytes: &mut [u8]) -> usize
 
 // The bytes of a reply, put at the front of a buffer, and how many they are.
 fn reply_bytes(reply: Reply, out: &[u8], bytes: &mut [u8]) -> usize
-    requires { ⌜ length (now bytes) ≡ 65 ⌝ }
+    requires { ⌜ (length (now out) ≤ 64) × (length (now bytes) ≡ 65) ⌝ }
     ensures { λ r. ⌜ r ≡ length (replyBytes reply (now (out .entry))) ⌝ }
     ensures { λ r. ⌜ take r (now (bytes .exit)) ≡ replyBytes reply (now (out .entry)) ⌝ }
 {
@@ -171,7 +166,7 @@ fn print(bytes: &[u8], text: &mut [u8]) -> usize
 }
 
 // The line that a reply is printed as, put at the front of a text, and how many characters it has.
-pub fn render(reply: Reply, out: &[u8], text: &mut [u8; LONGEST_REPLY]) -> usize
+pub fn render(reply: Reply, out: &[u8; OUTPUT], text: &mut [u8; LONGEST_REPLY]) -> usize
     ensures { λ r. ⌜ r ≡ length (replyLine reply (now (out .entry))) ⌝ }
     ensures { λ r. ⌜ now (text .exit) ≡ replyLine reply (now (out .entry)) ++ drop r (now (text .entry)) ⌝ }
 {

@@ -1,11 +1,13 @@
 // One line of the session: the frame that it holds, obeyed.
 use crate::frame::Frame;
 use crate::frame::parse;
+use crate::front::front;
 use crate::line::LONGEST_FRAME;
 use crate::line::decode;
 use crate::reply::Reply;
 use crate::reply::compared_reply;
 use crate::reply::written_reply;
+use crate::sizes::OUTPUT;
 use api::check;
 use api::compare;
 use api::compare_range;
@@ -39,7 +41,7 @@ pub struct Stepped {
 }
 
 // "Both start empty and open"
-pub fn start() -> State
+pub fn both_open() -> State
     ensures { λ r. ⌜ r ≡ startState ⌝ }
 {
     State {
@@ -62,11 +64,7 @@ fn opened() -> Held
 fn filled(store: &[u8], held: Held) -> usize
     ensures { λ r. ⌜ r ≡ length (imageOf held (now (store .entry))) ⌝ }
 {
-    if held.used < store.len() {
-        held.used
-    } else {
-        store.len()
-    }
+    front(store, held.used)
 }
 
 // A piece for a side: 41 where it is closed, 40 where the piece does not fit into its store.
@@ -306,7 +304,13 @@ fn obey(frame: &[u8], left: &mut [u8], right: &mut [u8], state: State, out: &mut
 }
 
 // One line: the reply, the state after it, both stores and the output.
-pub fn step(line: &[u8], left: &mut [u8], right: &mut [u8], state: State, out: &mut [u8]) -> Stepped
+pub fn step(
+    line: &[u8],
+    left: &mut [u8],
+    right: &mut [u8],
+    state: State,
+    out: &mut [u8; OUTPUT],
+) -> Stepped
     ensures { λ r. ⌜ r ≡ afterLine (now (line .entry)) (now (left .entry)) (now (right .entry)) state (now (out .entry)) .stepped ⌝ }
     ensures { λ _. ⌜ now (left .exit) ≡ afterLine (now (line .entry)) (now (left .entry)) (now (right .entry)) state (now (out .entry)) .left ⌝ }
     ensures { λ _. ⌜ now (right .exit) ≡ afterLine (now (line .entry)) (now (left .entry)) (now (right .entry)) state (now (out .entry)) .right ⌝ }

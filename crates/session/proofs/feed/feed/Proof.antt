@@ -14,8 +14,11 @@ Inv-loop chunk at len kept₀ i₀ n₀ kept i n = SameEnd chunk kept₀ at len 
 abbrev μ-loop : tie.MeasureT-loop
 μ-loop chunk at len kept₀ i₀ n₀ kept i n = length chunk - i
 
+front-requires : tie.Need-front-requires Inv-loop μ-loop
+front-requires c κs = search needs
+
 loop-holds : tie.Need-loop-holds Inv-loop μ-loop
-loop-holds c = same-start _ _ _ _ (search needs)
+loop-holds c = same-start _ _ _ _ _ (search needs) (c .front .ensures)
 
 shared-slice-read-c : tie.Need-shared-slice-read-c Inv-loop μ-loop
 shared-slice-read-c c = search needs
@@ -53,6 +56,7 @@ feed-spec =
     (tie.spec
     Inv-loop
     μ-loop
+    front-requires
     loop-holds
     shared-slice-read-c
     add-i

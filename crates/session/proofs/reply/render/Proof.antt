@@ -16,13 +16,13 @@ reply-bytes-requires : tie.Need-reply-bytes-requires
 reply-bytes-requires c κs = search needs
 
 array-share-prefix-bytes : tie.Need-array-share-prefix-bytes
-array-share-prefix-bytes c = omega (arith, c .before .reply-bytes .ensures .0, reply-few (c .before .before .before .before .args .reply) (c .before .before .before .before .args .out .now), c .before .reply-bytes .kept .1 .1 .0)
+array-share-prefix-bytes c = omega (arith, c .before .reply-bytes .ensures .0, reply-few (c .before .before .before .before .args .reply) (c .before .before .before .before .args .out .now) (search needs), c .before .reply-bytes .kept .1 .1 .0)
 
 slice-aggregate-print : tie.Need-slice-aggregate-print
 slice-aggregate-print c = c .before .before .reply-bytes .ensures .0 ∙ ap length (sym (c .before .before .reply-bytes .ensures .1))
 
 print-requires : tie.Need-print-requires
-print-requires c κs = (rw (c .before .before .before .reply-bytes .ensures .1) (reply-few (c .before .before .before .before .before .before .args .reply) (c .before .before .before .before .before .before .args .out .now)), search needs)
+print-requires c κs = (rw (c .before .before .before .reply-bytes .ensures .1) (reply-few (c .before .before .before .before .before .before .args .reply) (c .before .before .before .before .before .before .args .out .now) (search needs)), search needs)
 
 returns : tie.Need-returns
 unfolding replyLine

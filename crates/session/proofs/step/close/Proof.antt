@@ -1,6 +1,6 @@
 -- A close answers 41 for a closed side, and else what the check of its image says.
 -- By the ways of the test and the check's variants.
-use Rattle.session.proofs.Sides.{front-length, close-accepts, close-refuses}
+use Rattle.session.proofs.Sides.{image-length, close-accepts, close-refuses}
 use Rattle.session.specs.Steps.{closeKept}
 use borrow.Author.Needs.{needs}
 use Rattle.session.proofs.step.close.Statement.{statement}
@@ -14,7 +14,7 @@ filled-requires : tie.Need-filled-requires
 filled-requires c κs = search needs
 
 slice-aggregate-check : tie.Need-slice-aggregate-check
-slice-aggregate-check c = front-length _ _ _ (c .before .filled .ensures)
+slice-aggregate-check c = image-length _ _ _ (c .before .filled .ensures)
 
 check-requires : tie.Need-check-requires
 check-requires c κs = search needs

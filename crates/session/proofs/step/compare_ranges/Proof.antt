@@ -1,6 +1,6 @@
 -- Ranges of both sides compared: 42 where one is open, else the reply to the comparison.
 -- By the ways of the tests; the lent parts are the images.
-use Rattle.session.proofs.Sides.{front-length, front-image, side-open, both-closed}
+use Rattle.session.proofs.Sides.{image-length, front-image, side-open, both-closed}
 use Rattle.session.specs.Steps.{rangeReply}
 use borrow.Author.Tests.{not-true, not-false}
 use mathlib.Core.Path.{_∙_}
@@ -22,10 +22,10 @@ filled-requires-2 : tie.Need-filled-requires-2
 filled-requires-2 c κs = search needs
 
 slice-aggregate-compare-range : tie.Need-slice-aggregate-compare-range
-slice-aggregate-compare-range c = front-length _ _ _ (c .before .before .filled .ensures)
+slice-aggregate-compare-range c = image-length _ _ _ (c .before .before .filled .ensures)
 
 slice-aggregate-compare-range-2 : tie.Need-slice-aggregate-compare-range-2
-slice-aggregate-compare-range-2 c = front-length _ _ _ (c .before .before .filled2 .ensures)
+slice-aggregate-compare-range-2 c = image-length _ _ _ (c .before .before .filled2 .ensures)
 
 compare-range-requires : tie.Need-compare-range-requires
 compare-range-requires c κs = search needs

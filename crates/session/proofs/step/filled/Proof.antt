@@ -1,18 +1,16 @@
--- An image has as many bytes as are used, and no more than its store.
--- By the two ways of the test, from the length of a front.
+-- A side's image is the front of its store that is used.
+-- From what `front` gives.
 use Rattle.session.specs.Steps.{imageOf}
-use lib.ListN.{length-take}
-use native.Mathlib.Omega.{arith}
+use borrow.Author.Needs.{needs}
 use Rattle.session.proofs.step.filled.Statement.{statement}
 use Rattle.session.proofs.step.filled.Tie as tie
 
+front-requires : tie.Need-front-requires
+front-requires c κs = search needs
+
 returns : tie.Need-returns
 unfolding imageOf
-returns c = simp length-take (omega arith)
-
-returns-2 : tie.Need-returns-2
-unfolding imageOf
-returns-2 c = simp length-take (omega arith)
+returns c = c .front .ensures
 
 pub filled-spec : {M : Type 1} → statement M
-filled-spec = tie.close (tie.spec returns returns-2)
+filled-spec = tie.close (tie.spec front-requires returns)

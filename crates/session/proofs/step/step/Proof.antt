@@ -26,12 +26,9 @@ same-length c = search needs
 same-length-2 : tie.Need-same-length-2
 same-length-2 c = search needs
 
-same-length-3 : tie.Need-same-length-3
-same-length-3 c = search needs
-
 returns : tie.Need-returns
 unfolding afterLine
-returns c = rw (← c .before .before .before .before .before .before .before .before .before .before .before .decode .ensures .1) (c .before .before .before .before .before .before .obey .ensures)
+returns c = rw (← c .before .before .before .before .before .before .before .before .before .decode .ensures .1) (c .before .before .before .before .obey .ensures)
 
 pub step-spec : {M : Type 1} → statement M
 step-spec =
@@ -43,5 +40,4 @@ step-spec =
     obey-requires
     same-length
     same-length-2
-    same-length-3
     returns)

@@ -1,6 +1,6 @@
 -- Rows of a side written: 42 where it is open, else the reply to the write, and the output that it leaves.
 -- By the ways of the test; the lent part is the image.
-use Rattle.session.proofs.Sides.{front-length, front-image}
+use Rattle.session.proofs.Sides.{image-length, front-image}
 use Rattle.session.specs.Steps.{writeReply, writeOut}
 use borrow.Author.Tests.{not-true, not-false}
 use mathlib.Core.Path.{_∙_, refl}
@@ -16,7 +16,7 @@ filled-requires : tie.Need-filled-requires
 filled-requires c κs = search needs
 
 slice-aggregate-write : tie.Need-slice-aggregate-write
-slice-aggregate-write c = front-length _ _ _ (c .before .filled .ensures)
+slice-aggregate-write c = image-length _ _ _ (c .before .filled .ensures)
 
 write-requires : tie.Need-write-requires
 write-requires c κs = search needs
