@@ -22,7 +22,8 @@ static int32_t rust_equal(const void *left, const void *right) { return left != 
 static void rust_free(void *array) { (void)array; }
 #endif
 
-#define YES ((uint64_t)1 << 32)
+/* what a comparison that says yes answers */
+#define YES ((uint64_t)1 << 8)
 
 enum { ROWS = 1000000, TIMES = 31 };
 

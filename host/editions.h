@@ -28,7 +28,7 @@ uint64_t editions_compare(const uint8_t *left, size_t left_length, const uint8_t
 /* Writes `count` rows from row `start` on to the front of `out`, and answers how many bytes that are. Two ranges of equally
  * many rows of tables of equal type give the same bytes exactly when they are equal. Refused by 10 to 18 as editions_check,
  * by 21 where start + count exceeds the table's length, by 43 where the bytes do not fit. A refusal changes no byte of
- * `out`; bytes past those written are never changed. At most 4,294,967,295 bytes are written, however long `out` is. */
+ * `out`; bytes past those written are never changed. */
 uint64_t editions_write(const uint8_t *image, size_t image_length, uint32_t start, uint32_t count, uint8_t *out,
                         size_t out_length);
 
@@ -38,7 +38,7 @@ uint64_t editions_write(const uint8_t *image, size_t image_length, uint32_t star
 
 /* The refusals; editions_refusal_text says what each is. The three calls never answer EDITIONS_TYPES. */
 enum {
-    EDITIONS_SHORT = 10, EDITIONS_CODE = 11, EDITIONS_TREE = 12, EDITIONS_NAME = 13, EDITIONS_BUFFER = 14,
+    EDITIONS_SIZE = 10, EDITIONS_CODE = 11, EDITIONS_TREE = 12, EDITIONS_NAME = 13, EDITIONS_BUFFER = 14,
     EDITIONS_TOO_FEW = 15, EDITIONS_CHILD = 16, EDITIONS_OFFSETS = 17, EDITIONS_ROWS = 18, EDITIONS_TYPES = 20,
     EDITIONS_RANGE = 21, EDITIONS_OUTPUT = 43
 };
@@ -55,14 +55,14 @@ static inline unsigned editions_side(uint64_t answer) { return (unsigned)(answer
 static inline unsigned editions_node(uint64_t answer) { return (unsigned)(answer >> 16 & 65535u); }
 
 /* Of a call that is not refused: 1 or 0 for a comparison, the number of bytes for a write. */
-static inline uint32_t editions_value(uint64_t answer) { return (uint32_t)(answer >> 32); }
+static inline uint64_t editions_value(uint64_t answer) { return answer >> 8; }
 
 /* What a refusal's number says, as a sentence; 0 has one too, and so has a number that is no refusal. Never NULL. */
 static inline const char *editions_refusal_text(unsigned refusal)
 {
     switch (refusal) {
     case 0: return "The call is not refused.";
-    case EDITIONS_SHORT: return "The image is too long, too short for its tables, or has too few or too many nodes or buffers.";
+    case EDITIONS_SIZE: return "The image is too long, too short for its tables, or has too few or too many nodes or buffers.";
     case EDITIONS_CODE: return "A type code, flag or parameter is not allowed, or a bitmap stands where none may be.";
     case EDITIONS_TREE: return "The tree is broken: child counts, numbering, depth, type ids, a Map's entries or run ends.";
     case EDITIONS_NAME: return "A name is too long or lies outside the image.";

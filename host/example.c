@@ -61,7 +61,7 @@ static void report(const char *what, uint64_t answer)
         printf("%s: refused by %u, side %u, node %u. %s\n", what, editions_refusal(answer), editions_side(answer),
                editions_node(answer), editions_refusal_text(editions_refusal(answer)));
     else
-        printf("%s: %lu\n", what, (unsigned long)editions_value(answer));
+        printf("%s: %llu\n", what, (unsigned long long)editions_value(answer));
 }
 
 int main(void)
@@ -81,7 +81,7 @@ int main(void)
     uint64_t answer = editions_write(left.bytes, left.length, 0, ROWS, rows, sizeof rows);
     report("write the left rows", answer);
     printf("the bytes:");
-    for (uint32_t k = 0; k < editions_value(answer); k++)
+    for (uint64_t k = 0; k < editions_value(answer); k++)
         printf(" %02x", rows[k]);
     printf("\n");
 

@@ -25,7 +25,7 @@ def sized(data):
 
 def packed(answer):
     refusal, side, node, value = answer
-    return number(8, refusal | side << 8 | node << 16 | value << 32)
+    return number(8, refusal | side << 8 | node << 16 if refusal else value << 8)
 
 
 def table(rng, seed):

@@ -14,6 +14,9 @@
 
 enum { MOST = 1 << 16, ROOM = 4096 };
 
+/* what a comparison that says yes answers */
+static const uint64_t EQUAL = (uint64_t)1 << 8;
+
 static struct lent lent[3];
 
 static void must(int holds, const char *what)
@@ -56,7 +59,7 @@ static void one(const uint8_t *data, size_t size)
     else
         must(ab == (b | 1u << 8), "a refused right image is not the comparison's answer");
     if (a == 0)
-        must(editions_compare(left, cut, left, cut) == (uint64_t)1 << 32, "a table that does not equal itself");
+        must(editions_compare(left, cut, left, cut) == EQUAL, "a table that does not equal itself");
     else
         must(editions_write(left, cut, 0, 0, out, ROOM) == a, "a refused image is not the write's answer");
     if (a != 0)
@@ -70,7 +73,7 @@ static void one(const uint8_t *data, size_t size)
     if (n > 0)
         must(rows_of(left, cut, lent_bytes(lent[2], n - 1, 1), n - 1) == EDITIONS_OUTPUT, "one byte less is enough");
     must(rows_of(left, cut, lent_bytes(lent[2], n, 1), n) == written, "an exact buffer is not enough");
-    if (b == 0 && ab == (uint64_t)1 << 32) {
+    if (b == 0 && ab == EQUAL) {
         must(rows_of(right, length - cut, out, ROOM) == written, "equal tables take different numbers of bytes");
         must(memcmp(first, out, n) == 0, "equal tables write different bytes");
     }

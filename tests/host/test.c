@@ -24,7 +24,7 @@ static void expect(const char *what, unsigned long which, uint64_t got, uint64_t
 
 static uint64_t answer_of(unsigned refusal, unsigned side, unsigned node, uint64_t value)
 {
-    return refusal | (uint64_t)side << 8 | (uint64_t)node << 16 | value << 32;
+    return refusal ? refusal | (uint64_t)side << 8 | (uint64_t)node << 16 : value << 8;
 }
 
 /* Reading the file of cases. */
@@ -150,19 +150,19 @@ static void largest(void)
     /* one byte more than the most */
     left = lent_bytes(first, IMAGE_LONGEST + 1, 1);
     int8_image(left, IMAGE_LONGEST);
-    expect("too large", 0, editions_check(left, IMAGE_LONGEST + 1), answer_of(EDITIONS_SHORT, 0, 0, 0));
-    expect("too large", 1, editions_compare(right, IMAGE_LONGEST, left, IMAGE_LONGEST + 1), answer_of(EDITIONS_SHORT, EDITIONS_RIGHT, 0, 0));
+    expect("too large", 0, editions_check(left, IMAGE_LONGEST + 1), answer_of(EDITIONS_SIZE, 0, 0, 0));
+    expect("too large", 1, editions_compare(right, IMAGE_LONGEST, left, IMAGE_LONGEST + 1), answer_of(EDITIONS_SIZE, EDITIONS_RIGHT, 0, 0));
 }
 
 static void empty(void)
 {
     uint8_t image[IMAGE_TABLES(1, 1) + 1], out[4] = {1, 2, 3, 4};
     int8_image(image, sizeof image);
-    expect("no image", 0, editions_check(NULL, 0), answer_of(EDITIONS_SHORT, 0, 0, 0));
-    expect("no image", 1, editions_check(image, 0), answer_of(EDITIONS_SHORT, 0, 0, 0));
-    expect("no image", 2, editions_compare(NULL, 0, NULL, 0), answer_of(EDITIONS_SHORT, 0, 0, 0));
-    expect("no right image", 0, editions_compare(image, sizeof image, NULL, 0), answer_of(EDITIONS_SHORT, EDITIONS_RIGHT, 0, 0));
-    expect("no image to write", 0, editions_write(NULL, 0, 0, 0, NULL, 0), answer_of(EDITIONS_SHORT, 0, 0, 0));
+    expect("no image", 0, editions_check(NULL, 0), answer_of(EDITIONS_SIZE, 0, 0, 0));
+    expect("no image", 1, editions_check(image, 0), answer_of(EDITIONS_SIZE, 0, 0, 0));
+    expect("no image", 2, editions_compare(NULL, 0, NULL, 0), answer_of(EDITIONS_SIZE, 0, 0, 0));
+    expect("no right image", 0, editions_compare(image, sizeof image, NULL, 0), answer_of(EDITIONS_SIZE, EDITIONS_RIGHT, 0, 0));
+    expect("no image to write", 0, editions_write(NULL, 0, 0, 0, NULL, 0), answer_of(EDITIONS_SIZE, 0, 0, 0));
     expect("no rows into nothing", 0, editions_write(image, sizeof image, 0, 0, NULL, 0), 0);
     expect("a row into nothing", 0, editions_write(image, sizeof image, 0, 1, NULL, 0), answer_of(EDITIONS_OUTPUT, 0, 0, 0));
     expect("a row into one byte", 0, editions_write(image, sizeof image, 0, 1, out, 1), answer_of(EDITIONS_OUTPUT, 0, 0, 0));

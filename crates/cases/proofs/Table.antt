@@ -77,7 +77,7 @@ unfolding passes
     Row.tableRows
     Equality.rangesEqual Equality.tablesEqual Equality.rowsEqual
     RowBytes.rangeBytes RowBytes.rowsBytes
-    Answers.compareAnswer Answers.exceeds Answers.rangeAnswer Answers.compareRangeAnswer Answers.writeRange
+    Answers.compareAnswer Answers.exceeds Answers.pairedOf Answers.boundsOf Answers.compareRangeAnswer Answers.writeRange
     Answers.writeAnswer Answers.writeOutput
     mathlib.Core.List.flatten mathlib.Core.List.flatMap
 all-pass = refl

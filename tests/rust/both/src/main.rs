@@ -14,7 +14,7 @@ fn ours(left: &[u8], right: &[u8]) -> String {
     // SAFETY: the call reads the two images and nothing else
     let answer = unsafe { editions_compare(left.as_ptr(), left.len(), right.as_ptr(), right.len()) };
     match answer & 0xff {
-        0 => (answer >> 32).to_string(),
+        0 => (answer >> 8).to_string(),
         refusal => format!("r{refusal}"),
     }
 }
