@@ -1,13 +1,13 @@
 -- Bytes that are pieces joined, from the first piece that is left: those of rows, of child rows and of an image.
 -- A range of pieces is its first piece and the rest; each kind of bytes is such a range, by induction over the count.
-use mathlib.Core.Path.{_≡_, refl, ap}
-use mathlib.Core.List.{List, [], _∷_, _++_}
+use mathlib.Core.Path.{_≡_, refl, ap, _∙_}
+use mathlib.Core.List.{List, [], _∷_, _++_, append-assoc}
 use Prim.Native.Nat.{ℕ, zero, suc, _+_, _-_, _/_, _%_, _≤_, _<_}
 use native.Mathlib.Omega.{arith}
 use Rattle.image.specs.Bytes.{byteAt, numberBytes, bytesAt}
-use Rattle.image.specs.Row.{Row, range}
+use Rattle.image.specs.Row.{Row, Rows, none, more, range}
 use Rattle.image.specs.RowBytes.{rowBytes, rowsBytes}
-use Rattle.rows.specs.Value.{partsBytes}
+use Rattle.rows.specs.Value.{rowsThen, partRows}
 
 -- the pieces p i, p (i + 1), .., n of them
 unfoldable pub joined : (ℕ → List ℕ) → ℕ → ℕ → List ℕ
@@ -41,10 +41,17 @@ unfolding joined rowsBytes range
 rows-joined g i zero = refl
 rows-joined g i (suc n) = ap (λ (b : List ℕ). rowBytes (g i) ++ b) (rows-joined g (suc i) n)
 
-pub parts-joined : (sub : ℕ → ℕ → Row) (c parts i n : ℕ) → partsBytes sub c parts i n ≡ joined (λ c. rowsBytes (range (sub c) i n)) c parts
-unfolding joined partsBytes
+then-bytes : (rs qs : Rows) → rowsBytes (rowsThen rs qs) ≡ rowsBytes rs ++ rowsBytes qs
+unfolding rowsThen rowsBytes
+then-bytes none qs = refl
+then-bytes (more r rs) qs = rw (then-bytes rs qs, append-assoc)
+
+pub parts-joined : (sub : ℕ → ℕ → Row) (c parts i n : ℕ) → rowsBytes (partRows sub c parts i n) ≡ joined (λ c. rowsBytes (range (sub c) i n)) c parts
+unfolding joined partRows rowsBytes
 parts-joined sub c zero i n = refl
-parts-joined sub c (suc parts) i n = ap (λ (b : List ℕ). rowsBytes (range (sub c) i n) ++ b) (parts-joined sub (suc c) parts i n)
+parts-joined sub c (suc parts) i n =
+    then-bytes (range (sub c) i n) (partRows sub (suc c) parts i n)
+    ∙ ap (λ (b : List ℕ). rowsBytes (range (sub c) i n) ++ b) (parts-joined sub (suc c) parts i n)
 
 pub bytes-joined : (s : List ℕ) (i n : ℕ) → bytesAt s i n ≡ joined (λ j. byteAt s j ∷ []) i n
 unfolding joined bytesAt

@@ -1,7 +1,6 @@
 pub mod Joined
-pub mod LeafValues
-pub mod Made
-pub mod NestedValues
 pub mod Over
 pub mod Rooms
 pub mod RowParts
+pub mod ValuePlaces
+pub mod ValueRows

@@ -12,9 +12,9 @@ use Rattle.image.specs.RowBytes.{rowBytes}
 use Rattle.laws.proofs.Lengths.{number-length, bytes-length}
 use Rattle.rows.specs.declared.value.Value.{Value}
 use Rattle.rows.specs.Output.{over, Fits}
-use Rattle.rows.specs.Value.{ownBytes}
+use Rattle.rows.specs.Value.{frontBytes, ownBytes}
 use Rattle.rows.proofs.Joined.{joined, joined-start, joined-next, joined-end, bytes-joined, number-next}
-use Rattle.rows.proofs.RowParts.{ValueOf, childrenBytes, own-length}
+use Rattle.rows.proofs.RowParts.{RowValue, childrenBytes, own-length}
 
 -- nothing, one byte
 over-none : (out : List ℕ) (at : ℕ) → over out at [] ≡ out
@@ -204,7 +204,7 @@ module _ (s : List ℕ) (v : Value) {out : List ℕ} {at : ℕ} (fits : Fits out
   own-fits = omega (arith, fits .within, own-length s v)
 
   own-start : ToPut out at (ownBytes s v) out at (1 ∷ (numberBytes (v .width) (v .head) ++ bytesAt s (v .place) (v .size)))
-  unfolding ownBytes
+  unfolding ownBytes frontBytes
   own-start = put-start fits
 
   pub own-put : {number place end : ℕ} {marked headed own : List ℕ} → (number ≡ at + 1) × (marked ≡ over out at (numberBytes 1 1)) → (place ≡ number + v .width) × (headed ≡ over marked number (numberBytes (v .width) (v .head))) → (end ≡ place + v .size) × (own ≡ over headed place (bytesAt s (v .place) (v .size)))
@@ -217,7 +217,7 @@ module _ (s : List ℕ) (v : Value) {out : List ℕ} {at : ℕ} (fits : Fits out
       (g .0 ∙ ap (λ (n : ℕ). place + n) (sym (bytes-length s (v .place) (v .size))))
 
 -- A value: its own bytes, then its child rows.
-module _ {depth : ℕ} {s : List ℕ} {k i : ℕ} {v : Value} (r : ValueOf depth s k i v) {out : List ℕ} {at : ℕ} (fits : Fits out at (rowBytes (rowAt depth s k i))) where
+module _ {depth : ℕ} {s : List ℕ} {k i : ℕ} {v : Value} (r : RowValue depth s k i v) {out : List ℕ} {at : ℕ} (fits : Fits out at (rowBytes (rowAt depth s k i))) where
   value-start : ToPut out at (rowBytes (rowAt depth s k i)) out at (ownBytes s v ++ childrenBytes depth s v)
   value-start = put-as (put-start fits) (r .bytes)
 

@@ -14,7 +14,7 @@ use Rattle.rows.specs.declared.measure.Room.the-variants.{Left, Short}
 use Rattle.rows.specs.declared.value.Value.{Value}
 use Rattle.rows.specs.Output.{roomAfter}
 use Rattle.rows.proofs.Joined.{joined, joined-start, joined-next, joined-end}
-use Rattle.rows.proofs.RowParts.{ValueOf, childrenBytes, row-some, value-length}
+use Rattle.rows.proofs.RowParts.{RowValue, childrenBytes, row-some, value-length}
 
 -- bytes that fit, and bytes that do not
 pub fits-left : (room n : ℕ) → n ≤ room → Left (room - n) ≡ roomAfter room n
@@ -120,7 +120,7 @@ null-left room bytes e some = ap Left same ∙ fits-left room (length bytes) (om
     same = omega (arith, one)
 
 -- a value: its own bytes, then its child rows
-module _ {depth : ℕ} {s : List ℕ} {k i : ℕ} {v : Value} (r : ValueOf depth s k i v) (room : ℕ) where
+module _ {depth : ℕ} {s : List ℕ} {k i : ℕ} {v : Value} (r : RowValue depth s k i v) (room : ℕ) where
   pub value-short : room < 1 + v .width + v .size → Short ≡ roomAfter room (length (rowBytes (rowAt depth s k i)))
   value-short lt = past-short room _ (omega (arith, value-length r))
 

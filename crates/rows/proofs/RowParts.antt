@@ -19,8 +19,11 @@ use Rattle.values.specs.Parts.{Side, Part}
 use Rattle.values.proofs.Nodes.{side-part}
 use Rattle.values.proofs.Fixed.{side-small}
 use Rattle.rows.specs.declared.value.Value.{Value}
-use Rattle.rows.specs.Value.{isNull, ownBytes, valueBytes, Made}
+use Rattle.rows.specs.Value.{isNull, frontBytes, ownBytes, childRows}
+use Rattle.rows.specs.ValueOf.{valueOf}
 use Rattle.rows.proofs.Joined.{joined, parts-joined}
+use Rattle.rows.proofs.ValueRows.{value-written}
+use Rattle.rows.proofs.ValuePlaces.{Placed, value-placed}
 
 -- every row has a byte
 pub row-some : (r : Row) → 0 < length (rowBytes r)
@@ -69,23 +72,20 @@ childBytes sub v c = rowsBytes (range (sub c) (v .start) (v .count))
 abbrev pub childrenBytes : ℕ → List ℕ → Value → List ℕ
 childrenBytes depth s v = joined (childBytes (rowAt (depth - 1) s) v) (v .child) (v .parts)
 
--- A row is a value that is made so: its own bytes, then its child rows, one depth less.
-pub record ValueOf (depth : ℕ) (s : List ℕ) (k i : ℕ) (v : Value) : Type 0 where
+-- A row is not null and is written as the value: its own bytes, then its child rows, one depth less.
+pub record RowValue (depth : ℕ) (s : List ℕ) (k i : ℕ) (v : Value) : Type 0 where
   pub deep : depth ≡ 0 → ⊥
   pub bytes : rowBytes (rowAt depth s k i) ≡ ownBytes s v ++ childrenBytes depth s v
-  pub narrow : v .width ≤ 4
-  pub inside : v .place + v .size ≤ length s
-  pub parts : (c : ℕ) → c < v .parts → Side s (v .child + c) (v .start) (v .count)
-  pub few : v .child + v .parts ≤ 65536
+  pub placed : Placed s v
 
-made-bytes : (sub : ℕ → ℕ → Row) (s : List ℕ) (v : Value) → valueBytes sub s v ≡ ownBytes s v ++ joined (childBytes sub v) (v .child) (v .parts)
-unfolding valueBytes
-made-bytes sub s v = rw (parts-joined sub (v .child) (v .parts) (v .start) (v .count))
+children-joined : (sub : ℕ → ℕ → Row) (v : Value) → rowsBytes (childRows sub v) ≡ joined (childBytes sub v) (v .child) (v .parts)
+unfolding childRows
+children-joined sub v = parts-joined sub (v .child) (v .parts) (v .start) (v .count)
 
-value-row : (depth : ℕ) (s : List ℕ) (k i : ℕ) → isNull depth s k i ≡ false → rowAt depth s k i ≡ valueAt (layoutOf (codeOf s k)) (rowAt (depth - 1) s) s k (offsetOf s k + i)
+row-value : (depth : ℕ) (s : List ℕ) (k i : ℕ) → isNull depth s k i ≡ false → rowAt depth s k i ≡ valueAt (layoutOf (codeOf s k)) (rowAt (depth - 1) s) s k (offsetOf s k + i)
 unfolding isNull rowAt
-value-row zero s k i e = cc
-value-row (suc depth) s k i e =
+row-value zero s k i e = cc
+row-value (suc depth) s k i e =
     let less : suc depth - 1 ≡ depth = omega arith in
     rw (not-false (valid s k i) e, less)
 
@@ -102,28 +102,25 @@ module _ (depth : ℕ) {s : List ℕ} {k i : ℕ} (r : Side s k i 1) {b : Bool} 
   pub row-part : Part s k (o + i) 1
   row-part = rw (at .value) (side-part r (not-null depth s k i (sym eb ∙ is)))
 
-  pub value-of : {v : Value} → Made s (λ sub. valueAt (layoutOf (codeOf s k)) sub s k (o + i)) v → ValueOf depth s k i v
-  value-of {v} m = record {
+  pub value-of : {v : Value} → v ≡ valueOf (layoutOf (codeOf s k)) s k (o + i) → RowValue depth s k i v
+  value-of {v} ev = record {
     deep = not-ended depth s k i (sym eb ∙ is);
     bytes =
-        ap rowBytes (value-row depth s k i (sym eb ∙ is))
-        ∙ rw (at .value) at (m .bytes (rowAt (depth - 1) s))
-        ∙ made-bytes (rowAt (depth - 1) s) s v;
-    narrow = m .narrow;
-    inside = m .inside;
-    parts = m .parts;
-    few = m .few;
+        ap rowBytes (row-value depth s k i (sym eb ∙ is))
+        ∙ rw (← ev, at .value) at (value-written row-part (rowAt (depth - 1) s))
+        ∙ ap (λ (b : List ℕ). ownBytes s v ++ b) (children-joined (rowAt (depth - 1) s) v);
+    placed = rw ev (value-placed row-part);
   }
 
 -- how many bytes a value takes
 pub own-length : (s : List ℕ) (v : Value) → length (ownBytes s v) ≡ 1 + v .width + v .size
-unfolding ownBytes
+unfolding ownBytes frontBytes
 own-length s v =
     let number : List ℕ = numberBytes (v .width) (v .head) in
     let bytes : List ℕ = bytesAt s (v .place) (v .size) in
     omega (arith, length-append number bytes, number-length (v .width) (v .head), bytes-length s (v .place) (v .size))
 
-pub value-length : {depth : ℕ} {s : List ℕ} {k i : ℕ} {v : Value} → ValueOf depth s k i v → length (rowBytes (rowAt depth s k i)) ≡ 1 + v .width + v .size + length (childrenBytes depth s v)
+pub value-length : {depth : ℕ} {s : List ℕ} {k i : ℕ} {v : Value} → RowValue depth s k i v → length (rowBytes (rowAt depth s k i)) ≡ 1 + v .width + v .size + length (childrenBytes depth s v)
 value-length {depth} {s} {k} {i} {v} r =
     let all : length (rowBytes (rowAt depth s k i)) ≡ length (ownBytes s v ++ childrenBytes depth s v) = ap length (r .bytes) in
     omega (arith, all, length-append (ownBytes s v) (childrenBytes depth s v), own-length s v)

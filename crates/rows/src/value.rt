@@ -22,13 +22,13 @@ use values::runs::run_of;
 ghost use mathlib.Core.Path.{_≡_};
 ghost use Prim.Native.Nat.{_<_, _^_};
 ghost use Rattle.image.specs.declared.type_code.Layout.the-variants.{Boolean, FixedWidth, VariableSize, View, List as Lists, ListView, FixedList, Struct, DenseUnion, SparseUnion, Dictionary, Runs};
-ghost use Rattle.image.specs.Record.{codeOf, lengthOf};
+ghost use Rattle.image.specs.Record.{codeOf};
 ghost use Rattle.image.specs.TypeCode.{layoutOf};
-ghost use Rattle.image.specs.Element.{typeIdAt, childWithId};
-ghost use Rattle.image.specs.Row.{booleanRow, fixedRow, variableRow, viewRow, listRow, listViewRow, fixedListRow, structRow, unionRow, denseRow, sparseRow, dictionaryRow, runRow, valueAt};
+ghost use Rattle.image.specs.Element.{typeIdAt};
 ghost use Rattle.laws.specs.Accepted.{IdKnown};
 ghost use Rattle.values.specs.Parts.{Part};
-ghost use Rattle.rows.specs.Value.{leafValue, nestedValue, isNull, Made};
+ghost use Rattle.rows.specs.Value.{leafValue, nestedValue, isNull};
+ghost use Rattle.rows.specs.ValueOf.{valueOf, unionValue};
 
 pub struct Value {
     // the number in front: a text's length, a list's count, a union's id, a Boolean's bit
@@ -84,9 +84,7 @@ fn nested(head: usize, width: usize, child: u32, parts: u32, start: usize, count
 
 // "Boolean: 00 or 01."
 fn boolean_value(s: &[u8], node: u32, j: usize) -> Value
-    requires { ⌜ Part (now s) node j 1 ⌝ }
-    requires { ⌜ layoutOf (codeOf (now s) node) ≡ Boolean ⌝ }
-    ensures { λ r. ⌜ Made (now (s .entry)) (λ sub. booleanRow (now (s .entry)) node j) r ⌝ }
+    ensures { λ r. ⌜ r ≡ valueOf Boolean (now (s .entry)) node j ⌝ }
 {
     if bit(s, buffer_place(s, node, 0), j) {
         return leaf(1, ID_WIDTH, 0, 0);
@@ -98,70 +96,69 @@ fn boolean_value(s: &[u8], node: u32, j: usize) -> Value
 fn fixed_value(s: &[u8], node: u32, j: usize) -> Value
     requires { ⌜ Part (now s) node j 1 ⌝ }
     requires { ⌜ layoutOf (codeOf (now s) node) ≡ FixedWidth ⌝ }
-    ensures { λ r. ⌜ Made (now (s .entry)) (λ sub. fixedRow (now (s .entry)) node j) r ⌝ }
+    ensures { λ r. ⌜ r ≡ valueOf FixedWidth (now (s .entry)) node j ⌝ }
 {
     let width = element_width(s, node);
     leaf(0, 0, buffer_place(s, node, 0) + j * width, width)
 }
 
-// "Text, binary ..: u32 length, bytes."
+// "Text, binary, views: u32 length, bytes." Here of texts and binary, from one offset up to the next.
 fn variable_value(s: &[u8], node: u32, j: usize) -> Value
     requires { ⌜ Part (now s) node j 1 ⌝ }
     requires { ⌜ layoutOf (codeOf (now s) node) ≡ VariableSize ⌝ }
-    ensures { λ r. ⌜ Made (now (s .entry)) (λ sub. variableRow (now (s .entry)) node j) r ⌝ }
+    ensures { λ r. ⌜ r ≡ valueOf VariableSize (now (s .entry)) node j ⌝ }
 {
     let from = offset_at(s, node, j);
     let size = offset_at(s, node, j + 1) - from;
     leaf(size, COUNT_WIDTH, buffer_place(s, node, 1) + from, size)
 }
 
-// "views: u32 length, bytes."
+// The same of views, in the view or in a data buffer.
 fn view_value(s: &[u8], node: u32, j: usize) -> Value
     requires { ⌜ Part (now s) node j 1 ⌝ }
     requires { ⌜ layoutOf (codeOf (now s) node) ≡ View ⌝ }
-    ensures { λ r. ⌜ Made (now (s .entry)) (λ sub. viewRow (now (s .entry)) node j) r ⌝ }
+    ensures { λ r. ⌜ r ≡ valueOf View (now (s .entry)) node j ⌝ }
 {
     let view = buffer_place(s, node, 0) + j * VIEW_SIZE;
     let size = le32(s, view);
     leaf(size, COUNT_WIDTH, data_place(s, node, view, size), size)
 }
 
-// "List kinds and Map: u32 count, child rows."
+// "List kinds and Map: u32 count, child rows." From one offset up to the next.
 fn list_value(s: &[u8], node: u32, j: usize) -> Value
     requires { ⌜ Part (now s) node j 1 ⌝ }
     requires { ⌜ layoutOf (codeOf (now s) node) ≡ Lists ⌝ }
-    ensures { λ r. ⌜ Made (now (s .entry)) (λ sub. listRow sub (now (s .entry)) node j) r ⌝ }
+    ensures { λ r. ⌜ r ≡ valueOf Lists (now (s .entry)) node j ⌝ }
 {
     let from = offset_at(s, node, j);
     let count = offset_at(s, node, j + 1) - from;
     nested(count, COUNT_WIDTH, first_child(s, node), 1, from, count)
 }
 
+// Of list views, from the offset on as many as the size says.
 fn list_view_value(s: &[u8], node: u32, j: usize) -> Value
     requires { ⌜ Part (now s) node j 1 ⌝ }
     requires { ⌜ layoutOf (codeOf (now s) node) ≡ ListView ⌝ }
-    ensures { λ r. ⌜ Made (now (s .entry)) (λ sub. listViewRow sub (now (s .entry)) node j) r ⌝ }
+    ensures { λ r. ⌜ r ≡ valueOf ListView (now (s .entry)) node j ⌝ }
 {
     let from = offset_at(s, node, j);
     let count = nth(s, buffer_place(s, node, 1), element_width(s, node), j);
     nested(count, COUNT_WIDTH, first_child(s, node), 1, from, count)
 }
 
-// "Fixed lists ..: child rows."
+// "Fixed lists, Structs: child rows." Here p1 rows of the child.
 fn fixed_list_value(s: &[u8], node: u32, j: usize) -> Value
     requires { ⌜ Part (now s) node j 1 ⌝ }
     requires { ⌜ layoutOf (codeOf (now s) node) ≡ FixedList ⌝ }
-    ensures { λ r. ⌜ Made (now (s .entry)) (λ sub. fixedListRow sub (now (s .entry)) node j) r ⌝ }
+    ensures { λ r. ⌜ r ≡ valueOf FixedList (now (s .entry)) node j ⌝ }
 {
     let count = p1(s, node);
     nested(0, 0, first_child(s, node), 1, j * count, count)
 }
 
-// "Structs: child rows."
+// Of a Struct, one row of each child.
 fn struct_value(s: &[u8], node: u32, j: usize) -> Value
-    requires { ⌜ Part (now s) node j 1 ⌝ }
-    requires { ⌜ layoutOf (codeOf (now s) node) ≡ Struct ⌝ }
-    ensures { λ r. ⌜ Made (now (s .entry)) (λ sub. structRow sub (now (s .entry)) node j) r ⌝ }
+    ensures { λ r. ⌜ r ≡ valueOf Struct (now (s .entry)) node j ⌝ }
 {
     nested(0, 0, first_child(s, node), child_count(s, node), j, 1)
 }
@@ -170,17 +167,17 @@ fn struct_value(s: &[u8], node: u32, j: usize) -> Value
 fn union_value(s: &[u8], node: u32, j: usize, row: usize) -> Value
     requires { ⌜ Part (now s) node j 1 ⌝ }
     requires { ⌜ IdKnown (now s) node j ⌝ }
-    requires { ⌜ row < lengthOf (now s) (childWithId (now s) node (typeIdAt (now s) node j)) ⌝ }
-    ensures { λ r. ⌜ Made (now (s .entry)) (λ sub. unionRow sub (now (s .entry)) node (typeIdAt (now (s .entry)) node j) row) r ⌝ }
+    ensures { λ r. ⌜ r ≡ unionValue (now (s .entry)) node (typeIdAt (now (s .entry)) node j) row ⌝ }
 {
     let id = byte(s, buffer_place(s, node, 0) + j);
     nested(wide(id), ID_WIDTH, child_with_id(s, node, id), 1, row, 1)
 }
 
+// Its row is at the stored offset, or at the same place.
 fn dense_value(s: &[u8], node: u32, j: usize) -> Value
     requires { ⌜ Part (now s) node j 1 ⌝ }
     requires { ⌜ layoutOf (codeOf (now s) node) ≡ DenseUnion ⌝ }
-    ensures { λ r. ⌜ Made (now (s .entry)) (λ sub. denseRow sub (now (s .entry)) node j) r ⌝ }
+    ensures { λ r. ⌜ r ≡ valueOf DenseUnion (now (s .entry)) node j ⌝ }
 {
     union_value(s, node, j, nth(s, buffer_place(s, node, 1), 4, j))
 }
@@ -188,16 +185,16 @@ fn dense_value(s: &[u8], node: u32, j: usize) -> Value
 fn sparse_value(s: &[u8], node: u32, j: usize) -> Value
     requires { ⌜ Part (now s) node j 1 ⌝ }
     requires { ⌜ layoutOf (codeOf (now s) node) ≡ SparseUnion ⌝ }
-    ensures { λ r. ⌜ Made (now (s .entry)) (λ sub. sparseRow sub (now (s .entry)) node j) r ⌝ }
+    ensures { λ r. ⌜ r ≡ valueOf SparseUnion (now (s .entry)) node j ⌝ }
 {
     union_value(s, node, j, j)
 }
 
-// "Dictionary, runs: the row of the values child."
+// "Dictionary, runs: the row of the values child." It is named by the key, or numbered as the run.
 fn dictionary_value(s: &[u8], node: u32, j: usize) -> Value
     requires { ⌜ Part (now s) node j 1 ⌝ }
     requires { ⌜ layoutOf (codeOf (now s) node) ≡ Dictionary ⌝ }
-    ensures { λ r. ⌜ Made (now (s .entry)) (λ sub. dictionaryRow sub (now (s .entry)) node j) r ⌝ }
+    ensures { λ r. ⌜ r ≡ valueOf Dictionary (now (s .entry)) node j ⌝ }
 {
     nested(0, 0, first_child(s, node), 1, offset_at(s, node, j), 1)
 }
@@ -205,7 +202,7 @@ fn dictionary_value(s: &[u8], node: u32, j: usize) -> Value
 fn run_value(s: &[u8], node: u32, j: usize) -> Value
     requires { ⌜ Part (now s) node j 1 ⌝ }
     requires { ⌜ layoutOf (codeOf (now s) node) ≡ Runs ⌝ }
-    ensures { λ r. ⌜ Made (now (s .entry)) (λ sub. runRow sub (now (s .entry)) node j) r ⌝ }
+    ensures { λ r. ⌜ r ≡ valueOf Runs (now (s .entry)) node j ⌝ }
 {
     nested(0, 0, first_child(s, node) + 1, 1, run_of(s, node, j), 1)
 }
@@ -221,10 +218,10 @@ pub fn is_null(s: &[u8], node: u32, i: usize, depth: usize) -> bool
     !is_valid(s, node, i)
 }
 
-// What the value at element j of a node is made of.
+// The value at element j of a node.
 pub fn value_at(s: &[u8], node: u32, j: usize) -> Value
     requires { ⌜ Part (now s) node j 1 ⌝ }
-    ensures { λ r. ⌜ Made (now (s .entry)) (λ sub. valueAt (layoutOf (codeOf (now (s .entry)) node)) sub (now (s .entry)) node j) r ⌝ }
+    ensures { λ r. ⌜ r ≡ valueOf (layoutOf (codeOf (now (s .entry)) node)) (now (s .entry)) node j ⌝ }
 {
     let layout = TypeCode::layout(code(s, node));
     match layout {

@@ -1,9 +1,8 @@
 -- `dictionary_value` gives the row of the values child that the key names.
--- The key of a row that is not null lies within the child.
+-- The key that is read is the element's.
 use native.Mathlib.Omega.{arith}
 use borrow.Author.Needs.{needs}
 use Rattle.values.proofs.Nodes.{part-node, part-small}
-use Rattle.rows.proofs.NestedValues.{key-made}
 use Rattle.rows.proofs.value.dictionary_value.Statement.{statement}
 use Rattle.rows.proofs.value.dictionary_value.Tie as tie
 
@@ -17,7 +16,7 @@ nested-requires : tie.Need-nested-requires
 nested-requires c κs = search needs
 
 returns : tie.Need-returns
-returns c = key-made (c .before .before .before .before .pre .0) (c .before .before .before .before .pre .1) (c .before .offset-at .ensures) (c .before .before .first-child .ensures) (c .nested .ensures)
+returns c = rw (c .nested .ensures, c .before .offset-at .ensures, c .before .before .first-child .ensures .value)
 
 pub dictionary-value-spec : {M : Type 1} → statement M
 dictionary-value-spec =

@@ -2,7 +2,7 @@
 -- There are p1 of them for each element, and they lie within the child.
 use native.Mathlib.Omega.{arith}
 use borrow.Author.Needs.{needs}
-use Rattle.rows.proofs.NestedValues.{fixed-list-fits, fixed-list-made}
+use Rattle.rows.proofs.ValuePlaces.{fixed-list-fits}
 use Rattle.rows.proofs.value.fixed_list_value.Statement.{statement}
 use Rattle.rows.proofs.value.fixed_list_value.Tie as tie
 
@@ -13,13 +13,13 @@ first-child-requires : tie.Need-first-child-requires
 first-child-requires c κs = search needs
 
 mul-nested : tie.Need-mul-nested
-mul-nested c = omega (arith, fixed-list-fits (c .before .before .before .pre .0) (c .before .before .before .pre .1) (c .before .p1 .ensures))
+mul-nested c = omega (arith, rw (← c .before .p1 .ensures .value) at (fixed-list-fits (c .before .before .before .pre .0) (c .before .before .before .pre .1)))
 
 nested-requires : tie.Need-nested-requires
 nested-requires c κs = search needs
 
 returns : tie.Need-returns
-returns c = fixed-list-made (c .before .before .before .before .pre .0) (c .before .before .before .before .pre .1) (c .before .before .p1 .ensures) (c .before .first-child .ensures) (c .nested .ensures)
+returns c = rw (c .nested .ensures, c .before .before .p1 .ensures .value, c .before .first-child .ensures .value)
 
 pub fixed-list-value-spec : {M : Type 1} → statement M
 fixed-list-value-spec =

@@ -2,7 +2,8 @@
 -- They lie inside the image, so that their place does not wrap.
 use native.Mathlib.Omega.{arith}
 use borrow.Author.Needs.{needs}
-use Rattle.rows.proofs.LeafValues.{fixed-small, fixed-made}
+use Rattle.image.specs.Element.{elementPlace}
+use Rattle.rows.proofs.ValuePlaces.{fixed-small}
 use Rattle.rows.proofs.value.fixed_value.Statement.{statement}
 use Rattle.rows.proofs.value.fixed_value.Tie as tie
 
@@ -22,7 +23,8 @@ leaf-requires : tie.Need-leaf-requires
 leaf-requires c κs = search needs
 
 returns : tie.Need-returns
-returns c = fixed-made (c .before .before .before .before .pre .0) (c .before .before .before .before .pre .1) (c .before .before .element-width .ensures) (c .before .buffer-place .ensures .value) (c .leaf .ensures)
+unfolding elementPlace
+returns c = rw (c .leaf .ensures, c .before .before .element-width .ensures, c .before .buffer-place .ensures .value)
 
 pub fixed-value-spec : {M : Type 1} → statement M
 fixed-value-spec =

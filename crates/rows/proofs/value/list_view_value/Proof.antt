@@ -3,7 +3,6 @@
 use native.Mathlib.Omega.{arith}
 use borrow.Author.Needs.{needs}
 use Rattle.values.proofs.Nodes.{size-read, part-node, part-small}
-use Rattle.rows.proofs.NestedValues.{list-view-made}
 use Rattle.rows.proofs.value.list_view_value.Statement.{statement}
 use Rattle.rows.proofs.value.list_view_value.Tie as tie
 
@@ -30,7 +29,7 @@ nested-requires : tie.Need-nested-requires
 nested-requires c κs = search needs
 
 returns : tie.Need-returns
-returns c = list-view-made (c .before .before .before .before .before .before .before .pre .0) (c .before .before .before .before .before .before .before .pre .1) (c .before .before .before .before .before .offset-at .ensures) (size-read _ _ _ (c .before .before .before .element-width .ensures) (c .before .before .before .before .buffer-place .ensures) (c .before .before .nth .ensures)) (c .before .first-child .ensures) (c .nested .ensures)
+returns c = rw (c .nested .ensures, c .before .before .before .before .before .offset-at .ensures, size-read _ _ _ (c .before .before .before .element-width .ensures) (c .before .before .before .before .buffer-place .ensures) (c .before .before .nth .ensures), c .before .first-child .ensures .value)
 
 pub list-view-value-spec : {M : Type 1} → statement M
 list-view-value-spec =

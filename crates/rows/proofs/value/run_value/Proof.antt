@@ -1,9 +1,8 @@
 -- `run_value` gives the row of the values child that is numbered as the element's run.
--- Every element lies in a run, and the values child has a row for each.
+-- Every element lies in a run.
 use native.Mathlib.Omega.{arith}
 use borrow.Author.Needs.{needs}
 use Rattle.values.proofs.RunEnds.{run-first}
-use Rattle.rows.proofs.NestedValues.{run-made}
 use Rattle.rows.proofs.value.run_value.Statement.{statement}
 use Rattle.rows.proofs.value.run_value.Tie as tie
 
@@ -20,7 +19,7 @@ nested-requires : tie.Need-nested-requires
 nested-requires c κs = search needs
 
 returns : tie.Need-returns
-returns c = run-made (c .before .before .before .before .pre .0) (c .before .before .before .before .pre .1) (c .before .run-of .ensures) (c .before .before .first-child .ensures) (c .nested .ensures)
+returns c = rw (c .nested .ensures, c .before .run-of .ensures, c .before .before .first-child .ensures .value)
 
 pub run-value-spec : {M : Type 1} → statement M
 run-value-spec =

@@ -1,7 +1,6 @@
 -- `struct_value` gives a row of each child.
--- Each child is long enough.
+-- The children are those that were read.
 use borrow.Author.Needs.{needs}
-use Rattle.rows.proofs.NestedValues.{struct-made}
 use Rattle.rows.proofs.value.struct_value.Statement.{statement}
 use Rattle.rows.proofs.value.struct_value.Tie as tie
 
@@ -15,7 +14,7 @@ nested-requires : tie.Need-nested-requires
 nested-requires c κs = search needs
 
 returns : tie.Need-returns
-returns c = struct-made (c .before .before .before .before .pre .0) (c .before .before .before .before .pre .1) (c .before .before .first-child .ensures) (c .before .child-count .ensures) (c .nested .ensures)
+returns c = rw (c .nested .ensures, c .before .before .first-child .ensures .value, c .before .child-count .ensures .value)
 
 pub struct-value-spec : {M : Type 1} → statement M
 struct-value-spec =

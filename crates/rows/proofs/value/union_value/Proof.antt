@@ -2,8 +2,8 @@
 -- The id that is read is the row's, and it names a child.
 use native.Mathlib.Omega.{arith}
 use borrow.Author.Needs.{needs}
+use borrow.Author.Tests.{lt-ltb}
 use Rattle.values.proofs.Nodes.{id-read, part-small}
-use Rattle.rows.proofs.NestedValues.{union-made}
 use Rattle.rows.proofs.value.union_value.Statement.{statement}
 use Rattle.rows.proofs.value.union_value.Tie as tie
 
@@ -26,7 +26,7 @@ nested-requires : tie.Need-nested-requires
 nested-requires c κs = search needs
 
 returns : tie.Need-returns
-returns c = union-made (c .before .before .before .before .before .before .pre .0) (id-read _ _ _ (c .before .before .before .before .buffer-place .ensures) (c .before .before .before .byte .ensures)) (c .before .before .wide .ensures) (c .before .child-with-id .ensures) _ (c .before .before .before .before .before .before .pre .1 .0) (c .before .before .before .before .before .before .pre .1 .1) (c .nested .ensures)
+returns c = rw (c .nested .ensures, c .before .before .wide .ensures .value, c .before .child-with-id .ensures .value, id-read _ _ _ (c .before .before .before .before .buffer-place .ensures) (c .before .before .before .byte .ensures), lt-ltb _ _ (c .before .before .before .before .before .before .pre .1 .high))
 
 pub union-value-spec : {M : Type 1} → statement M
 union-value-spec =

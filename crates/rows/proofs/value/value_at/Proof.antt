@@ -1,11 +1,8 @@
--- `value_at` gives what the value of the node's layout is made of.
--- Each arm is at one layout, whose function makes the value.
+-- `value_at` gives the value of the node's layout.
+-- Each arm is at one layout, whose function gives its value.
 use borrow.Author.Needs.{needs}
 use mathlib.Core.Path.{sym}
-use Rattle.image.specs.declared.type_code.Layout.the-variants.{Null, Boolean, FixedWidth, VariableSize, View, List as Lists, ListView, FixedList, Struct, DenseUnion, SparseUnion, Dictionary, Runs}
 use Rattle.values.proofs.Nodes.{layout-is}
-use Rattle.rows.proofs.LeafValues.{null-made}
-use Rattle.rows.proofs.Made.{at-layout}
 use Rattle.rows.proofs.value.value_at.Statement.{statement}
 use Rattle.rows.proofs.value.value_at.Tie as tie
 
@@ -25,7 +22,7 @@ enum-told-2 : tie.Need-enum-told-2
 enum-told-2 c = search needs
 
 boolean-value-requires : tie.Need-boolean-value-requires
-boolean-value-requires c κs = (c .before .before .before .before .before .pre, layout-is (c .before .before .before .code .ensures) (c .before .before .layout .ensures) (sym (c .enum-told2 .given .1)))
+boolean-value-requires c κs = search needs
 
 enum-told-3 : tie.Need-enum-told-3
 enum-told-3 c = search needs
@@ -67,7 +64,7 @@ enum-told-9 : tie.Need-enum-told-9
 enum-told-9 c = search needs
 
 struct-value-requires : tie.Need-struct-value-requires
-struct-value-requires c κs = (c .before .before .before .before .before .pre, layout-is (c .before .before .before .code .ensures) (c .before .before .layout .ensures) (sym (c .enum-told9 .given .1)))
+struct-value-requires c κs = search needs
 
 enum-told-10 : tie.Need-enum-told-10
 enum-told-10 c = search needs
@@ -94,43 +91,43 @@ run-value-requires : tie.Need-run-value-requires
 run-value-requires c κs = (c .before .before .before .before .before .pre, layout-is (c .before .before .before .code .ensures) (c .before .before .layout .ensures) (sym (c .enum-told13 .given .1)))
 
 returns : tie.Need-returns
-returns c = at-layout _ _ Null (layout-is (c .before .before .before .before .code .ensures) (c .before .before .before .layout .ensures) (sym (c .before .enum-told .given .1))) (null-made _ (c .leaf .ensures))
+returns c = rw (layout-is (c .before .before .before .before .code .ensures) (c .before .before .before .layout .ensures) (sym (c .before .enum-told .given .1))) (c .leaf .ensures)
 
 returns-2 : tie.Need-returns-2
-returns-2 c = at-layout _ _ Boolean (layout-is (c .before .before .before .before .code .ensures) (c .before .before .before .layout .ensures) (sym (c .before .enum-told2 .given .1))) (c .boolean-value .ensures)
+returns-2 c = rw (layout-is (c .before .before .before .before .code .ensures) (c .before .before .before .layout .ensures) (sym (c .before .enum-told2 .given .1))) (c .boolean-value .ensures)
 
 returns-3 : tie.Need-returns-3
-returns-3 c = at-layout _ _ FixedWidth (layout-is (c .before .before .before .before .code .ensures) (c .before .before .before .layout .ensures) (sym (c .before .enum-told3 .given .1))) (c .fixed-value .ensures)
+returns-3 c = rw (layout-is (c .before .before .before .before .code .ensures) (c .before .before .before .layout .ensures) (sym (c .before .enum-told3 .given .1))) (c .fixed-value .ensures)
 
 returns-4 : tie.Need-returns-4
-returns-4 c = at-layout _ _ VariableSize (layout-is (c .before .before .before .before .code .ensures) (c .before .before .before .layout .ensures) (sym (c .before .enum-told4 .given .1))) (c .variable-value .ensures)
+returns-4 c = rw (layout-is (c .before .before .before .before .code .ensures) (c .before .before .before .layout .ensures) (sym (c .before .enum-told4 .given .1))) (c .variable-value .ensures)
 
 returns-5 : tie.Need-returns-5
-returns-5 c = at-layout _ _ View (layout-is (c .before .before .before .before .code .ensures) (c .before .before .before .layout .ensures) (sym (c .before .enum-told5 .given .1))) (c .view-value .ensures)
+returns-5 c = rw (layout-is (c .before .before .before .before .code .ensures) (c .before .before .before .layout .ensures) (sym (c .before .enum-told5 .given .1))) (c .view-value .ensures)
 
 returns-6 : tie.Need-returns-6
-returns-6 c = at-layout _ _ Lists (layout-is (c .before .before .before .before .code .ensures) (c .before .before .before .layout .ensures) (sym (c .before .enum-told6 .given .1))) (c .list-value .ensures)
+returns-6 c = rw (layout-is (c .before .before .before .before .code .ensures) (c .before .before .before .layout .ensures) (sym (c .before .enum-told6 .given .1))) (c .list-value .ensures)
 
 returns-7 : tie.Need-returns-7
-returns-7 c = at-layout _ _ ListView (layout-is (c .before .before .before .before .code .ensures) (c .before .before .before .layout .ensures) (sym (c .before .enum-told7 .given .1))) (c .list-view-value .ensures)
+returns-7 c = rw (layout-is (c .before .before .before .before .code .ensures) (c .before .before .before .layout .ensures) (sym (c .before .enum-told7 .given .1))) (c .list-view-value .ensures)
 
 returns-8 : tie.Need-returns-8
-returns-8 c = at-layout _ _ FixedList (layout-is (c .before .before .before .before .code .ensures) (c .before .before .before .layout .ensures) (sym (c .before .enum-told8 .given .1))) (c .fixed-list-value .ensures)
+returns-8 c = rw (layout-is (c .before .before .before .before .code .ensures) (c .before .before .before .layout .ensures) (sym (c .before .enum-told8 .given .1))) (c .fixed-list-value .ensures)
 
 returns-9 : tie.Need-returns-9
-returns-9 c = at-layout _ _ Struct (layout-is (c .before .before .before .before .code .ensures) (c .before .before .before .layout .ensures) (sym (c .before .enum-told9 .given .1))) (c .struct-value .ensures)
+returns-9 c = rw (layout-is (c .before .before .before .before .code .ensures) (c .before .before .before .layout .ensures) (sym (c .before .enum-told9 .given .1))) (c .struct-value .ensures)
 
 returns-10 : tie.Need-returns-10
-returns-10 c = at-layout _ _ DenseUnion (layout-is (c .before .before .before .before .code .ensures) (c .before .before .before .layout .ensures) (sym (c .before .enum-told10 .given .1))) (c .dense-value .ensures)
+returns-10 c = rw (layout-is (c .before .before .before .before .code .ensures) (c .before .before .before .layout .ensures) (sym (c .before .enum-told10 .given .1))) (c .dense-value .ensures)
 
 returns-11 : tie.Need-returns-11
-returns-11 c = at-layout _ _ SparseUnion (layout-is (c .before .before .before .before .code .ensures) (c .before .before .before .layout .ensures) (sym (c .before .enum-told11 .given .1))) (c .sparse-value .ensures)
+returns-11 c = rw (layout-is (c .before .before .before .before .code .ensures) (c .before .before .before .layout .ensures) (sym (c .before .enum-told11 .given .1))) (c .sparse-value .ensures)
 
 returns-12 : tie.Need-returns-12
-returns-12 c = at-layout _ _ Dictionary (layout-is (c .before .before .before .before .code .ensures) (c .before .before .before .layout .ensures) (sym (c .before .enum-told12 .given .1))) (c .dictionary-value .ensures)
+returns-12 c = rw (layout-is (c .before .before .before .before .code .ensures) (c .before .before .before .layout .ensures) (sym (c .before .enum-told12 .given .1))) (c .dictionary-value .ensures)
 
 returns-13 : tie.Need-returns-13
-returns-13 c = at-layout _ _ Runs (layout-is (c .before .before .before .before .code .ensures) (c .before .before .before .layout .ensures) (sym (c .before .enum-told13 .given .1))) (c .run-value .ensures)
+returns-13 c = rw (layout-is (c .before .before .before .before .code .ensures) (c .before .before .before .layout .ensures) (sym (c .before .enum-told13 .given .1))) (c .run-value .ensures)
 
 pub value-at-spec : {M : Type 1} → statement M
 value-at-spec =

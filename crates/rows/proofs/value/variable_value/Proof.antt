@@ -1,10 +1,10 @@
 -- `variable_value` gives the text's length and bytes.
 -- Offsets rise, and the text ends inside the image.
+use native.Mathlib.Numerals.{add-one}
 use native.Mathlib.Omega.{arith}
 use borrow.Author.Needs.{needs}
 use Rattle.values.proofs.Nodes.{part-small}
-use Rattle.values.proofs.Texts.{text-narrow}
-use Rattle.rows.proofs.LeafValues.{text-rises, text-ends, text-made}
+use Rattle.values.proofs.Texts.{text-narrow, text-up, text-inside}
 use Rattle.rows.proofs.value.variable_value.Statement.{statement}
 use Rattle.rows.proofs.value.variable_value.Tie as tie
 
@@ -18,19 +18,19 @@ offset-at-requires-2 : tie.Need-offset-at-requires-2
 offset-at-requires-2 c κs = (text-narrow _ _ _ _ (c .before .before .pre .0) (c .before .before .pre .1), omega (arith, part-small (c .before .before .pre .0)))
 
 sub-size : tie.Need-sub-size
-sub-size c = omega (arith, text-rises (c .before .before .before .pre .0) (c .before .before .before .pre .1) (c .before .offset-at .ensures) (c .offset-at2 .ensures))
+sub-size c = omega (arith, text-up _ _ _ _ (c .before .before .before .pre .0) (c .before .before .before .pre .1))
 
 buffer-place-requires : tie.Need-buffer-place-requires
 buffer-place-requires c κs = search needs
 
 add-leaf : tie.Need-add-leaf
-add-leaf c = omega (arith, c .buffer-place .ensures .value, text-rises (c .before .before .before .before .pre .0) (c .before .before .before .before .pre .1) (c .before .before .offset-at .ensures) (c .before .offset-at2 .ensures), text-ends (c .before .before .before .before .pre .0) (c .before .before .before .before .pre .1) (c .before .before .offset-at .ensures) (c .before .offset-at2 .ensures), c .before .before .before .before .pre .0 .image .size)
+add-leaf c = omega (arith, text-up _ _ _ _ (c .before .before .before .before .pre .0) (c .before .before .before .before .pre .1), text-inside _ _ _ _ (c .before .before .before .before .pre .0) (c .before .before .before .before .pre .1), c .before .before .before .before .pre .0 .image .size)
 
 leaf-requires : tie.Need-leaf-requires
 leaf-requires c κs = search needs
 
 returns : tie.Need-returns
-returns c = text-made (c .before .before .before .before .before .pre .0) (c .before .before .before .before .before .pre .1) (c .before .before .before .offset-at .ensures) (c .before .before .offset-at2 .ensures) (c .before .buffer-place .ensures .value) (c .leaf .ensures)
+returns c = rw (c .leaf .ensures, c .before .before .before .offset-at .ensures, c .before .before .offset-at2 .ensures, c .before .buffer-place .ensures .value, add-one)
 
 pub variable-value-spec : {M : Type 1} → statement M
 variable-value-spec =

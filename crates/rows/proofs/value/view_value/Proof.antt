@@ -2,9 +2,9 @@
 -- The view of a row that is not null shows bytes of the image.
 use native.Mathlib.Omega.{arith}
 use borrow.Author.Needs.{needs}
+use Rattle.image.specs.Element.{viewLength}
 use Rattle.values.proofs.Nodes.{part-small}
-use Rattle.values.proofs.Views.{viewed}
-use Rattle.rows.proofs.LeafValues.{view-made}
+use Rattle.values.proofs.Views.{viewed, view-place}
 use Rattle.rows.proofs.value.view_value.Statement.{statement}
 use Rattle.rows.proofs.value.view_value.Tie as tie
 
@@ -27,7 +27,8 @@ leaf-requires : tie.Need-leaf-requires
 leaf-requires c κs = search needs
 
 returns : tie.Need-returns
-returns c = view-made (c .before .before .before .before .before .pre .0) (c .before .before .before .before .before .pre .1) (c .before .before .before .buffer-place .ensures .value) (c .before .before .le32 .ensures .value) (c .before .data-place .ensures) (c .leaf .ensures)
+unfolding viewLength
+returns c = rw (c .leaf .ensures, c .before .data-place .ensures .place, c .before .before .le32 .ensures .value, view-place (c .before .before .before .before .before .pre .0) (c .before .before .before .before .before .pre .1) (c .before .before .before .buffer-place .ensures .value))
 
 pub view-value-spec : {M : Type 1} → statement M
 view-value-spec =

@@ -5,7 +5,7 @@ use native.Mathlib.Omega.{arith}
 use borrow.Author.Needs.{needs}
 use mathlib.Core.Path.{sym, _∙_}
 use Rattle.image.specs.Row.{rowAt}
-use Rattle.rows.proofs.RowParts.{ValueOf, childBytes, row-null, side-few, row-part, value-of}
+use Rattle.rows.proofs.RowParts.{RowValue, childBytes, row-null, side-few, row-part, value-of}
 use Rattle.rows.proofs.Rooms.{PiecesToMeasure, measuring-start, measuring-more, measuring-short, measuring-done, none-short, null-left, value-short, value-left}
 use Rattle.rows.proofs.measure.measure_row.Reads as measure-row
 use Rattle.rows.proofs.measure.measure_rows.Reads as measure-rows
@@ -19,13 +19,13 @@ abbrev calls : ℕ → lts.Claims
 calls t = (is-null-reads.Asked, is-null-reads.Learnt, offset-reads.Asked, offset-reads.Learnt, value-at-reads.Asked, value-at-reads.Learnt, measure-rows-below t, measure-rows.Post)
 
 abbrev Inv-loop : lts.InvT-loop
-Inv-loop s node i depth room v own left₀ c₀ left c = ValueOf depth s node i v × PiecesToMeasure (childBytes (rowAt (depth - 1) s) v) (v .child) (v .parts) left₀ left c
+Inv-loop s node i depth room v own left₀ c₀ left c = RowValue depth s node i v × PiecesToMeasure (childBytes (rowAt (depth - 1) s) v) (v .child) (v .parts) left₀ left c
 
 abbrev μ-loop : lts.MeasureT-loop
 μ-loop s node i depth room v own left₀ c₀ left c = v .parts - c
 
 -- the row is a value
-value : (t : ℕ) (c : lts.After-value-at (calls t) (measure-row-at t) measure-row.Post Inv-loop μ-loop) → ValueOf (c .before .before .before .before .before .before .args .depth) (c .before .before .before .before .before .before .args .s .now) (c .before .before .before .before .before .before .args .node) (c .before .before .before .before .before .before .args .i) (c .value-at .result)
+value : (t : ℕ) (c : lts.After-value-at (calls t) (measure-row-at t) measure-row.Post Inv-loop μ-loop) → RowValue (c .before .before .before .before .before .before .args .depth) (c .before .before .before .before .before .before .args .s .now) (c .before .before .before .before .before .before .args .node) (c .before .before .before .before .before .before .args .i) (c .value-at .result)
 value t c = value-of _ (c .before .before .before .before .before .before .pre .1) (c .before .before .before .is-null .ensures) (c .before .before .if2 .left) (c .before .offset .ensures) (c .value-at .ensures)
 
 returns : (t : ℕ) → lts.Need-returns (calls t) (measure-row-at t) measure-row.Post Inv-loop μ-loop
@@ -50,10 +50,10 @@ value-at-requires : (t : ℕ) → lts.Need-value-at-requires (calls t) (measure-
 value-at-requires t c κs = row-part _ (c .before .before .before .before .before .pre .1) (c .before .before .is-null .ensures) (c .before .if2 .left) (c .offset .ensures)
 
 add-own : (t : ℕ) → lts.Need-add-own (calls t) (measure-row-at t) measure-row.Post Inv-loop μ-loop
-add-own t c = omega (arith, c .before .value-at .ensures .narrow)
+add-own t c = omega (arith, value t (c .before) .placed .narrow)
 
 add-own-2 : (t : ℕ) → lts.Need-add-own-2 (calls t) (measure-row-at t) measure-row.Post Inv-loop μ-loop
-add-own-2 t c = omega (arith, c .before .before .value-at .ensures .narrow, c .before .before .value-at .ensures .inside, c .before .before .before .before .before .before .before .before .good .0 .1)
+add-own-2 t c = omega (arith, value t (c .before .before) .placed .narrow, value t (c .before .before) .placed .inside, c .before .before .before .before .before .before .before .before .good .0 .1)
 
 returns-3 : (t : ℕ) → lts.Need-returns-3 (calls t) (measure-row-at t) measure-row.Post Inv-loop μ-loop
 returns-3 t c = value-short (value t (c .before .before .before)) (c .before .before .before .before .before .before .before .before .before .args .room) (c .if3 .taken)
@@ -62,13 +62,13 @@ loop-holds : (t : ℕ) → lts.Need-loop-holds (calls t) (measure-row-at t) meas
 loop-holds t c = (value t (c .before .before .before), measuring-start _ _ _)
 
 add-measure-rows : (t : ℕ) → lts.Need-add-measure-rows (calls t) (measure-row-at t) measure-row.Post Inv-loop μ-loop
-add-measure-rows t c = omega (arith, c .before .before .before .loop .inv .0 .few, c .before .if4 .taken)
+add-measure-rows t c = omega (arith, c .before .before .before .loop .inv .0 .placed .few, c .before .if4 .taken)
 
 sub-measure-rows : (t : ℕ) → lts.Need-sub-measure-rows (calls t) (measure-row-at t) measure-row.Post Inv-loop μ-loop
 sub-measure-rows t c = omega (arith, c .before .before .before .loop .inv .0 .deep)
 
 measure-rows-requires : (t : ℕ) → lts.Need-measure-rows-requires (calls t) (measure-row-at t) measure-row.Post Inv-loop μ-loop
-measure-rows-requires t c κs = (omega (arith, c .before .before .before .before .before .before .before .before .before .before .before .before .before .pre .0, c .before .before .before .loop .inv .0 .deep), c .before .before .before .loop .inv .0 .parts (c .before .before .before .loop .c) (c .before .if4 .taken))
+measure-rows-requires t c κs = (omega (arith, c .before .before .before .before .before .before .before .before .before .before .before .before .before .pre .0, c .before .before .before .loop .inv .0 .deep), c .before .before .before .loop .inv .0 .placed .parts (c .before .before .before .loop .c) (c .before .if4 .taken))
 
 enum-known-rest : (t : ℕ) → lts.Need-enum-known-rest (calls t) (measure-row-at t) measure-row.Post Inv-loop μ-loop
 enum-known-rest t c = search needs
@@ -80,7 +80,7 @@ returns-4 : (t : ℕ) → lts.Need-returns-4 (calls t) (measure-row-at t) measur
 returns-4 t c = measuring-short (c .before .before .before .before .before .before .loop .inv .1) (c .before .before .before .before .if4 .taken) (sym (c .enum-told .given .1) ∙ c .before .before .measure-rows .ensures) ∙ value-left (c .before .before .before .before .before .before .loop .inv .0) (c .before .before .before .before .before .before .before .before .before .before .before .before .before .before .before .before .args .room) (c .before .before .before .before .before .before .before .if3 .left)
 
 add-c : (t : ℕ) → lts.Need-add-c (calls t) (measure-row-at t) measure-row.Post Inv-loop μ-loop
-add-c t c = omega (arith, c .before .before .before .before .before .before .before .loop .inv .0 .few, c .before .before .before .before .before .if4 .taken)
+add-c t c = omega (arith, c .before .before .before .before .before .before .before .loop .inv .0 .placed .few, c .before .before .before .before .before .if4 .taken)
 
 loop-less : (t : ℕ) → lts.Need-loop-less (calls t) (measure-row-at t) measure-row.Post Inv-loop μ-loop
 loop-less t c = search needs

@@ -5,7 +5,7 @@ use native.Mathlib.Omega.{arith}
 use borrow.Author.Needs.{needs}
 use mathlib.Core.Path.{sym, _∙_}
 use Rattle.image.specs.Row.{rowAt}
-use Rattle.rows.proofs.RowParts.{ValueOf, childBytes, row-null, side-few, row-part, value-of}
+use Rattle.rows.proofs.RowParts.{RowValue, childBytes, row-null, side-few, row-part, value-of}
 use Rattle.rows.proofs.Over.{PiecesToPut, put-last, pieces-from, pieces-fit, pieces-more, pieces-place, pieces-done, null-fits, null-put, value-fits, value-put}
 use Rattle.rows.proofs.write.write_row.Reads as write-row
 use Rattle.rows.proofs.write.write_rows.Reads as write-rows
@@ -21,13 +21,13 @@ abbrev calls : ℕ → lts.Claims
 calls t = (is-null-reads.Asked, is-null-reads.Learnt, put-number-reads.Asked, put-number-reads.Learnt, offset-reads.Asked, offset-reads.Learnt, value-at-reads.Asked, value-at-reads.Learnt, put-own-reads.Asked, put-own-reads.Learnt, write-rows-below t, write-rows.Post)
 
 abbrev Inv-loop : lts.InvT-loop
-Inv-loop s node i depth out₀ at v next₀ c₀ out next c = ValueOf depth s node i v × PiecesToPut (childBytes (rowAt (depth - 1) s) v) (v .child) (v .parts) out₀ next₀ out next c
+Inv-loop s node i depth out₀ at v next₀ c₀ out next c = RowValue depth s node i v × PiecesToPut (childBytes (rowAt (depth - 1) s) v) (v .child) (v .parts) out₀ next₀ out next c
 
 abbrev μ-loop : lts.MeasureT-loop
 μ-loop s node i depth out₀ at v next₀ c₀ out next c = v .parts - c
 
 -- the row is a value
-value : (t : ℕ) (c : lts.After-value-at (calls t) (write-row-at t) write-row.Post Inv-loop μ-loop) → ValueOf (c .before .before .before .before .before .before .args .depth) (c .before .before .before .before .before .before .args .s .now) (c .before .before .before .before .before .before .args .node) (c .before .before .before .before .before .before .args .i) (c .value-at .result)
+value : (t : ℕ) (c : lts.After-value-at (calls t) (write-row-at t) write-row.Post Inv-loop μ-loop) → RowValue (c .before .before .before .before .before .before .args .depth) (c .before .before .before .before .before .before .args .s .now) (c .before .before .before .before .before .before .args .node) (c .before .before .before .before .before .before .args .i) (c .value-at .result)
 value t c = value-of _ (c .before .before .before .before .before .before .pre .1 .0) (c .before .before .before .is-null .ensures) (c .before .before .if1 .left) (c .before .offset .ensures) (c .value-at .ensures)
 
 is-null-requires : (t : ℕ) → lts.Need-is-null-requires (calls t) (write-row-at t) write-row.Post Inv-loop μ-loop
@@ -52,22 +52,22 @@ value-at-requires : (t : ℕ) → lts.Need-value-at-requires (calls t) (write-ro
 value-at-requires t c κs = row-part _ (c .before .before .before .before .before .pre .1 .0) (c .before .before .is-null .ensures) (c .before .if1 .left) (c .offset .ensures)
 
 put-own-requires : (t : ℕ) → lts.Need-put-own-requires (calls t) (write-row-at t) write-row.Post Inv-loop μ-loop
-put-own-requires t c κs = (c .before .value-at .ensures .inside, value-fits (value t (c .before)) (c .before .before .before .before .before .before .before .pre .1 .1))
+put-own-requires t c κs = (value t (c .before) .placed .inside, value-fits (value t (c .before)) (c .before .before .before .before .before .before .before .pre .1 .1))
 
 loop-holds : (t : ℕ) → lts.Need-loop-holds (calls t) (write-row-at t) write-row.Post Inv-loop μ-loop
 loop-holds t c = (value t (c .before .before .before .before), pieces-from (value-put (value t (c .before .before .before .before)) (c .before .before .before .before .before .before .before .before .before .before .pre .1 .1) (c .before .before .put-own .ensures .1) (c .before .before .put-own .ensures .0)))
 
 add-write-rows : (t : ℕ) → lts.Need-add-write-rows (calls t) (write-row-at t) write-row.Post Inv-loop μ-loop
-add-write-rows t c = omega (arith, c .before .before .before .loop .inv .0 .few, c .before .if2 .taken)
+add-write-rows t c = omega (arith, c .before .before .before .loop .inv .0 .placed .few, c .before .if2 .taken)
 
 sub-write-rows : (t : ℕ) → lts.Need-sub-write-rows (calls t) (write-row-at t) write-row.Post Inv-loop μ-loop
 sub-write-rows t c = omega (arith, c .before .before .before .loop .inv .0 .deep)
 
 write-rows-requires : (t : ℕ) → lts.Need-write-rows-requires (calls t) (write-row-at t) write-row.Post Inv-loop μ-loop
-write-rows-requires t c κs = (omega (arith, c .before .before .before .before .before .before .before .before .before .before .before .before .before .before .before .pre .0, c .before .before .before .before .loop .inv .0 .deep), (c .before .before .before .before .loop .inv .0 .parts (c .before .before .before .before .loop .c) (c .before .before .if2 .taken), pieces-fit (c .before .before .before .before .loop .inv .1) (c .before .before .if2 .taken)))
+write-rows-requires t c κs = (omega (arith, c .before .before .before .before .before .before .before .before .before .before .before .before .before .before .before .pre .0, c .before .before .before .before .loop .inv .0 .deep), (c .before .before .before .before .loop .inv .0 .placed .parts (c .before .before .before .before .loop .c) (c .before .before .if2 .taken), pieces-fit (c .before .before .before .before .loop .inv .1) (c .before .before .if2 .taken)))
 
 add-c : (t : ℕ) → lts.Need-add-c (calls t) (write-row-at t) write-row.Post Inv-loop μ-loop
-add-c t c = omega (arith, c .before .before .before .before .before .before .before .loop .inv .0 .few, c .before .before .before .before .before .if2 .taken)
+add-c t c = omega (arith, c .before .before .before .before .before .before .before .loop .inv .0 .placed .few, c .before .before .before .before .before .if2 .taken)
 
 loop-less : (t : ℕ) → lts.Need-loop-less (calls t) (write-row-at t) write-row.Post Inv-loop μ-loop
 loop-less t c = search needs
