@@ -45,7 +45,8 @@ fn compare_accepted(left: &[u8], right: &[u8]) -> Compared
     if !base_equal(left, right) {
         return Compared::No;
     }
-    yes_or_no(equal_range(left, 0, right, 0, 0, 0, length(left, 0), DEPTH))
+    let rows = length(left, 0);
+    yes_or_no(equal_range(left, 0, right, 0, 0, 0, rows, DEPTH))
 }
 
 // Whether two tables are equal, the left one accepted.
