@@ -94,20 +94,20 @@ unfoldable pub whole : ℕ → ℕ → Bool
 whole len w = eqb (len % w) 0
 
 -- "a buffer of offsets, sizes, keys or views not whole elements"
-abbrev pub ragged : Layout → List ℕ → ℕ → Bool
-ragged Null s k = false
-ragged Boolean s k = false
-ragged FixedWidth s k = false
-ragged VariableSize s k = not (whole (bufferLength s k 0) (elementWidth s k))
-ragged View s k = not (whole (bufferLength s k 0) (elementWidth s k))
-ragged Lists s k = not (whole (bufferLength s k 0) (elementWidth s k))
-ragged ListView s k = not (whole (bufferLength s k 0) (elementWidth s k)) || not (whole (bufferLength s k 1) (elementWidth s k))
-ragged FixedList s k = false
-ragged Struct s k = false
-ragged DenseUnion s k = not (whole (bufferLength s k 1) 4)
-ragged SparseUnion s k = false
-ragged Dictionary s k = not (whole (bufferLength s k 0) (elementWidth s k))
-ragged Runs s k = false
+abbrev pub notWhole : Layout → List ℕ → ℕ → Bool
+notWhole Null s k = false
+notWhole Boolean s k = false
+notWhole FixedWidth s k = false
+notWhole VariableSize s k = not (whole (bufferLength s k 0) (elementWidth s k))
+notWhole View s k = not (whole (bufferLength s k 0) (elementWidth s k))
+notWhole Lists s k = not (whole (bufferLength s k 0) (elementWidth s k))
+notWhole ListView s k = not (whole (bufferLength s k 0) (elementWidth s k)) || not (whole (bufferLength s k 1) (elementWidth s k))
+notWhole FixedList s k = false
+notWhole Struct s k = false
+notWhole DenseUnion s k = not (whole (bufferLength s k 1) 4)
+notWhole SparseUnion s k = false
+notWhole Dictionary s k = not (whole (bufferLength s k 0) (elementWidth s k))
+notWhole Runs s k = false
 
 -- 14: "buffer count or numbering wrong, buffer or bitmap outside, e too large, or a buffer .. not whole elements"
 unfoldable pub fault14 : List ℕ → ℕ → Bool
@@ -118,33 +118,33 @@ fault14 s k =
     || any (bufferOutside s k) 0 (bufferCount s k)
     || (hasBitmap s k && outside s (bitmapPlace s k) (bitmapLength s k))
     || ltb 1073741824 (elementsOf s k)
-    || ragged (layoutOf (codeOf s k)) s k
+    || notWhole (layoutOf (codeOf s k)) s k
 
 -- buffer j of node k is under n elements of w bytes
 unfoldable pub under : List ℕ → ℕ → ℕ → ℕ → ℕ → Bool
 under s k j n w = ltb (bufferLength s k j) (n * w)
 
 -- "buffer under e elements (offsets of 26 to 29, 33, 34, 42: e + 1; text bytes and view data: none)"
-abbrev pub short : Layout → List ℕ → ℕ → ℕ → Bool
-short Null s k e = false
-short Boolean s k e = ltb (8 * bufferLength s k 0) e
-short FixedWidth s k e = under s k 0 e (elementWidth s k)
-short VariableSize s k e = under s k 0 (e + 1) (elementWidth s k)
-short View s k e = under s k 0 e (elementWidth s k)
-short Lists s k e = under s k 0 (e + 1) (elementWidth s k)
-short ListView s k e = under s k 0 e (elementWidth s k) || under s k 1 e (elementWidth s k)
-short FixedList s k e = false
-short Struct s k e = false
-short DenseUnion s k e = under s k 0 e 1 || under s k 1 e 4
-short SparseUnion s k e = under s k 0 e 1
-short Dictionary s k e = under s k 0 e (elementWidth s k)
-short Runs s k e = false
+abbrev pub tooFewElements : Layout → List ℕ → ℕ → ℕ → Bool
+tooFewElements Null s k e = false
+tooFewElements Boolean s k e = ltb (8 * bufferLength s k 0) e
+tooFewElements FixedWidth s k e = under s k 0 e (elementWidth s k)
+tooFewElements VariableSize s k e = under s k 0 (e + 1) (elementWidth s k)
+tooFewElements View s k e = under s k 0 e (elementWidth s k)
+tooFewElements Lists s k e = under s k 0 (e + 1) (elementWidth s k)
+tooFewElements ListView s k e = under s k 0 e (elementWidth s k) || under s k 1 e (elementWidth s k)
+tooFewElements FixedList s k e = false
+tooFewElements Struct s k e = false
+tooFewElements DenseUnion s k e = under s k 0 e 1 || under s k 1 e 4
+tooFewElements SparseUnion s k e = under s k 0 e 1
+tooFewElements Dictionary s k e = under s k 0 e (elementWidth s k)
+tooFewElements Runs s k e = false
 
 -- 15: "bitmap under first bit + length bits, or buffer under e elements"
 unfoldable pub fault15 : List ℕ → ℕ → Bool
 fault15 s k =
     (hasBitmap s k && ltb (8 * bitmapLength s k) (firstBit s k + lengthOf s k))
-    || short (layoutOf (codeOf s k)) s k (elementsOf s k)
+    || tooFewElements (layoutOf (codeOf s k)) s k (elementsOf s k)
 
 -- node c has under n rows
 unfoldable pub rowsUnder : List ℕ → ℕ → ℕ → Bool
@@ -155,23 +155,23 @@ unfoldable pub childUnder : List ℕ → ℕ → ℕ → Bool
 childUnder s k n = any (rowsUnder s n) (firstChild s k) (childCount s k)
 
 -- 16: "child under e rows (Struct, sparse) or e × p1; run values and run ends of unequal length"
-abbrev pub childShort : Layout → List ℕ → ℕ → Bool
-childShort Null s k = false
-childShort Boolean s k = false
-childShort FixedWidth s k = false
-childShort VariableSize s k = false
-childShort View s k = false
-childShort Lists s k = false
-childShort ListView s k = false
-childShort FixedList s k = ltb (lengthOf s (firstChild s k)) (elementsOf s k * p1Of s k)
-childShort Struct s k = childUnder s k (elementsOf s k)
-childShort DenseUnion s k = false
-childShort SparseUnion s k = childUnder s k (elementsOf s k)
-childShort Dictionary s k = false
-childShort Runs s k = not (eqb (lengthOf s (firstChild s k)) (lengthOf s (firstChild s k + 1)))
+abbrev pub tooFewChildRows : Layout → List ℕ → ℕ → Bool
+tooFewChildRows Null s k = false
+tooFewChildRows Boolean s k = false
+tooFewChildRows FixedWidth s k = false
+tooFewChildRows VariableSize s k = false
+tooFewChildRows View s k = false
+tooFewChildRows Lists s k = false
+tooFewChildRows ListView s k = false
+tooFewChildRows FixedList s k = ltb (lengthOf s (firstChild s k)) (elementsOf s k * p1Of s k)
+tooFewChildRows Struct s k = childUnder s k (elementsOf s k)
+tooFewChildRows DenseUnion s k = false
+tooFewChildRows SparseUnion s k = childUnder s k (elementsOf s k)
+tooFewChildRows Dictionary s k = false
+tooFewChildRows Runs s k = not (eqb (lengthOf s (firstChild s k)) (lengthOf s (firstChild s k + 1)))
 
 unfoldable pub fault16 : List ℕ → ℕ → Bool
-fault16 s k = childShort (layoutOf (codeOf s k)) s k
+fault16 s k = tooFewChildRows (layoutOf (codeOf s k)) s k
 
 -- "offsets at places 0 to e negative, falling, or past the end": a negative offset reads as a number above every end
 unfoldable pub offsetsRise : List ℕ → ℕ → ℕ → Bool
@@ -183,23 +183,23 @@ unfoldable pub listOutside : List ℕ → ℕ → ℕ → Bool
 listOutside s k j = ltb (lengthOf s (firstChild s k)) (elementAt s k j + sizeAt s k j)
 
 -- 17: "offsets .. past the end of the text or of the child's length; a list view outside its child"
-abbrev pub misplaced : Layout → List ℕ → ℕ → Bool
-misplaced Null s k = false
-misplaced Boolean s k = false
-misplaced FixedWidth s k = false
-misplaced VariableSize s k = not (offsetsRise s k (bufferLength s k 1))
-misplaced View s k = false
-misplaced Lists s k = not (offsetsRise s k (lengthOf s (firstChild s k)))
-misplaced ListView s k = any (listOutside s k) 0 (elementsOf s k)
-misplaced FixedList s k = false
-misplaced Struct s k = false
-misplaced DenseUnion s k = false
-misplaced SparseUnion s k = false
-misplaced Dictionary s k = false
-misplaced Runs s k = false
+abbrev pub offsetFault : Layout → List ℕ → ℕ → Bool
+offsetFault Null s k = false
+offsetFault Boolean s k = false
+offsetFault FixedWidth s k = false
+offsetFault VariableSize s k = not (offsetsRise s k (bufferLength s k 1))
+offsetFault View s k = false
+offsetFault Lists s k = not (offsetsRise s k (lengthOf s (firstChild s k)))
+offsetFault ListView s k = any (listOutside s k) 0 (elementsOf s k)
+offsetFault FixedList s k = false
+offsetFault Struct s k = false
+offsetFault DenseUnion s k = false
+offsetFault SparseUnion s k = false
+offsetFault Dictionary s k = false
+offsetFault Runs s k = false
 
 unfoldable pub fault17 : List ℕ → ℕ → Bool
-fault17 s k = misplaced (layoutOf (codeOf s k)) s k
+fault17 s k = offsetFault (layoutOf (codeOf s k)) s k
 
 -- "type id without a child", at element j
 unfoldable pub idUnknown : List ℕ → ℕ → ℕ → Bool
@@ -220,63 +220,63 @@ unfoldable pub nonzero : List ℕ → ℕ → Bool
 nonzero s p = not (eqb (byteAt s p) 0)
 
 -- "inline padding not zero": of the 12 bytes after the length, those past it
-unfoldable pub padded : List ℕ → ℕ → Bool
-padded s v = any (nonzero s) (v + 4 + viewLength s v) (inlineLength - viewLength s v)
+unfoldable pub paddingNonzero : List ℕ → ℕ → Bool
+paddingNonzero s v = any (nonzero s) (v + 4 + viewLength s v) (inlineLength - viewLength s v)
 
 -- "view outside its buffers .. stored prefix wrong", of a view longer than 12 bytes
-unfoldable pub strayed : List ℕ → ℕ → ℕ → Bool
-strayed s k v =
+unfoldable pub longViewFault : List ℕ → ℕ → ℕ → Bool
+longViewFault s k v =
     leb (bufferCount s k) (1 + viewBuffer s v)
     || ltb (bufferLength s k (1 + viewBuffer s v)) (viewOffset s v + viewLength s v)
     || not (eqb (numberAt 4 s (v + 4)) (numberAt 4 s (viewData s k v)))
 
 -- the view at v breaks a rule of 18
 unfoldable pub viewFault : List ℕ → ℕ → ℕ → Bool
-viewFault s k v = cond (leb (viewLength s v) inlineLength) (padded s v) (strayed s k v)
+viewFault s k v = cond (leb (viewLength s v) inlineLength) (paddingNonzero s v) (longViewFault s k v)
 
 -- "run ends, over all rows of their child, not positive and strictly rising", as signed numbers of their width
 unfoldable pub runEndsRise : List ℕ → ℕ → Bool
 runEndsRise s k = rises 1 (runEndAt s k) (signBit (runEndWidth s k) - 1) 1 0 (lengthOf s (firstChild s k))
 
 -- "or last below e (none: e must be 0)"
-unfoldable pub runEndsShort : List ℕ → ℕ → Bool
-runEndsShort s k =
+unfoldable pub lastEndBelow : List ℕ → ℕ → Bool
+lastEndBelow s k =
     cond (eqb (lengthOf s (firstChild s k)) 0) (not (eqb (elementsOf s k) 0))
     (ltb (runEndAt s k (lengthOf s (firstChild s k) - 1)) (elementsOf s k))
 
 -- Row i of node k breaks a rule of 18: "in rows offset to e - 1", where row i reads element offset + i. Keys and views
 -- are judged only "in rows not null".
-unfoldable pub viewStray : List ℕ → ℕ → ℕ → Bool
-viewStray s k i = valid s k i && viewFault s k (elementPlace s k (offsetOf s k + i))
+unfoldable pub viewRowFault : List ℕ → ℕ → ℕ → Bool
+viewRowFault s k i = valid s k i && viewFault s k (elementPlace s k (offsetOf s k + i))
 
-unfoldable pub keyStray : List ℕ → ℕ → ℕ → Bool
-keyStray s k i = valid s k i && keyOutside s k (offsetOf s k + i)
+unfoldable pub keyRowFault : List ℕ → ℕ → ℕ → Bool
+keyRowFault s k i = valid s k i && keyOutside s k (offsetOf s k + i)
 
-unfoldable pub denseStray : List ℕ → ℕ → ℕ → Bool
-denseStray s k i = idUnknown s k (offsetOf s k + i) || denseOutside s k (offsetOf s k + i)
+unfoldable pub denseRowFault : List ℕ → ℕ → ℕ → Bool
+denseRowFault s k i = idUnknown s k (offsetOf s k + i) || denseOutside s k (offsetOf s k + i)
 
-unfoldable pub sparseStray : List ℕ → ℕ → ℕ → Bool
-sparseStray s k i = idUnknown s k (offsetOf s k + i)
+unfoldable pub sparseRowFault : List ℕ → ℕ → ℕ → Bool
+sparseRowFault s k i = idUnknown s k (offsetOf s k + i)
 
 -- 18: "type id without a child, dense offset outside; .. key outside, view outside its buffers, inline padding not
 -- zero, stored prefix wrong; run ends .."
-abbrev pub astray : Layout → List ℕ → ℕ → Bool
-astray Null s k = false
-astray Boolean s k = false
-astray FixedWidth s k = false
-astray VariableSize s k = false
-astray View s k = any (viewStray s k) 0 (lengthOf s k)
-astray Lists s k = false
-astray ListView s k = false
-astray FixedList s k = false
-astray Struct s k = false
-astray DenseUnion s k = any (denseStray s k) 0 (lengthOf s k)
-astray SparseUnion s k = any (sparseStray s k) 0 (lengthOf s k)
-astray Dictionary s k = any (keyStray s k) 0 (lengthOf s k)
-astray Runs s k = not (runEndsRise s k) || runEndsShort s k
+abbrev pub rowFault : Layout → List ℕ → ℕ → Bool
+rowFault Null s k = false
+rowFault Boolean s k = false
+rowFault FixedWidth s k = false
+rowFault VariableSize s k = false
+rowFault View s k = any (viewRowFault s k) 0 (lengthOf s k)
+rowFault Lists s k = false
+rowFault ListView s k = false
+rowFault FixedList s k = false
+rowFault Struct s k = false
+rowFault DenseUnion s k = any (denseRowFault s k) 0 (lengthOf s k)
+rowFault SparseUnion s k = any (sparseRowFault s k) 0 (lengthOf s k)
+rowFault Dictionary s k = any (keyRowFault s k) 0 (lengthOf s k)
+rowFault Runs s k = not (runEndsRise s k) || lastEndBelow s k
 
 unfoldable pub fault18 : List ℕ → ℕ → Bool
-fault18 s k = astray (layoutOf (codeOf s k)) s k
+fault18 s k = rowFault (layoutOf (codeOf s k)) s k
 
 -- the test of each number
 unfoldable pub fault : ℕ → List ℕ → ℕ → Bool

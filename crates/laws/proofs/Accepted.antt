@@ -17,7 +17,7 @@ use Rattle.image.specs.Bytes.{byteAt, bitAt}
 use Rattle.image.specs.Record.{nodeCount, bufferTotal, codeOf, idOf, lengthOf, offsetOf, nameLength, namePlace, bitmapPlace, bitmapLength, firstBit, hasBitmap, firstChild, childCount, firstBuffer, bufferCount, bufferLength, elementsOf, childStart, bufferStart}
 use Rattle.image.specs.TypeCode.{counts, signBit}
 use Rattle.image.specs.Element.{childEnd, elementAt, elementWidth, runEndWidth, runEndAt, endsAbove, runAt, hasId, typeIdAt, childWithId, denseOffsetAt, inlineLength, viewLength, valid}
-use Rattle.image.specs.Faults.{fault, fault10, fault11, fault12, fault13, fault14, fault15, fault16, fault17, fault18, checkImage, outside, idsRise, mapEntries, runEnds, under, childUnder, offsetsRise, listOutside, bufferOutside, rowsUnder, nonzero, short, idUnknown, denseOutside, keyOutside, padded, viewFault, strayed, runEndsRise, runEndsShort, denseStray, sparseStray, keyStray, viewStray}
+use Rattle.image.specs.Faults.{fault, fault10, fault11, fault12, fault13, fault14, fault15, fault16, fault17, fault18, checkImage, outside, idsRise, mapEntries, runEnds, under, childUnder, offsetsRise, listOutside, bufferOutside, rowsUnder, nonzero, tooFewElements, idUnknown, denseOutside, keyOutside, paddingNonzero, viewFault, longViewFault, runEndsRise, lastEndBelow, denseRowFault, sparseRowFault, keyRowFault, viewRowFault}
 use Rattle.image.proofs.Bools.{facts, or-left, or-right, and-fails}
 use Rattle.image.proofs.Ranges.{any-false, any-below, sum-next, rises-least, rises-top, rises-apart, first-from, first-at-most, first-passes}
 use Rattle.image.proofs.Widths.{variable-width, view-width, list-width, list-view-width, key-width}
@@ -224,13 +224,13 @@ key-inside : (s : List ℕ) (k j : ℕ) → keyOutside s k j ≡ false → eleme
 unfolding keyOutside
 key-inside s k j e = leb-false _ _ (or-left _ _ e)
 
-zero-padding : (s : List ℕ) (v : ℕ) → padded s v ≡ false → (p : ℕ) → viewLength s v ≤ p → p < inlineLength → byteAt s (v + 4 + p) ≡ 0
-unfolding padded nonzero
+zero-padding : (s : List ℕ) (v : ℕ) → paddingNonzero s v ≡ false → (p : ℕ) → viewLength s v ≤ p → p < inlineLength → byteAt s (v + 4 + p) ≡ 0
+unfolding paddingNonzero nonzero
 zero-padding s v e p from end =
     simp facts at (any-false (nonzero s) (v + 4 + viewLength s v) (inlineLength - viewLength s v) e (v + 4 + p) (omega arith) (omega arith))
 
 view-inside : (s : List ℕ) (k v : ℕ) → viewFault s k v ≡ false → ViewInside s k v
-unfolding viewFault strayed
+unfolding viewFault longViewFault
 view-inside s k v e = record {
   padding = λ short. zero-padding s v (rw (le-leb _ _ short) at e);
   buffer = λ long. omega (arith, simp (lt-leb _ _ long, facts) at e);
@@ -238,18 +238,18 @@ view-inside s k v e = record {
   prefix = λ long. omega (arith, simp (lt-leb _ _ long, facts) at e);
 }
 
-last-run : (s : List ℕ) (k : ℕ) → runEndsShort s k ≡ false → 0 < lengthOf s (firstChild s k) → elementsOf s k ≤ runEndAt s k (lengthOf s (firstChild s k) - 1)
-unfolding runEndsShort
+last-run : (s : List ℕ) (k : ℕ) → lastEndBelow s k ≡ false → 0 < lengthOf s (firstChild s k) → elementsOf s k ≤ runEndAt s k (lengthOf s (firstChild s k) - 1)
+unfolding lastEndBelow
 last-run s k e some =
     let ne : lengthOf s (firstChild s k) ≢ 0 = omega arith in
     ltb-false _ _ (rw (ne-eqb _ _ ne) at e)
 
-no-run : (s : List ℕ) (k : ℕ) → runEndsShort s k ≡ false → lengthOf s (firstChild s k) ≡ 0 → elementsOf s k ≡ 0
-unfolding runEndsShort
+no-run : (s : List ℕ) (k : ℕ) → lastEndBelow s k ≡ false → lengthOf s (firstChild s k) ≡ 0 → elementsOf s k ≡ 0
+unfolding lastEndBelow
 no-run s k e none = simp (eq-eqb _ _ none, facts) at e
 
 -- the first run end above an element is one of the run ends, since the last is above it
-run-found : (s : List ℕ) (k : ℕ) → runEndsShort s k ≡ false → (j : ℕ) → j < elementsOf s k → runAt s k j < lengthOf s (firstChild s k)
+run-found : (s : List ℕ) (k : ℕ) → lastEndBelow s k ≡ false → (j : ℕ) → j < elementsOf s k → runAt s k j < lengthOf s (firstChild s k)
 unfolding runAt endsAbove
 run-found s k e j lt = cases (eq-zero-or-pos (lengthOf s (firstChild s k)))
   where
@@ -263,13 +263,13 @@ run-found s k e j lt = cases (eq-zero-or-pos (lengthOf s (firstChild s k)))
         let le : runAt s k j ≤ lengthOf s (firstChild s k) - 1 = first-at-most (endsAbove s k j) 0 (lengthOf s (firstChild s k)) _ (omega arith) (lt-ltb _ _ above) in
         omega arith
 
-run-above : (s : List ℕ) (k : ℕ) → runEndsShort s k ≡ false → (j : ℕ) → j < elementsOf s k → j < runEndAt s k (runAt s k j)
+run-above : (s : List ℕ) (k : ℕ) → lastEndBelow s k ≡ false → (j : ℕ) → j < elementsOf s k → j < runEndAt s k (runAt s k j)
 unfolding runAt endsAbove
 run-above s k e j lt =
     let found : runAt s k j < lengthOf s (firstChild s k) = run-found s k e j lt in
     ltb-true _ _ (first-passes (endsAbove s k j) 0 (lengthOf s (firstChild s k)) (omega arith))
 
-runs-cover : (s : List ℕ) (k : ℕ) → runEndsRise s k ≡ true → runEndsShort s k ≡ false → lengthOf s (firstChild s k) ≡ lengthOf s (firstChild s k + 1) → RunsCover s k
+runs-cover : (s : List ℕ) (k : ℕ) → runEndsRise s k ≡ true → lastEndBelow s k ≡ false → lengthOf s (firstChild s k) ≡ lengthOf s (firstChild s k + 1) → RunsCover s k
 unfolding runEndsRise
 runs-cover s k rise short same = record {
   positive = λ r lt. rises-least 1 (runEndAt s k) (signBit (runEndWidth s k) - 1) 1 0 (lengthOf s (firstChild s k)) rise r (omega arith) (omega arith);
@@ -285,15 +285,15 @@ runs-cover s k rise short same = record {
 }
 
 rows : (s : List ℕ) (k : ℕ) → fault18 s k ≡ false → Children s k → NodeRows s k
-unfolding fault18 denseStray sparseStray keyStray viewStray
+unfolding fault18 denseRowFault sparseRowFault keyRowFault viewRowFault
 rows s k e c = record {
-  dense = λ l i lt. id-known s k _ (or-left _ _ (any-below (denseStray s k) _ (rw l at e) i lt));
-  dense-offset = λ l i lt. dense-inside s k _ (or-right (idUnknown s k (offsetOf s k + i)) _ (any-below (denseStray s k) _ (rw l at e) i lt));
-  sparse = λ l i lt. id-known s k _ (any-below (sparseStray s k) _ (rw l at e) i lt);
-  key = λ l i lt set. key-inside s k _ (and-fails (valid s k i) _ (any-below (keyStray s k) _ (rw l at e) i lt) set);
-  view = λ l i lt set. view-inside s k _ (and-fails (valid s k i) _ (any-below (viewStray s k) _ (rw l at e) i lt) set);
+  dense = λ l i lt. id-known s k _ (or-left _ _ (any-below (denseRowFault s k) _ (rw l at e) i lt));
+  dense-offset = λ l i lt. dense-inside s k _ (or-right (idUnknown s k (offsetOf s k + i)) _ (any-below (denseRowFault s k) _ (rw l at e) i lt));
+  sparse = λ l i lt. id-known s k _ (any-below (sparseRowFault s k) _ (rw l at e) i lt);
+  key = λ l i lt set. key-inside s k _ (and-fails (valid s k i) _ (any-below (keyRowFault s k) _ (rw l at e) i lt) set);
+  view = λ l i lt set. view-inside s k _ (and-fails (valid s k i) _ (any-below (viewRowFault s k) _ (rw l at e) i lt) set);
   runs = λ l.
-      let h : (runEndsRise s k ≡ true) × (runEndsShort s k ≡ false) = simp (l, facts) at e in
+      let h : (runEndsRise s k ≡ true) × (lastEndBelow s k ≡ false) = simp (l, facts) at e in
       runs-cover s k (h .0) (h .1) (c .runs l);
 }
 

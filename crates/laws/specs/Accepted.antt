@@ -11,7 +11,7 @@ use Rattle.image.specs.Bytes.{byteAt, numberAt}
 use Rattle.image.specs.Record.{nodeCount, bufferTotal, tablesEnd, codeOf, flagsOf, idOf, nameLength, p1Of, p2Of, lengthOf, offsetOf, namePlace, bitmapPlace, bitmapLength, firstBit, firstChild, childCount, firstBuffer, bufferCount, hasBitmap, elementsOf, childStart, bufferStart, bufferPlace, bufferLength}
 use Rattle.image.specs.TypeCode.{layoutOf, p1Fits, p2Fits, isUnion, signBit, takesBitmap, childRule, bufferRule}
 use Rattle.image.specs.Element.{valid, elementWidth, elementPlace, elementAt, sizeAt, typeIdAt, denseOffsetAt, childEnd, childWithId, inlineLength, viewLength, viewBuffer, viewOffset, viewData, runEndWidth, runEndAt, runAt}
-use Rattle.image.specs.Faults.{levelEnd, underUnion, ragged}
+use Rattle.image.specs.Faults.{levelEnd, underUnion, notWhole}
 
 -- 11: the code, the flags and the parameters are known
 pub record Known (s : List ℕ) (k : ℕ) : Type 0 where
@@ -73,7 +73,7 @@ pub record Buffers (s : List ℕ) (k : ℕ) : Type 0 where
   pub inside : (j : ℕ) → j < bufferCount s k → bufferPlace s k j + bufferLength s k j ≤ length s
   pub bitmap : hasBitmap s k ≡ true → bitmapPlace s k + bitmapLength s k ≤ length s
   pub small : elementsOf s k ≤ 1073741824
-  pub whole : ragged (layoutOf (codeOf s k)) s k ≡ false
+  pub whole : notWhole (layoutOf (codeOf s k)) s k ≡ false
 
 -- 15: the bitmap has a bit for each row, and the buffers hold all elements
 pub record Enough (s : List ℕ) (k : ℕ) : Type 0 where

@@ -11,7 +11,7 @@ use borrow.Author.Tests.{ne-eqb}
 use Rattle.image.specs.Ranges.{any}
 use Rattle.image.specs.Bytes.{byteAt, numberAt}
 use Rattle.image.specs.Element.{viewLength}
-use Rattle.image.specs.Faults.{nonzero, padded}
+use Rattle.image.specs.Faults.{nonzero, paddingNonzero}
 use Rattle.image.proofs.Loops.{rest-none, any-jump, jump-found}
 use Rattle.image.proofs.Ranges.{any-false, any-none}
 
@@ -40,12 +40,12 @@ module _ (p : ℕ → Bool) (i n w : ℕ) (le : w ≤ n) where
 
 -- the padding of an inline view, of which the first w bytes are read as one number and then the last w
 module _ (s : List ℕ) (view : ℕ) {len : ℕ} (e : len ≡ viewLength s view) (w : ℕ) (le : w ≤ 12 - len) {x : ℕ} (p : x ≡ numberAt w s (view + 4 + len)) where
-  pub front-padded : (x ≡ 0 → ⊥) → true ≡ padded s view
-  unfolding padded
+  pub front-padded : (x ≡ 0 → ⊥) → true ≡ paddingNonzero s view
+  unfolding paddingNonzero
   front-padded ne = rw (← e) (front-found (nonzero s) (view + 4 + len) (12 - len) w le (sym (number-nonzero w s _) ∙ rw (← p, ne-eqb x 0 ne)))
 
-  pub back-padded : (at : ℕ) {y : ℕ} → len ≤ 12 → 12 - len ≤ w + w → at + w ≡ view + 16 → x ≡ 0 → y ≡ numberAt w s at → not (eqb y 0) ≡ padded s view
-  unfolding padded
+  pub back-padded : (at : ℕ) {y : ℕ} → len ≤ 12 → 12 - len ≤ w + w → at + w ≡ view + 16 → x ≡ 0 → y ≡ numberAt w s at → not (eqb y 0) ≡ paddingNonzero s view
+  unfolding paddingNonzero
   back-padded at short most ends z q =
       let a : view + 4 + len + (12 - len - w) ≡ at = omega arith in
       rw (← e, back-left (nonzero s) (view + 4 + len) (12 - len) w le most (sym (number-nonzero w s _) ∙ rw (← p, z)), a, q) (number-nonzero w s at)

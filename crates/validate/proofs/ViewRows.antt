@@ -13,7 +13,7 @@ use Rattle.image.specs.Bytes.{numberAt}
 use Rattle.image.specs.Reads.{Read}
 use Rattle.image.specs.Record.{nodeCount, recordPlace, entryPlace, firstBuffer, bufferCount, offsetOf, bufferPlace, bufferLength}
 use Rattle.image.specs.Element.{valid, elementWidth, elementPlace}
-use Rattle.image.specs.Faults.{viewFault, viewStray, bufferOutside, outside}
+use Rattle.image.specs.Faults.{viewFault, viewRowFault, bufferOutside, outside}
 use Rattle.image.proofs.Ranges.{any-false}
 use Rattle.validate.specs.Views.{Entries, Views, BuffersHere, ViewHere, ViewsHere}
 use Rattle.validate.proofs.RunEnds.{shift}
@@ -40,13 +40,13 @@ module _ {s : List ℕ} {k entries count : ℕ} (r : Entries s k entries count) 
   unfolding bufferLength
   length-at = rw entry-at
 
-pub null-row : (s : List ℕ) (k i : ℕ) (v : Bool) → v ≡ valid s k i → v ≡ false → viewStray s k (0 + i) ≡ false
-unfolding viewStray
+pub null-row : (s : List ℕ) (k i : ℕ) (v : Bool) → v ≡ valid s k i → v ≡ false → viewRowFault s k (0 + i) ≡ false
+unfolding viewRowFault
 null-row s k i v e null = rw (zero-add, ← e, null)
 
 -- any other row is its view's
-pub view-row : {s : List ℕ} {k place : ℕ} → Views s k place → (i : ℕ) (v b : Bool) → v ≡ valid s k i → v ≡ true → b ≡ viewFault s k (place + i * 16) → viewStray s k (0 + i) ≡ b
-unfolding viewStray elementPlace
+pub view-row : {s : List ℕ} {k place : ℕ} → Views s k place → (i : ℕ) (v b : Bool) → v ≡ valid s k i → v ≡ true → b ≡ viewFault s k (place + i * 16) → viewRowFault s k (0 + i) ≡ b
+unfolding viewRowFault elementPlace
 view-row {s} {k} r i v b e full p = rw (zero-add, ← e, full, r .wide, ← shift (bufferPlace s k 0) (offsetOf s k) i 16, ← r .first .value) (sym p)
 
 -- the view of a row lies inside where all do

@@ -23,14 +23,14 @@ ghost use lib.Dec.{eqb, ltb};
 ghost use Rattle.image.specs.Ranges.{any};
 ghost use Rattle.image.specs.Record.{codeOf, bitmapPlace, bitmapLength, firstBit, lengthOf, bufferCount, bufferTotal, hasBitmap};
 ghost use Rattle.image.specs.TypeCode.{layoutOf, bufferRule, counts};
-ghost use Rattle.image.specs.Faults.{fault14, fault15, outside, bufferOutside, whole, ragged, under, short};
+ghost use Rattle.image.specs.Faults.{fault14, fault15, outside, bufferOutside, whole, notWhole, under, tooFewElements};
 ghost use Rattle.image.specs.declared.type_code.Layout.the-variants.{ListView, DenseUnion};
 ghost use Rattle.validate.specs.Walks.{Walks};
 
 const MOST_ELEMENTS: usize = 1073741824;
 
 // The number of buffers is not what the code's rule says.
-fn miscounted(image: &[u8], node: u32) -> bool
+fn buffer_count_wrong(image: &[u8], node: u32) -> bool
     ensures { λ r. ⌜ r ≡ not (counts (bufferRule (layoutOf (codeOf (now (image .entry)) node))) (bufferCount (now (image .entry)) node)) ⌝ }
 {
     let rule = TypeCode::buffers(code(image, node));
@@ -78,7 +78,7 @@ fn bitmap_outside(image: &[u8], node: u32) -> bool
 }
 
 // A buffer of `len` bytes does not hold whole elements of `width` bytes.
-fn is_ragged(len: usize, width: usize) -> bool
+fn is_not_whole(len: usize, width: usize) -> bool
     ensures { λ r. ⌜ r ≡ not (whole len width) ⌝ }
 {
     if width == 0 {
@@ -88,30 +88,30 @@ fn is_ragged(len: usize, width: usize) -> bool
 }
 
 // A buffer of offsets, sizes, keys or views that does not hold whole elements.
-fn any_ragged(image: &[u8], node: u32) -> bool
-    ensures { λ r. ⌜ r ≡ ragged (layoutOf (codeOf (now (image .entry)) node)) (now (image .entry)) node ⌝ }
+fn any_not_whole(image: &[u8], node: u32) -> bool
+    ensures { λ r. ⌜ r ≡ notWhole (layoutOf (codeOf (now (image .entry)) node)) (now (image .entry)) node ⌝ }
 {
     let layout = TypeCode::layout(code(image, node));
     match layout {
-        Layout::VariableSize | Layout::View | Layout::List | Layout::Dictionary => is_ragged(
+        Layout::VariableSize | Layout::View | Layout::List | Layout::Dictionary => is_not_whole(
             buffer_length(image, node, 0),
             element_width(image, node),
         ),
-        Layout::ListView => views_ragged(image, node),
-        Layout::DenseUnion => is_ragged(buffer_length(image, node, 1), 4),
+        Layout::ListView => list_views_not_whole(image, node),
+        Layout::DenseUnion => is_not_whole(buffer_length(image, node, 1), 4),
         _ => false,
     }
 }
 
 // A list view's offsets or sizes are not whole elements.
-fn views_ragged(image: &[u8], node: u32) -> bool
-    ensures { λ r. ⌜ r ≡ ragged ListView (now (image .entry)) node ⌝ }
+fn list_views_not_whole(image: &[u8], node: u32) -> bool
+    ensures { λ r. ⌜ r ≡ notWhole ListView (now (image .entry)) node ⌝ }
 {
     let width = element_width(image, node);
-    if is_ragged(buffer_length(image, node, 0), width) {
+    if is_not_whole(buffer_length(image, node, 0), width) {
         return true;
     }
-    is_ragged(buffer_length(image, node, 1), width)
+    is_not_whole(buffer_length(image, node, 1), width)
 }
 
 // The node has fault 14.
@@ -119,7 +119,7 @@ pub fn fault_14(image: &[u8], node: u32, walk: Walk) -> bool
     requires { ⌜ Walks (now image) node walk ⌝ }
     ensures { λ r. ⌜ r ≡ fault14 (now (image .entry)) node ⌝ }
 {
-    if miscounted(image, node) {
+    if buffer_count_wrong(image, node) {
         return true;
     }
     if first_buffer(image, node) as usize != walk.buffers {
@@ -137,7 +137,7 @@ pub fn fault_14(image: &[u8], node: u32, walk: Walk) -> bool
     if MOST_ELEMENTS < elements(image, node) {
         return true;
     }
-    any_ragged(image, node)
+    any_not_whole(image, node)
 }
 
 // A part of `len` bytes is under `count` elements of `width` bytes. Nothing is multiplied, so nothing wraps.
@@ -169,7 +169,7 @@ fn bitmap_under(image: &[u8], node: u32) -> bool
 
 // A list view's offsets or sizes are under e elements.
 fn views_under(image: &[u8], node: u32, e: usize) -> bool
-    ensures { λ r. ⌜ r ≡ short ListView (now (image .entry)) node e ⌝ }
+    ensures { λ r. ⌜ r ≡ tooFewElements ListView (now (image .entry)) node e ⌝ }
 {
     let width = element_width(image, node);
     if buffer_under(image, node, 0, e, width) {
@@ -180,7 +180,7 @@ fn views_under(image: &[u8], node: u32, e: usize) -> bool
 
 // A dense union's type ids or offsets are under e elements.
 fn dense_under(image: &[u8], node: u32, e: usize) -> bool
-    ensures { λ r. ⌜ r ≡ short DenseUnion (now (image .entry)) node e ⌝ }
+    ensures { λ r. ⌜ r ≡ tooFewElements DenseUnion (now (image .entry)) node e ⌝ }
 {
     if buffer_under(image, node, 0, e, 1) {
         return true;
@@ -191,7 +191,7 @@ fn dense_under(image: &[u8], node: u32, e: usize) -> bool
 // A buffer of the node is under e elements.
 fn any_under(image: &[u8], node: u32, e: usize) -> bool
     requires { ⌜ e < 2 ^ 33 ⌝ }
-    ensures { λ r. ⌜ r ≡ short (layoutOf (codeOf (now (image .entry)) node)) (now (image .entry)) node e ⌝ }
+    ensures { λ r. ⌜ r ≡ tooFewElements (layoutOf (codeOf (now (image .entry)) node)) (now (image .entry)) node e ⌝ }
 {
     let layout = TypeCode::layout(code(image, node));
     match layout {

@@ -41,13 +41,13 @@ ghost use Rattle.image.specs.Record.{lengthOf};
 ghost use Rattle.image.specs.Element.{elementWidth, viewLength};
 ghost use Rattle.validate.specs.Strides.{KeyLimit, Keys, numberIn, reaches};
 ghost use Rattle.validate.specs.Views.{Entries, ViewHere, ViewsHere};
-ghost use Rattle.image.specs.Faults.{fault18, denseStray, sparseStray, keyStray, viewStray, viewFault, padded, strayed, runEndsRise, runEndsShort};
+ghost use Rattle.image.specs.Faults.{fault18, denseRowFault, sparseRowFault, keyRowFault, viewRowFault, viewFault, paddingNonzero, longViewFault, runEndsRise, lastEndBelow};
 
 const BLOCK: usize = 64;
 
 // A row of a dense union has a type id without a child, or an offset outside the child that its id names.
-fn dense_astray(image: &[u8], node: u32) -> bool
-    ensures { λ r. ⌜ r ≡ any (denseStray (now (image .entry)) node) 0 (lengthOf (now (image .entry)) node) ⌝ }
+fn dense_fault(image: &[u8], node: u32) -> bool
+    ensures { λ r. ⌜ r ≡ any (denseRowFault (now (image .entry)) node) 0 (lengthOf (now (image .entry)) node) ⌝ }
 {
     let table = children_by_id(image, node);
     let end = first_child(image, node) + child_count(image, node);
@@ -72,8 +72,8 @@ fn dense_astray(image: &[u8], node: u32) -> bool
 }
 
 // A row of a sparse union has a type id without a child.
-fn sparse_astray(image: &[u8], node: u32) -> bool
-    ensures { λ r. ⌜ r ≡ any (sparseStray (now (image .entry)) node) 0 (lengthOf (now (image .entry)) node) ⌝ }
+fn sparse_fault(image: &[u8], node: u32) -> bool
+    ensures { λ r. ⌜ r ≡ any (sparseRowFault (now (image .entry)) node) 0 (lengthOf (now (image .entry)) node) ⌝ }
 {
     let table = children_by_id(image, node);
     let end = first_child(image, node) + child_count(image, node);
@@ -143,7 +143,7 @@ fn reach_among(image: &[u8], place: usize, width: usize, limit: usize, n: usize)
 }
 
 // A row of a Dictionary that is not null has a key outside the values, row by row.
-fn keys_astray_each(
+fn keys_fault_each(
     image: &[u8],
     node: u32,
     width: usize,
@@ -153,7 +153,7 @@ fn keys_astray_each(
     rows: usize,
 ) -> bool
     requires { ⌜ Keys (now image) node width limit keys from rows ⌝ }
-    ensures { λ r. ⌜ r ≡ any (keyStray (now (image .entry)) node) 0 (lengthOf (now (image .entry)) node) ⌝ }
+    ensures { λ r. ⌜ r ≡ any (keyRowFault (now (image .entry)) node) 0 (lengthOf (now (image .entry)) node) ⌝ }
 {
     let mask = mask_of(image, node);
     let mut i: usize = 0;
@@ -169,9 +169,9 @@ fn keys_astray_each(
 }
 
 // A row of a Dictionary that is not null has a key outside the values.
-fn keys_astray(image: &[u8], node: u32) -> bool
+fn keys_fault(image: &[u8], node: u32) -> bool
     requires { ⌜ elementWidth (now image) node ≤ 8 ⌝ }
-    ensures { λ r. ⌜ r ≡ any (keyStray (now (image .entry)) node) 0 (lengthOf (now (image .entry)) node) ⌝ }
+    ensures { λ r. ⌜ r ≡ any (keyRowFault (now (image .entry)) node) 0 (lengthOf (now (image .entry)) node) ⌝ }
 {
     let width = element_width(image, node);
     let limit = key_limit(image, node, width);
@@ -184,13 +184,13 @@ fn keys_astray(image: &[u8], node: u32) -> bool
             return reach_among(image, place, width, limit, rows);
         }
     }
-    keys_astray_each(image, node, width, limit, keys, from, rows)
+    keys_fault_each(image, node, width, limit, keys, from, rows)
 }
 
 // Of the 12 bytes of an inline view one past its length is not zero.
-fn is_padded(image: &[u8], view: usize, len: usize) -> bool
+fn padding_nonzero(image: &[u8], view: usize, len: usize) -> bool
     requires { ⌜ (view < 2 ^ 40) × (len ≡ viewLength (now image) view) × (len ≤ 12) ⌝ }
-    ensures { λ r. ⌜ r ≡ padded (now (image .entry)) view ⌝ }
+    ensures { λ r. ⌜ r ≡ paddingNonzero (now (image .entry)) view ⌝ }
 {
     let at = view + 4 + len;
     let count = INLINE_LENGTH - len;
@@ -205,9 +205,9 @@ fn is_padded(image: &[u8], view: usize, len: usize) -> bool
 }
 
 // A view of more than 12 bytes lies outside its buffers, or its stored prefix is wrong.
-fn is_strayed(image: &[u8], node: u32, view: usize, len: usize) -> bool
+fn long_view_fault(image: &[u8], node: u32, view: usize, len: usize) -> bool
     requires { ⌜ (view < 2 ^ 40) × (len ≡ viewLength (now image) view) × (12 < len) × (len < 2 ^ 32) ⌝ }
-    ensures { λ r. ⌜ r ≡ strayed (now (image .entry)) node view ⌝ }
+    ensures { λ r. ⌜ r ≡ longViewFault (now (image .entry)) node view ⌝ }
 {
     let buffer = 1 + le32(image, view + 8);
     if buffer_count(image, node) as usize <= buffer {
@@ -223,9 +223,9 @@ fn is_strayed(image: &[u8], node: u32, view: usize, len: usize) -> bool
 
 // Of the 12 bytes of an inline view that lies inside the image one past its length is not zero. The bytes are read
 // eight or four at a time, those in the middle once more; at most three are read one by one.
-fn is_padded_inside(image: &[u8], view: usize, len: usize) -> bool
+fn padding_nonzero_inside(image: &[u8], view: usize, len: usize) -> bool
     requires { ⌜ (view + 16 ≤ length (now image)) × (view < 2 ^ 40) × (len ≡ viewLength (now image) view) × (len ≤ 12) ⌝ }
-    ensures { λ r. ⌜ r ≡ padded (now (image .entry)) view ⌝ }
+    ensures { λ r. ⌜ r ≡ paddingNonzero (now (image .entry)) view ⌝ }
 {
     if len <= 4 {
         if octet(image, view + 4 + len) != 0 {
@@ -239,18 +239,18 @@ fn is_padded_inside(image: &[u8], view: usize, len: usize) -> bool
         }
         return quad(image, view + 12) != 0;
     }
-    is_padded(image, view, len)
+    padding_nonzero(image, view, len)
 }
 
 // The view at a place breaks a rule, where the view, the node's buffers and their entries lie inside the image; `entries`
 // is where these start, `count` how many they are.
-fn view_inside_broken(image: &[u8], node: u32, view: usize, entries: usize, count: usize) -> bool
+fn view_fault_inside(image: &[u8], node: u32, view: usize, entries: usize, count: usize) -> bool
     requires { ⌜ ViewHere (now image) node view entries count ⌝ }
     ensures { λ r. ⌜ r ≡ viewFault (now (image .entry)) node view ⌝ }
 {
     let len = quad(image, view);
     if len <= INLINE_LENGTH {
-        return is_padded_inside(image, view, len);
+        return padding_nonzero_inside(image, view, len);
     }
     let buffer = 1 + quad(image, view + 8);
     if count <= buffer {
@@ -265,19 +265,19 @@ fn view_inside_broken(image: &[u8], node: u32, view: usize, entries: usize, coun
 }
 
 // The view at a place breaks a rule.
-fn view_broken(image: &[u8], node: u32, view: usize) -> bool
+fn view_fault(image: &[u8], node: u32, view: usize) -> bool
     requires { ⌜ view < 2 ^ 40 ⌝ }
     ensures { λ r. ⌜ r ≡ viewFault (now (image .entry)) node view ⌝ }
 {
     let len = le32(image, view);
     if len <= INLINE_LENGTH {
-        return is_padded(image, view, len);
+        return padding_nonzero(image, view, len);
     }
-    is_strayed(image, node, view, len)
+    long_view_fault(image, node, view, len)
 }
 
 // A row of views that is not null has a view that breaks a rule; all views lie inside the image, from a place on.
-fn views_inside_astray(
+fn views_fault_inside(
     image: &[u8],
     node: u32,
     mask: Mask,
@@ -288,13 +288,13 @@ fn views_inside_astray(
 ) -> bool
     requires { ⌜ ViewsHere (now image) node place entries count rows ⌝ }
     requires { ⌜ MaskRead (now image) node (mask .some) (mask .place) (mask .first) ⌝ }
-    ensures { λ r. ⌜ r ≡ any (viewStray (now (image .entry)) node) 0 (lengthOf (now (image .entry)) node) ⌝ }
+    ensures { λ r. ⌜ r ≡ any (viewRowFault (now (image .entry)) node) 0 (lengthOf (now (image .entry)) node) ⌝ }
 {
     let mut view = place;
     let mut i: usize = 0;
     while i < rows {
         if is_kept(image, node, mask, i) {
-            if view_inside_broken(image, node, view, entries, count) {
+            if view_fault_inside(image, node, view, entries, count) {
                 return true;
             }
         }
@@ -305,9 +305,9 @@ fn views_inside_astray(
 }
 
 // A row of views that is not null has a view that breaks a rule.
-fn views_astray(image: &[u8], node: u32) -> bool
+fn views_fault(image: &[u8], node: u32) -> bool
     requires { ⌜ elementWidth (now image) node ≡ 16 ⌝ }
-    ensures { λ r. ⌜ r ≡ any (viewStray (now (image .entry)) node) 0 (lengthOf (now (image .entry)) node) ⌝ }
+    ensures { λ r. ⌜ r ≡ any (viewRowFault (now (image .entry)) node) 0 (lengthOf (now (image .entry)) node) ⌝ }
 {
     let place = buffer_place(image, node, 0) + offset(image, node) * VIEW_SIZE;
     let entries = node_entry(image, node, 0);
@@ -317,14 +317,14 @@ fn views_astray(image: &[u8], node: u32) -> bool
     if place + rows * VIEW_SIZE <= image.len() {
         if entries + count * ENTRY_SIZE <= image.len() {
             if !any_outside(image, node) {
-                return views_inside_astray(image, node, mask, place, entries, count, rows);
+                return views_fault_inside(image, node, mask, place, entries, count, rows);
             }
         }
     }
     let mut i: usize = 0;
     while i < rows {
         if is_kept(image, node, mask, i) {
-            if view_broken(image, node, place + i * VIEW_SIZE) {
+            if view_fault(image, node, place + i * VIEW_SIZE) {
                 return true;
             }
         }
@@ -345,8 +345,8 @@ fn run_ends_fall(image: &[u8], node: u32) -> bool
 }
 
 // The last run end lies below e; without run ends e is not 0.
-fn run_ends_short(image: &[u8], node: u32) -> bool
-    ensures { λ r. ⌜ r ≡ runEndsShort (now (image .entry)) node ⌝ }
+fn last_end_below(image: &[u8], node: u32) -> bool
+    ensures { λ r. ⌜ r ≡ lastEndBelow (now (image .entry)) node ⌝ }
 {
     let e = elements(image, node);
     let ends = first_child(image, node);
@@ -360,13 +360,13 @@ fn run_ends_short(image: &[u8], node: u32) -> bool
 }
 
 // Runs whose run ends break a rule.
-fn runs_astray(image: &[u8], node: u32) -> bool
-    ensures { λ r. ⌜ r ≡ (not (runEndsRise (now (image .entry)) node) || runEndsShort (now (image .entry)) node) ⌝ }
+fn runs_fault(image: &[u8], node: u32) -> bool
+    ensures { λ r. ⌜ r ≡ (not (runEndsRise (now (image .entry)) node) || lastEndBelow (now (image .entry)) node) ⌝ }
 {
     if run_ends_fall(image, node) {
         return true;
     }
-    run_ends_short(image, node)
+    last_end_below(image, node)
 }
 
 // The node has fault 18.
@@ -375,11 +375,11 @@ pub fn fault_18(image: &[u8], node: u32) -> bool
 {
     let layout = TypeCode::layout(code(image, node));
     match layout {
-        Layout::View => views_astray(image, node),
-        Layout::DenseUnion => dense_astray(image, node),
-        Layout::SparseUnion => sparse_astray(image, node),
-        Layout::Dictionary => keys_astray(image, node),
-        Layout::Runs => runs_astray(image, node),
+        Layout::View => views_fault(image, node),
+        Layout::DenseUnion => dense_fault(image, node),
+        Layout::SparseUnion => sparse_fault(image, node),
+        Layout::Dictionary => keys_fault(image, node),
+        Layout::Runs => runs_fault(image, node),
         _ => false,
     }
 }

@@ -12,33 +12,33 @@ use Rattle.image.specs.declared.type_code.Layout.{Layout}
 use Rattle.image.specs.declared.type_code.Layout.the-variants.{ListView, DenseUnion}
 use Rattle.image.specs.Record.{bufferLength}
 use Rattle.image.specs.Element.{elementWidth}
-use Rattle.image.specs.Faults.{under, short}
+use Rattle.image.specs.Faults.{under, tooFewElements}
 use Rattle.image.proofs.type_code.Layout.{the-type}
 use Rattle.image.proofs.CodeTable.{at-layouts}
 use Rattle.validate.proofs.buffers.any_under.Statement.{statement}
 use Rattle.validate.proofs.buffers.any_under.Tie as tie
 
 module _ (s : List ℕ) (k e : ℕ) (l : Layout) where
-  bits : OneOf (1 ∷ []) (tagOf the-type l) → ltb (8 * bufferLength s k 0) e ≡ short l s k e
-  bits = at-layouts (1 ∷ []) _ (λ l. short l s k e) refl l
+  bits : OneOf (1 ∷ []) (tagOf the-type l) → ltb (8 * bufferLength s k 0) e ≡ tooFewElements l s k e
+  bits = at-layouts (1 ∷ []) _ (λ l. tooFewElements l s k e) refl l
 
-  elements : OneOf (2 ∷ 4 ∷ 11 ∷ []) (tagOf the-type l) → under s k 0 e (elementWidth s k) ≡ short l s k e
-  elements = at-layouts (2 ∷ 4 ∷ 11 ∷ []) _ (λ l. short l s k e) refl l
+  elements : OneOf (2 ∷ 4 ∷ 11 ∷ []) (tagOf the-type l) → under s k 0 e (elementWidth s k) ≡ tooFewElements l s k e
+  elements = at-layouts (2 ∷ 4 ∷ 11 ∷ []) _ (λ l. tooFewElements l s k e) refl l
 
-  offsets : OneOf (3 ∷ 5 ∷ []) (tagOf the-type l) → under s k 0 (e + 1) (elementWidth s k) ≡ short l s k e
-  offsets = at-layouts (3 ∷ 5 ∷ []) _ (λ l. short l s k e) refl l
+  offsets : OneOf (3 ∷ 5 ∷ []) (tagOf the-type l) → under s k 0 (e + 1) (elementWidth s k) ≡ tooFewElements l s k e
+  offsets = at-layouts (3 ∷ 5 ∷ []) _ (λ l. tooFewElements l s k e) refl l
 
-  views : OneOf (6 ∷ []) (tagOf the-type l) → short ListView s k e ≡ short l s k e
-  views = at-layouts (6 ∷ []) _ (λ l. short l s k e) refl l
+  views : OneOf (6 ∷ []) (tagOf the-type l) → tooFewElements ListView s k e ≡ tooFewElements l s k e
+  views = at-layouts (6 ∷ []) _ (λ l. tooFewElements l s k e) refl l
 
-  dense : OneOf (9 ∷ []) (tagOf the-type l) → short DenseUnion s k e ≡ short l s k e
-  dense = at-layouts (9 ∷ []) _ (λ l. short l s k e) refl l
+  dense : OneOf (9 ∷ []) (tagOf the-type l) → tooFewElements DenseUnion s k e ≡ tooFewElements l s k e
+  dense = at-layouts (9 ∷ []) _ (λ l. tooFewElements l s k e) refl l
 
-  ids : OneOf (10 ∷ []) (tagOf the-type l) → under s k 0 e 1 ≡ short l s k e
-  ids = at-layouts (10 ∷ []) _ (λ l. short l s k e) refl l
+  ids : OneOf (10 ∷ []) (tagOf the-type l) → under s k 0 e 1 ≡ tooFewElements l s k e
+  ids = at-layouts (10 ∷ []) _ (λ l. tooFewElements l s k e) refl l
 
-  none : OneOf (0 ∷ 7 ∷ 8 ∷ 12 ∷ []) (tagOf the-type l) → false ≡ short l s k e
-  none = at-layouts (0 ∷ 7 ∷ 8 ∷ 12 ∷ []) _ (λ l. short l s k e) refl l
+  none : OneOf (0 ∷ 7 ∷ 8 ∷ 12 ∷ []) (tagOf the-type l) → false ≡ tooFewElements l s k e
+  none = at-layouts (0 ∷ 7 ∷ 8 ∷ 12 ∷ []) _ (λ l. tooFewElements l s k e) refl l
 
 code-requires : tie.Need-code-requires
 code-requires c κs = search needs

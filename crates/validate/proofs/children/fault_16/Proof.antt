@@ -10,24 +10,24 @@ use denote.Enum.Declared.{tagOf}
 use borrow.Author.Needs.{needs}
 use Rattle.image.specs.declared.type_code.Layout.{Layout}
 use Rattle.image.specs.Record.{p1Of, lengthOf, elementsOf, firstChild}
-use Rattle.image.specs.Faults.{childUnder, childShort, fault16}
+use Rattle.image.specs.Faults.{childUnder, tooFewChildRows, fault16}
 use Rattle.image.proofs.type_code.Layout.{the-type}
 use Rattle.image.proofs.CodeTable.{at-layouts}
 use Rattle.validate.proofs.children.fault_16.Statement.{statement}
 use Rattle.validate.proofs.children.fault_16.Tie as tie
 
 module _ (s : List ℕ) (k : ℕ) (l : Layout) where
-  fixed : OneOf (7 ∷ []) (tagOf the-type l) → ltb (lengthOf s (firstChild s k)) (elementsOf s k * p1Of s k) ≡ childShort l s k
-  fixed = at-layouts (7 ∷ []) _ (λ l. childShort l s k) refl l
+  fixed : OneOf (7 ∷ []) (tagOf the-type l) → ltb (lengthOf s (firstChild s k)) (elementsOf s k * p1Of s k) ≡ tooFewChildRows l s k
+  fixed = at-layouts (7 ∷ []) _ (λ l. tooFewChildRows l s k) refl l
 
-  parts : OneOf (8 ∷ 10 ∷ []) (tagOf the-type l) → childUnder s k (elementsOf s k) ≡ childShort l s k
-  parts = at-layouts (8 ∷ 10 ∷ []) _ (λ l. childShort l s k) refl l
+  parts : OneOf (8 ∷ 10 ∷ []) (tagOf the-type l) → childUnder s k (elementsOf s k) ≡ tooFewChildRows l s k
+  parts = at-layouts (8 ∷ 10 ∷ []) _ (λ l. tooFewChildRows l s k) refl l
 
-  runs : OneOf (12 ∷ []) (tagOf the-type l) → not (eqb (lengthOf s (firstChild s k)) (lengthOf s (firstChild s k + 1))) ≡ childShort l s k
-  runs = at-layouts (12 ∷ []) _ (λ l. childShort l s k) refl l
+  runs : OneOf (12 ∷ []) (tagOf the-type l) → not (eqb (lengthOf s (firstChild s k)) (lengthOf s (firstChild s k + 1))) ≡ tooFewChildRows l s k
+  runs = at-layouts (12 ∷ []) _ (λ l. tooFewChildRows l s k) refl l
 
-  none : OneOf (0 ∷ 1 ∷ 2 ∷ 3 ∷ 4 ∷ 5 ∷ 6 ∷ 9 ∷ 11 ∷ []) (tagOf the-type l) → false ≡ childShort l s k
-  none = at-layouts (0 ∷ 1 ∷ 2 ∷ 3 ∷ 4 ∷ 5 ∷ 6 ∷ 9 ∷ 11 ∷ []) _ (λ l. childShort l s k) refl l
+  none : OneOf (0 ∷ 1 ∷ 2 ∷ 3 ∷ 4 ∷ 5 ∷ 6 ∷ 9 ∷ 11 ∷ []) (tagOf the-type l) → false ≡ tooFewChildRows l s k
+  none = at-layouts (0 ∷ 1 ∷ 2 ∷ 3 ∷ 4 ∷ 5 ∷ 6 ∷ 9 ∷ 11 ∷ []) _ (λ l. tooFewChildRows l s k) refl l
 
 code-requires : tie.Need-code-requires
 code-requires c κs = search needs

@@ -5,7 +5,7 @@ use mathlib.Core.Bool.{false}
 use mathlib.Core.List.{[], _∷_}
 use Rattle.image.specs.declared.type_code.Layout.the-variants.{VariableSize, List as Lists, ListView}
 use Rattle.image.specs.Element.{elementWidth}
-use Rattle.image.specs.Faults.{misplaced, fault17}
+use Rattle.image.specs.Faults.{offsetFault, fault17}
 use Rattle.image.proofs.Widths.{variable-width, list-width, list-view-width}
 use Rattle.validate.proofs.Layouts.{at-code, at-place}
 use borrow.Author.Needs.{needs}
@@ -50,19 +50,19 @@ lists-outside-requires c κs = list-view-width _ _ (sym (at-place 6 ListView (λ
 
 returns : tie.Need-returns
 unfolding fault17
-returns c = at-place 3 _ (λ l. misplaced l (c .before .before .before .before .before .before .before .args .image .now) (c .before .before .before .before .before .before .before .args .node)) (c .offsets-fall .ensures ∙ rw (c .before .buffer-length .ensures .value)) (c .before .before .before .before .layout .result) (c .before .before .before .match .keys1) _ _ (c .before .before .before .before .layout .ensures) (c .before .before .before .before .before .code .ensures .value)
+returns c = at-place 3 _ (λ l. offsetFault l (c .before .before .before .before .before .before .before .args .image .now) (c .before .before .before .before .before .before .before .args .node)) (c .offsets-fall .ensures ∙ rw (c .before .buffer-length .ensures .value)) (c .before .before .before .before .layout .result) (c .before .before .before .match .keys1) _ _ (c .before .before .before .before .layout .ensures) (c .before .before .before .before .before .code .ensures .value)
 
 returns-2 : tie.Need-returns-2
 unfolding fault17
-returns-2 c = at-place 5 _ (λ l. misplaced l (c .before .before .before .before .before .before .before .before .args .image .now) (c .before .before .before .before .before .before .before .before .args .node)) (c .offsets-fall2 .ensures ∙ rw (c .before .length .ensures .value, c .before .before .first-child .ensures .value)) (c .before .before .before .before .before .layout .result) (c .before .before .before .before .match .keys2) _ _ (c .before .before .before .before .before .layout .ensures) (c .before .before .before .before .before .before .code .ensures .value)
+returns-2 c = at-place 5 _ (λ l. offsetFault l (c .before .before .before .before .before .before .before .before .args .image .now) (c .before .before .before .before .before .before .before .before .args .node)) (c .offsets-fall2 .ensures ∙ rw (c .before .length .ensures .value, c .before .before .first-child .ensures .value)) (c .before .before .before .before .before .layout .result) (c .before .before .before .before .match .keys2) _ _ (c .before .before .before .before .before .layout .ensures) (c .before .before .before .before .before .before .code .ensures .value)
 
 returns-3 : tie.Need-returns-3
 unfolding fault17
-returns-3 c = at-place 6 _ (λ l. misplaced l (c .before .before .before .before .before .before .args .image .now) (c .before .before .before .before .before .before .args .node)) (c .lists-outside .ensures) (c .before .before .before .layout .result) (c .before .before .match .keys3) _ _ (c .before .before .before .layout .ensures) (c .before .before .before .before .code .ensures .value)
+returns-3 c = at-place 6 _ (λ l. offsetFault l (c .before .before .before .before .before .before .args .image .now) (c .before .before .before .before .before .before .args .node)) (c .lists-outside .ensures) (c .before .before .before .layout .result) (c .before .before .match .keys3) _ _ (c .before .before .before .layout .ensures) (c .before .before .before .before .code .ensures .value)
 
 returns-4 : tie.Need-returns-4
 unfolding fault17
-returns-4 c = at-code (0 ∷ 1 ∷ 2 ∷ 4 ∷ 7 ∷ 8 ∷ 9 ∷ 10 ∷ 11 ∷ 12 ∷ []) false (λ l. misplaced l (c .before .before .before .before .args .image .now) (c .before .before .before .before .args .node)) refl (c .before .layout .result) (c .match .keys4) _ _ (c .before .layout .ensures) (c .before .before .code .ensures .value)
+returns-4 c = at-code (0 ∷ 1 ∷ 2 ∷ 4 ∷ 7 ∷ 8 ∷ 9 ∷ 10 ∷ 11 ∷ 12 ∷ []) false (λ l. offsetFault l (c .before .before .before .before .args .image .now) (c .before .before .before .before .args .node)) refl (c .before .layout .result) (c .match .keys4) _ _ (c .before .layout .ensures) (c .before .before .code .ensures .value)
 
 pub fault-17-spec : {M : Type 1} → statement M
 fault-17-spec =

@@ -5,7 +5,7 @@ use mathlib.Core.Bool.{false}
 use mathlib.Core.List.{[], _∷_}
 use Rattle.image.specs.declared.type_code.Layout.the-variants.{View, Dictionary}
 use Rattle.image.specs.Element.{elementWidth}
-use Rattle.image.specs.Faults.{astray, fault18}
+use Rattle.image.specs.Faults.{rowFault, fault18}
 use Rattle.image.proofs.Widths.{view-width, key-width}
 use Rattle.validate.proofs.Layouts.{at-code, at-place}
 use borrow.Author.Needs.{needs}
@@ -21,58 +21,58 @@ layout-requires c κs = search needs
 enum-told : tie.Need-enum-told
 enum-told c = search needs
 
-views-astray-requires : tie.Need-views-astray-requires
+views-fault-requires : tie.Need-views-fault-requires
 unfolding elementWidth
-views-astray-requires c κs = view-width _ _ (sym (at-place 4 View (λ l. l) refl (c .before .before .layout .result) (c .before .match .keys1) _ _ (c .before .before .layout .ensures) (c .before .before .before .code .ensures .value)))
+views-fault-requires c κs = view-width _ _ (sym (at-place 4 View (λ l. l) refl (c .before .before .layout .result) (c .before .match .keys1) _ _ (c .before .before .layout .ensures) (c .before .before .before .code .ensures .value)))
 
 enum-told-2 : tie.Need-enum-told-2
 enum-told-2 c = search needs
 
-dense-astray-requires : tie.Need-dense-astray-requires
-dense-astray-requires c κs = search needs
+dense-fault-requires : tie.Need-dense-fault-requires
+dense-fault-requires c κs = search needs
 
 enum-told-3 : tie.Need-enum-told-3
 enum-told-3 c = search needs
 
-sparse-astray-requires : tie.Need-sparse-astray-requires
-sparse-astray-requires c κs = search needs
+sparse-fault-requires : tie.Need-sparse-fault-requires
+sparse-fault-requires c κs = search needs
 
 enum-told-4 : tie.Need-enum-told-4
 enum-told-4 c = search needs
 
-keys-astray-requires : tie.Need-keys-astray-requires
+keys-fault-requires : tie.Need-keys-fault-requires
 unfolding elementWidth
-keys-astray-requires c κs = key-width _ _ (sym (at-place 11 Dictionary (λ l. l) refl (c .before .before .layout .result) (c .before .match .keys4) _ _ (c .before .before .layout .ensures) (c .before .before .before .code .ensures .value)))
+keys-fault-requires c κs = key-width _ _ (sym (at-place 11 Dictionary (λ l. l) refl (c .before .before .layout .result) (c .before .match .keys4) _ _ (c .before .before .layout .ensures) (c .before .before .before .code .ensures .value)))
 
 enum-told-5 : tie.Need-enum-told-5
 enum-told-5 c = search needs
 
-runs-astray-requires : tie.Need-runs-astray-requires
-runs-astray-requires c κs = search needs
+runs-fault-requires : tie.Need-runs-fault-requires
+runs-fault-requires c κs = search needs
 
 returns : tie.Need-returns
 unfolding fault18
-returns c = at-place 4 _ (λ l. astray l (c .before .before .before .before .before .before .args .image .now) (c .before .before .before .before .before .before .args .node)) (c .views-astray .ensures) (c .before .before .before .layout .result) (c .before .before .match .keys1) _ _ (c .before .before .before .layout .ensures) (c .before .before .before .before .code .ensures .value)
+returns c = at-place 4 _ (λ l. rowFault l (c .before .before .before .before .before .before .args .image .now) (c .before .before .before .before .before .before .args .node)) (c .views-fault .ensures) (c .before .before .before .layout .result) (c .before .before .match .keys1) _ _ (c .before .before .before .layout .ensures) (c .before .before .before .before .code .ensures .value)
 
 returns-2 : tie.Need-returns-2
 unfolding fault18
-returns-2 c = at-place 9 _ (λ l. astray l (c .before .before .before .before .before .before .args .image .now) (c .before .before .before .before .before .before .args .node)) (c .dense-astray .ensures) (c .before .before .before .layout .result) (c .before .before .match .keys2) _ _ (c .before .before .before .layout .ensures) (c .before .before .before .before .code .ensures .value)
+returns-2 c = at-place 9 _ (λ l. rowFault l (c .before .before .before .before .before .before .args .image .now) (c .before .before .before .before .before .before .args .node)) (c .dense-fault .ensures) (c .before .before .before .layout .result) (c .before .before .match .keys2) _ _ (c .before .before .before .layout .ensures) (c .before .before .before .before .code .ensures .value)
 
 returns-3 : tie.Need-returns-3
 unfolding fault18
-returns-3 c = at-place 10 _ (λ l. astray l (c .before .before .before .before .before .before .args .image .now) (c .before .before .before .before .before .before .args .node)) (c .sparse-astray .ensures) (c .before .before .before .layout .result) (c .before .before .match .keys3) _ _ (c .before .before .before .layout .ensures) (c .before .before .before .before .code .ensures .value)
+returns-3 c = at-place 10 _ (λ l. rowFault l (c .before .before .before .before .before .before .args .image .now) (c .before .before .before .before .before .before .args .node)) (c .sparse-fault .ensures) (c .before .before .before .layout .result) (c .before .before .match .keys3) _ _ (c .before .before .before .layout .ensures) (c .before .before .before .before .code .ensures .value)
 
 returns-4 : tie.Need-returns-4
 unfolding fault18
-returns-4 c = at-place 11 _ (λ l. astray l (c .before .before .before .before .before .before .args .image .now) (c .before .before .before .before .before .before .args .node)) (c .keys-astray .ensures) (c .before .before .before .layout .result) (c .before .before .match .keys4) _ _ (c .before .before .before .layout .ensures) (c .before .before .before .before .code .ensures .value)
+returns-4 c = at-place 11 _ (λ l. rowFault l (c .before .before .before .before .before .before .args .image .now) (c .before .before .before .before .before .before .args .node)) (c .keys-fault .ensures) (c .before .before .before .layout .result) (c .before .before .match .keys4) _ _ (c .before .before .before .layout .ensures) (c .before .before .before .before .code .ensures .value)
 
 returns-5 : tie.Need-returns-5
 unfolding fault18
-returns-5 c = at-place 12 _ (λ l. astray l (c .before .before .before .before .before .before .args .image .now) (c .before .before .before .before .before .before .args .node)) (c .runs-astray .ensures) (c .before .before .before .layout .result) (c .before .before .match .keys5) _ _ (c .before .before .before .layout .ensures) (c .before .before .before .before .code .ensures .value)
+returns-5 c = at-place 12 _ (λ l. rowFault l (c .before .before .before .before .before .before .args .image .now) (c .before .before .before .before .before .before .args .node)) (c .runs-fault .ensures) (c .before .before .before .layout .result) (c .before .before .match .keys5) _ _ (c .before .before .before .layout .ensures) (c .before .before .before .before .code .ensures .value)
 
 returns-6 : tie.Need-returns-6
 unfolding fault18
-returns-6 c = at-code (0 ∷ 1 ∷ 2 ∷ 3 ∷ 5 ∷ 6 ∷ 7 ∷ 8 ∷ []) false (λ l. astray l (c .before .before .before .before .args .image .now) (c .before .before .before .before .args .node)) refl (c .before .layout .result) (c .match .keys6) _ _ (c .before .layout .ensures) (c .before .before .code .ensures .value)
+returns-6 c = at-code (0 ∷ 1 ∷ 2 ∷ 3 ∷ 5 ∷ 6 ∷ 7 ∷ 8 ∷ []) false (λ l. rowFault l (c .before .before .before .before .args .image .now) (c .before .before .before .before .args .node)) refl (c .before .layout .result) (c .match .keys6) _ _ (c .before .layout .ensures) (c .before .before .code .ensures .value)
 
 pub fault-18-spec : {M : Type 1} → statement M
 fault-18-spec =
@@ -81,15 +81,15 @@ fault-18-spec =
     code-requires
     layout-requires
     enum-told
-    views-astray-requires
+    views-fault-requires
     enum-told-2
-    dense-astray-requires
+    dense-fault-requires
     enum-told-3
-    sparse-astray-requires
+    sparse-fault-requires
     enum-told-4
-    keys-astray-requires
+    keys-fault-requires
     enum-told-5
-    runs-astray-requires
+    runs-fault-requires
     returns
     returns-2
     returns-3
