@@ -2,10 +2,10 @@
 -- By rewriting with the callees' equations; the room that measuring leaves says whether the range's bytes fit.
 use mathlib.Core.Path.{_≡_, sym, ap, _∙_}
 use mathlib.Core.Bool.{true, false}
-use mathlib.Core.List.{List, [], _∷_, _++_}
-use Prim.Native.Nat.{ℕ, _+_, _-_, _≤_, _<_}
+use mathlib.Core.List.{List, _++_}
+use Prim.Native.Nat.{ℕ, _+_, _-_}
 use native.Mathlib.Omega.{arith}
-use lib.ListN.{length, take, drop}
+use lib.ListN.{length, drop}
 use lib.Dec.{ltb}
 use borrow.Author.Tests.{lt-ltb, le-ltb}
 use Rattle.image.specs.declared.answer.Checked.the-variants.{Accepted, Refused}
@@ -18,7 +18,7 @@ use Rattle.answers.specs.Answers.{exceeds, writeRange, writeAnswer, writeOutput
 use Rattle.rows.specs.declared.measure.Room.the-variants.{Left, Short}
 use Rattle.rows.specs.Output.{over, roomAfter, Fits}
 use Rattle.rows.proofs.Rooms.{left-told, short-told}
-use Rattle.values.specs.Parts.{Side}
+use Rattle.accepted.specs.Parts.{Side}
 use Rattle.laws.proofs.Accepted.{accepted}
 use Rattle.api.proofs.Answers.{within}
 

@@ -11,7 +11,7 @@ use Rattle.image.specs.TypeCode.{layoutOf, childRule}
 use Rattle.image.specs.Element.{elementWidth}
 use Rattle.laws.proofs.Alike.{same-width}
 use Rattle.values.specs.Parts.{Sides, Parts}
-use Rattle.values.proofs.Nodes.{child-node, part-node}
+use Rattle.accepted.proofs.Nodes.{child-node, part-node}
 
 module _ {a b : List ℕ} {k l i j n d : ℕ} (r : Parts a b k l i j n d) where
   pub layout-right : {x : Layout} → layoutOf (codeOf a k) ≡ x → layoutOf (codeOf b l) ≡ x

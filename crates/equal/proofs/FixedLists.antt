@@ -16,7 +16,7 @@ use Rattle.values.specs.Parts.{Sides, Parts}
 use Rattle.values.proofs.Steps.{sameRow, by-rows}
 use Rattle.values.proofs.Blocks.{blocks}
 use Rattle.values.proofs.Fixed.{times, next, whole}
-use Rattle.values.proofs.ChildRows.{fixed-list-within, fixed-list-small}
+use Rattle.accepted.proofs.ChildRows.{fixed-list-within, fixed-list-small}
 use Rattle.equal.proofs.Child.{layout-right, count-left, first-sides}
 
 module _ (A B : ℕ → ℕ → Row) (a b : List ℕ) (k l : ℕ) (same : p1Of a k ≡ p1Of b l) where

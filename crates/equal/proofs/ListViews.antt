@@ -15,7 +15,7 @@ use Rattle.image.specs.Equality.{rowEqual}
 use Rattle.values.specs.Pairs.{rangeEqual}
 use Rattle.values.specs.Parts.{Sides, Parts}
 use Rattle.values.proofs.Steps.{sameRow}
-use Rattle.values.proofs.Nodes.{part-node}
+use Rattle.accepted.proofs.Nodes.{part-node}
 use Rattle.equal.proofs.Rows.{lengths-differ}
 use Rattle.equal.proofs.Child.{layout-right, count-left, first-sides}
 

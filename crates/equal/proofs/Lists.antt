@@ -11,7 +11,7 @@ use lib.ListN.{length}
 use borrow.Author.Tests.{eqb-true, eqb-false}
 use Rattle.image.specs.declared.type_code.Layout.the-variants.{List as Lists}
 use Rattle.image.specs.Record.{codeOf, lengthOf, firstChild, childCount, bufferCount}
-use Rattle.image.specs.TypeCode.{layoutOf, bufferRule}
+use Rattle.image.specs.TypeCode.{layoutOf}
 use Rattle.image.specs.Element.{elementWidth, elementPlace, elementAt}
 use Rattle.image.specs.Reads.{Read}
 use Rattle.image.specs.Row.{Row, listRow, rowAt}
@@ -21,7 +21,7 @@ use Rattle.values.specs.Pairs.{all, rangeEqual, spanAt, sameSpan}
 use Rattle.values.specs.Parts.{Sides, Parts, Spans}
 use Rattle.values.proofs.Steps.{sameRow, by-rows}
 use Rattle.values.proofs.Blocks.{all-at, all-weaker, Rise, blocks}
-use Rattle.values.proofs.Nodes.{part-node, part-small, part-offsets}
+use Rattle.accepted.proofs.Nodes.{part-node, part-small, part-offsets}
 use Rattle.equal.proofs.Rows.{lengths-differ}
 use Rattle.equal.proofs.Child.{layout-right, widths-same, count-left, first-sides}
 

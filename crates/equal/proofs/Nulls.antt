@@ -21,7 +21,7 @@ use Rattle.values.specs.Pairs.{all, rangeEqual, sameMask, maskedRow}
 use Rattle.values.specs.Parts.{Sides, Parts, Masked}
 use Rattle.values.proofs.Steps.{sameRow, by-rows, all-moved}
 use Rattle.values.proofs.Blocks.{all-at, all-weaker}
-use Rattle.values.proofs.Fixed.{side-small}
+use Rattle.accepted.proofs.Nodes.{side-small}
 use Rattle.equal.proofs.Rows.{RowsLeft, rows-more, rows-jump, rows-jump-fail}
 
 -- no value of a layout that takes a bitmap is null

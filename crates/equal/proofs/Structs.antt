@@ -14,9 +14,10 @@ use Rattle.image.specs.Reads.{Read}
 use Rattle.image.specs.Row.{Row, range, joined, structRow, rowAt}
 use Rattle.image.specs.Equality.{rowEqual}
 use Rattle.values.specs.Pairs.{all, rangeEqual}
-use Rattle.values.specs.Parts.{Sides, Part, Parts}
+use Rattle.values.specs.Parts.{Sides, Parts}
+use Rattle.accepted.specs.Parts.{Part}
 use Rattle.values.proofs.Steps.{Left, left-none, left-more, left-fails, left-done}
-use Rattle.values.proofs.Nodes.{part-node}
+use Rattle.accepted.proofs.Nodes.{part-node}
 use Rattle.equal.proofs.Child.{layout-right, child-sides}
 
 -- the ranges of two children are equal

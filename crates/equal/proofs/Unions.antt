@@ -8,7 +8,7 @@ use Prim.Native.Nat.{ℕ, zero, suc, _+_, _-_, _<_, _≤_}
 use native.Mathlib.Omega.{arith}
 use lib.Dec.{eqb}
 use lib.ListN.{length}
-use Rattle.image.specs.Bytes.{byteAt, bytesAt}
+use Rattle.image.specs.Bytes.{bytesAt}
 use Rattle.image.specs.Types.{sameBytes}
 use borrow.Author.Tests.{eqb-true, eq-eqb, ne-eqb, lt-ltb}
 use Rattle.image.specs.declared.type_code.Layout.the-variants.{DenseUnion, SparseUnion}
@@ -22,12 +22,13 @@ use Rattle.image.specs.Equality.{rowEqual}
 use Rattle.image.proofs.Ranges.{first-from}
 use Rattle.laws.specs.Accepted.{IdKnown}
 use Rattle.laws.proofs.Codes.{dense-code, sparse-code}
-use Rattle.values.specs.Pairs.{all, rangeEqual, sameByte}
-use Rattle.values.specs.Parts.{Sides, Part, Parts}
+use Rattle.values.specs.Pairs.{rangeEqual, sameByte}
+use Rattle.values.specs.Parts.{Sides, Parts}
+use Rattle.accepted.specs.Parts.{Part}
 use Rattle.values.proofs.Steps.{sameRow, by-rows, by-bytes, all-by}
 use Rattle.values.proofs.Blocks.{all-at}
-use Rattle.values.proofs.Nodes.{part-at, part-node}
-use Rattle.values.proofs.ChildRows.{dense-known, dense-within, sparse-known, sparse-within}
+use Rattle.accepted.proofs.Nodes.{part-at, part-node}
+use Rattle.accepted.proofs.ChildRows.{dense-known, dense-within, sparse-known, sparse-within}
 use Rattle.equal.proofs.Rows.{one-row}
 use Rattle.equal.proofs.Child.{layout-right, child-sides}
 use Rattle.equal.proofs.Structs.{sameColumn, by-columns}

@@ -1,11 +1,11 @@
 // Run-end encoded rows. Translated from src/equal/run.rs of arrow-data 60.1.0 (Apache-2.0).
 use crate::equal_range;
 use crate::equal_row;
+use accepted::runs::run_of;
+use image::element::ends_of;
+use image::element::run_end;
 use image::record::first_child;
 use values::leaf::leaves_of;
-use values::runs::ends_of;
-use values::runs::run_end;
-use values::runs::run_of;
 use values::runs::same_runs;
 ghost use mathlib.Core.Path.{_≡_};
 ghost use Prim.Native.Nat.{_+_, _<_, _≤_, _^_, min};

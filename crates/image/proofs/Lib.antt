@@ -5,4 +5,5 @@ pub mod Compare
 pub mod Loops
 pub mod Numbers
 pub mod Ranges
+pub mod RunEnds
 pub mod Widths

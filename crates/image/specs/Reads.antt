@@ -5,8 +5,9 @@ use mathlib.Core.List.{List}
 use mathlib.Core.Logic.{_⊎_}
 use Prim.Native.Nat.{ℕ, _+_, _*_, _<_, _≤_, _^_}
 use lib.ListN.{length, getD}
-use Rattle.image.specs.Record.{hasBitmap, bitmapPlace, firstBit}
-use Rattle.image.specs.Element.{childWithId}
+use Rattle.image.specs.declared.element.EndsAt.{EndsAt}
+use Rattle.image.specs.Record.{hasBitmap, bitmapPlace, firstBit, firstChild, offsetOf, bufferPlace}
+use Rattle.image.specs.Element.{childWithId, runEndWidth}
 
 -- the result is the number x, which fits so many bits
 pub record Read (x bits r : ℕ) : Type 0 where
@@ -35,3 +36,11 @@ pub record MaskRead (s : List ℕ) (k : ℕ) (some : Bool) (place first : ℕ) :
   pub is-there : some ≡ hasBitmap s k
   pub start : place ≡ bitmapPlace s k
   pub row : Read (firstBit s k) 32 first
+
+-- where the ends of a run node's runs start, and how wide they are
+pub record Ends (s : List ℕ) (k : ℕ) (r : EndsAt) : Type 0 where
+  pub width : r .width ≡ runEndWidth s k
+  pub place : r .place ≡ bufferPlace s (firstChild s k) 0 + offsetOf s (firstChild s k) * r .width
+  pub some : 1 ≤ r .width
+  pub narrow : r .width ≤ 8
+  pub near : r .place < 2 ^ 40

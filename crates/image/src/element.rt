@@ -1,4 +1,5 @@
-// What stands at a row of a node: its bitmap bit, the width of an element, and the union's child that a type id names.
+// What stands at a row of a node: its bitmap bit, the width of an element, the union's child that a type id names, and
+// the ends of runs.
 use crate::bytes::bit;
 use crate::bytes::nth;
 use crate::bytes::wide;
@@ -9,13 +10,14 @@ use crate::record::code;
 use crate::record::first_bit;
 use crate::record::first_child;
 use crate::record::has_bitmap;
+use crate::record::offset;
 use crate::record::p1;
 use crate::record::type_id;
 use crate::type_code::TypeCode;
 ghost use mathlib.Core.Path.{_≡_};
 ghost use Prim.Native.Nat.{_<_, _≤_, _^_};
-ghost use Rattle.image.specs.Reads.{Read, ById, MaskRead};
-ghost use Rattle.image.specs.Element.{valid, elementWidth, elementAt, childWithId};
+ghost use Rattle.image.specs.Reads.{Read, ById, MaskRead, Ends};
+ghost use Rattle.image.specs.Element.{valid, elementWidth, elementAt, childWithId, runEndAt};
 
 // The size of a view.
 pub const VIEW_SIZE: usize = 16;
@@ -111,4 +113,30 @@ pub fn child_with_id(image: &[u8], node: u32, id: u8) -> u32
         k += 1;
     }
     first + count
+}
+
+// Where the ends of a run node's runs stand: how wide they are, and where the first of them starts.
+pub struct EndsAt {
+    pub width: usize,
+    pub place: usize,
+}
+
+// The run ends of a node.
+pub fn ends_of(image: &[u8], node: u32) -> EndsAt
+    ensures { λ r. ⌜ Ends (now (image .entry)) node r ⌝ }
+{
+    let ends = first_child(image, node);
+    let width = TypeCode::integer_width(code(image, ends) as u32);
+    EndsAt {
+        width: width,
+        place: buffer_place(image, ends, 0) + offset(image, ends) * width,
+    }
+}
+
+// Run end r of a run node.
+pub fn run_end(image: &[u8], node: u32, ends: EndsAt, r: usize) -> usize
+    requires { ⌜ (r < 2 ^ 33) × Ends (now image) node ends ⌝ }
+    ensures { λ x. ⌜ x ≡ runEndAt (now (image .entry)) node r ⌝ }
+{
+    nth(image, ends.place, ends.width, r)
 }

@@ -15,9 +15,9 @@ use Rattle.image.specs.Reads.{Read}
 use Rattle.image.specs.Row.{Row, null, fixed, sized, joined as joinedRow, counted, tagged, range, valueAt, rowAt}
 use Rattle.image.specs.RowBytes.{rowBytes, rowsBytes}
 use Rattle.laws.proofs.Lengths.{number-length, bytes-length}
-use Rattle.values.specs.Parts.{Side, Part}
-use Rattle.values.proofs.Nodes.{side-part}
-use Rattle.values.proofs.Fixed.{side-small}
+use Rattle.accepted.specs.Parts.{Side, Part}
+use Rattle.accepted.proofs.Nodes.{side-part}
+use Rattle.accepted.proofs.Nodes.{side-small}
 use Rattle.rows.specs.declared.value.Value.{Value}
 use Rattle.rows.specs.Value.{isNull, frontBytes, ownBytes, childRows}
 use Rattle.rows.specs.ValueOf.{valueOf}

@@ -17,13 +17,13 @@ use Rattle.image.specs.Record.{nodeCount, codeOf, p1Of, lengthOf, firstChild, c
 use Rattle.image.specs.TypeCode.{layoutOf, childRule}
 use Rattle.image.specs.Element.{elementWidth, elementPlace, elementAt, typeIdAt, childEnd, childWithId, viewLength, viewData, runAt}
 use Rattle.laws.specs.Accepted.{AcceptedImage, IdKnown}
-use Rattle.values.specs.Parts.{Side, Part, Elements, Viewed}
-use Rattle.values.proofs.Nodes.{child-node, first-child-node, part-node}
-use Rattle.values.proofs.Fixed.{spanned, spanned-small}
-use Rattle.values.proofs.Texts.{text-inside, text-up}
-use Rattle.values.proofs.Views.{shown-short, shown-long, viewed, view-place}
-use Rattle.values.proofs.ChildRows.{fixed-list-within, fixed-list-small, key-below, dense-known, dense-within, sparse-known, sparse-within}
-use Rattle.values.proofs.RunEnds.{run-first, runs-cover}
+use Rattle.accepted.specs.Parts.{Side, Part, Elements, Viewed}
+use Rattle.accepted.proofs.Nodes.{child-node, first-child-node, part-node}
+use Rattle.accepted.proofs.Fixed.{spanned, spanned-small}
+use Rattle.accepted.proofs.Texts.{text-rises, text-inside}
+use Rattle.accepted.proofs.Views.{shown-short, shown-long, viewed, view-place}
+use Rattle.accepted.proofs.ChildRows.{fixed-list-within, fixed-list-small, key-below, dense-known, dense-within, sparse-known, sparse-within}
+use Rattle.accepted.proofs.RunEnds.{run-first, runs-cover}
 use Rattle.rows.specs.declared.value.Value.{Value}
 use Rattle.rows.specs.Value.{leafValue, nestedValue}
 use Rattle.rows.specs.ValueOf.{unionValue, valueOf}
@@ -87,8 +87,8 @@ module _ {s : List ℕ} {k j : ℕ} (r : Part s k j 1) where
 
   -- a text's offsets
   module _ (text : layoutOf (codeOf s k) ≡ VariableSize) where
-    text-rises : elementAt s k j ≤ elementAt s k (suc j)
-    text-rises = rw add-one at (text-up s k j 1 r text)
+    pub text-up : elementAt s k j ≤ elementAt s k (suc j)
+    text-up = text-rises s k j 1 r text .rise j (omega (arith, r .high))
 
     text-ends : bufferPlace s k 1 + elementAt s k (suc j) ≤ length s
     text-ends = rw add-one at (text-inside s k j 1 r text)
@@ -132,7 +132,7 @@ module _ {s : List ℕ} {k j : ℕ} (r : Part s k j 1) where
   by-layout Null e = leaf-placed s 0 0 0 0 (omega arith) (omega arith)
   by-layout Boolean e = leaf-placed s _ 1 0 0 (omega arith) (omega arith)
   by-layout FixedWidth e = leaf-placed s 0 0 _ _ (omega arith) (fixed-inside e)
-  by-layout VariableSize e = leaf-placed s _ 4 _ _ (omega arith) (omega (arith, text-rises e, text-ends e))
+  by-layout VariableSize e = leaf-placed s _ 4 _ _ (omega arith) (omega (arith, text-up e, text-ends e))
   by-layout View e = leaf-placed s _ 4 _ _ (omega arith) (view-inside e)
   by-layout Lists e = child-placed _ 4 _ _ _ (r .image) (omega arith) (only-child (rw e)) (omega (arith, list-rises e, list-ends e))
   by-layout ListView e = child-placed _ 4 _ _ _ (r .image) (omega arith) (only-child (rw e)) (part-node r .places .list-view e j (omega (arith, r .high)))

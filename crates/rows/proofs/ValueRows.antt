@@ -21,9 +21,9 @@ use Rattle.image.specs.RowBytes.{rowBytes, rowsBytes}
 use Rattle.laws.specs.Accepted.{IdKnown}
 use Rattle.laws.proofs.Codes.{dense-code, sparse-code}
 use Rattle.laws.proofs.Lengths.{bytes-length, range-count}
-use Rattle.values.specs.Parts.{Part}
-use Rattle.values.proofs.Nodes.{part-node}
-use Rattle.values.proofs.ChildRows.{dense-known, sparse-known}
+use Rattle.accepted.specs.Parts.{Part}
+use Rattle.accepted.proofs.Nodes.{part-node}
+use Rattle.accepted.proofs.ChildRows.{dense-known, sparse-known}
 use Rattle.rows.specs.declared.value.Value.{Value}
 use Rattle.rows.specs.Value.{leafValue, nestedValue, frontBytes, ownBytes, rowsThen, partRows, childRows, taggedFirst, rowOf}
 use Rattle.rows.specs.ValueOf.{textValue, listValue, unionValue, valueOf}

@@ -7,7 +7,7 @@ ghost use mathlib.Core.Path.{_≡_};
 ghost use lib.ListN.{length};
 ghost use Rattle.image.specs.Row.{rowAt, range};
 ghost use Rattle.image.specs.RowBytes.{rowBytes, rowsBytes};
-ghost use Rattle.values.specs.Parts.{Side};
+ghost use Rattle.accepted.specs.Parts.{Side};
 ghost use Rattle.rows.specs.Output.{roomAfter};
 
 // The room of an output after some bytes.

@@ -1,5 +1,7 @@
 // What a row that is not null is made of: a number in front, bytes of the image, and ranges of child rows. Whatever goes
 // row by row over a table goes by this.
+use accepted::byte_view::data_place;
+use accepted::runs::run_of;
 use image::bytes::bit;
 use image::bytes::byte;
 use image::bytes::le32;
@@ -17,8 +19,6 @@ use image::record::first_child;
 use image::record::p1;
 use image::type_code::Layout;
 use image::type_code::TypeCode;
-use values::byte_view::data_place;
-use values::runs::run_of;
 ghost use mathlib.Core.Path.{_≡_};
 ghost use Prim.Native.Nat.{_<_, _^_};
 ghost use Rattle.image.specs.declared.type_code.Layout.the-variants.{Boolean, FixedWidth, VariableSize, View, List as Lists, ListView, FixedList, Struct, DenseUnion, SparseUnion, Dictionary, Runs};
@@ -26,7 +26,7 @@ ghost use Rattle.image.specs.Record.{codeOf};
 ghost use Rattle.image.specs.TypeCode.{layoutOf};
 ghost use Rattle.image.specs.Element.{typeIdAt};
 ghost use Rattle.laws.specs.Accepted.{IdKnown};
-ghost use Rattle.values.specs.Parts.{Part};
+ghost use Rattle.accepted.specs.Parts.{Part};
 ghost use Rattle.rows.specs.Value.{leafValue, nestedValue, isNull};
 ghost use Rattle.rows.specs.ValueOf.{valueOf, unionValue};
 

@@ -10,7 +10,7 @@ ghost use Prim.Native.Nat.{_+_, _≤_};
 ghost use lib.ListN.{length};
 ghost use Rattle.image.specs.Row.{rowAt, range};
 ghost use Rattle.image.specs.RowBytes.{rowBytes, rowsBytes};
-ghost use Rattle.values.specs.Parts.{Side};
+ghost use Rattle.accepted.specs.Parts.{Side};
 ghost use Rattle.rows.specs.Output.{over, Fits};
 ghost use Rattle.rows.specs.Value.{ownBytes};
 

@@ -30,7 +30,7 @@ ghost use Rattle.validate.specs.Walks.{Walks};
 const MOST_ELEMENTS: usize = 1073741824;
 
 // The number of buffers is not what the code's rule says.
-fn buffer_count_wrong(image: &[u8], node: u32) -> bool
+fn count_wrong(image: &[u8], node: u32) -> bool
     ensures { λ r. ⌜ r ≡ not (counts (bufferRule (layoutOf (codeOf (now (image .entry)) node))) (bufferCount (now (image .entry)) node)) ⌝ }
 {
     let rule = TypeCode::buffers(code(image, node));
@@ -119,7 +119,7 @@ pub fn fault_14(image: &[u8], node: u32, walk: Walk) -> bool
     requires { ⌜ Walks (now image) node walk ⌝ }
     ensures { λ r. ⌜ r ≡ fault14 (now (image .entry)) node ⌝ }
 {
-    if buffer_count_wrong(image, node) {
+    if count_wrong(image, node) {
         return true;
     }
     if first_buffer(image, node) as usize != walk.buffers {

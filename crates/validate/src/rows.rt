@@ -14,8 +14,10 @@ use image::element::Mask;
 use image::element::VIEW_SIZE;
 use image::element::children_by_id;
 use image::element::element_width;
+use image::element::ends_of;
 use image::element::is_kept;
 use image::element::mask_of;
+use image::element::run_end;
 use image::record::ENTRY_SIZE;
 use image::record::buffer_count;
 use image::record::buffer_length;
@@ -337,11 +339,10 @@ fn views_fault(image: &[u8], node: u32) -> bool
 fn run_ends_fall(image: &[u8], node: u32) -> bool
     ensures { λ r. ⌜ r ≡ not (runEndsRise (now (image .entry)) node) ⌝ }
 {
-    let ends = first_child(image, node);
-    let width = TypeCode::integer_width(code(image, ends) as u32);
-    let place = buffer_place(image, ends, 0) + offset(image, ends) * width;
-    let top = TypeCode::sign_bit(width) as usize - 1;
-    !rise(image, place, width, width, 1, top, 1, length(image, ends))
+    let ends = ends_of(image, node);
+    let top = TypeCode::sign_bit(ends.width) as usize - 1;
+    let count = length(image, first_child(image, node));
+    !rise(image, ends.place, ends.width, ends.width, 1, top, 1, count)
 }
 
 // The last run end lies below e; without run ends e is not 0.
@@ -349,14 +350,11 @@ fn last_end_below(image: &[u8], node: u32) -> bool
     ensures { λ r. ⌜ r ≡ lastEndBelow (now (image .entry)) node ⌝ }
 {
     let e = elements(image, node);
-    let ends = first_child(image, node);
-    let count = length(image, ends);
+    let count = length(image, first_child(image, node));
     if count == 0 {
         return e != 0;
     }
-    let width = TypeCode::integer_width(code(image, ends) as u32);
-    let last = offset(image, ends) + (count - 1);
-    number(image, buffer_place(image, ends, 0) + last * width, width) < e
+    run_end(image, node, ends_of(image, node), count - 1) < e
 }
 
 // Runs whose run ends break a rule.

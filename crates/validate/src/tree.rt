@@ -152,7 +152,7 @@ impl Walk {
 }
 
 // The number of children is not what the code's rule says.
-fn buffer_count_wrong(image: &[u8], node: u32) -> bool
+fn count_wrong(image: &[u8], node: u32) -> bool
     ensures { λ r. ⌜ r ≡ not (counts (childRule (layoutOf (codeOf (now (image .entry)) node))) (childCount (now (image .entry)) node)) ⌝ }
 {
     let rule = TypeCode::children(code(image, node));
@@ -241,7 +241,7 @@ pub fn fault_12(image: &[u8], node: u32, walk: Walk) -> bool
     requires { ⌜ Walks (now image) node walk ⌝ }
     ensures { λ r. ⌜ r ≡ fault12 (now (image .entry)) node ⌝ }
 {
-    if buffer_count_wrong(image, node) {
+    if count_wrong(image, node) {
         return true;
     }
     let first = first_child(image, node);

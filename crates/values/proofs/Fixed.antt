@@ -2,13 +2,12 @@
 -- By the law of blocks, with the offsets 0, w, 2 * w, ..
 use mathlib.Core.Path.{_≡_, sym, ap, _∙_}
 use mathlib.Core.List.{List}
-use Prim.Native.Nat.{ℕ, suc, _+_, _*_, _-_, _≤_}
+use Prim.Native.Nat.{ℕ, suc, _+_, _*_, _-_}
 use native.Mathlib.Omega.{arith}
 use native.Mathlib.Nat.{mul-le-mul-right, suc-mul, add-mul}
-use lib.ListN.{length}
 use Rattle.image.specs.declared.type_code.Layout.the-variants.{FixedWidth}
 use Rattle.image.specs.Bytes.{bytesAt}
-use Rattle.image.specs.Record.{codeOf, offsetOf, bufferPlace, bufferLength, bufferCount, elementsOf}
+use Rattle.image.specs.Record.{codeOf, offsetOf, bufferPlace, elementsOf}
 use Rattle.image.specs.TypeCode.{layoutOf}
 use Rattle.image.specs.Element.{elementWidth, elementPlace}
 use Rattle.image.specs.Types.{sameBytes}
@@ -16,7 +15,8 @@ use Rattle.image.specs.Row.{fixedRow}
 use Rattle.image.specs.Equality.{rowEqual}
 use Rattle.laws.proofs.Alike.{same-width}
 use Rattle.values.specs.Pairs.{all, rangeEqual, sameByte}
-use Rattle.values.specs.Parts.{Side, Parts, Masked, Elements, Spanned, Fixed}
+use Rattle.accepted.specs.Parts.{Spanned}
+use Rattle.values.specs.Parts.{Parts, Masked, Fixed}
 use Rattle.values.proofs.Steps.{sameRow, by-rows, by-bytes}
 use Rattle.values.proofs.Blocks.{blocks}
 
@@ -51,21 +51,6 @@ module _ (a b : List ℕ) (k l : ℕ) (same : elementWidth a k ≡ elementWidth 
       (λ h lt. row (i + h) (j + h) ∙ ap (all (sameByte a b) _ _) (sym (next (elementWidth a k) (i + h)))))
       ∙ by-rows (fixedRow a k) (fixedRow b l) i j n)
 
--- what was read of a span lies inside
-pub spanned : (s : List ℕ) (k j n w p : ℕ) → Elements s k j n → w ≡ elementWidth s k → p ≡ bufferPlace s k 0 → Spanned s k j n (p + j * w) (n * w)
-unfolding elementPlace
-spanned s k j n w p r ew ep =
-    let node = r .image .node k (r .node) in
-    let one : bufferCount s k ≡ 1 = node .buffers .exactly 1 (rw (r .fixed)) in
-    let inside : bufferPlace s k 0 + bufferLength s k 0 ≤ length s = node .buffers .inside 0 (omega arith) in
-    let enough : elementsOf s k * elementWidth s k ≤ bufferLength s k 0 = node .enough .fixed-width (r .fixed) in
-    let part : (j + n) * elementWidth s k ≤ elementsOf s k * elementWidth s k = mul-le-mul-right (elementWidth s k) (r .high) in
-    let e : (j + n) * elementWidth s k ≡ j * elementWidth s k + n * elementWidth s k = add-mul j n (elementWidth s k) in
-    record { place = rw (ew, ep); size = rw ew; inside = rw (ew, ep) (omega arith) }
-
-pub image-small : (s : List ℕ) (k j n : ℕ) → Elements s k j n → length s ≤ 16777216
-image-small s k j n r = r .image .size
-
 -- parts of two fixed-width nodes that are alike
 pub parts-fixed : (a b : List ℕ) (k l i j n d : ℕ) → Parts a b k l i j n d → layoutOf (codeOf a k) ≡ FixedWidth → Fixed a b k l i j n
 parts-fixed a b k l i j n d r fixed = record {
@@ -82,14 +67,6 @@ masked-fixed {a} {b} {k} {l} r = record {
   right = record { image = r .right .image; node = r .right .node; fixed = sym (ap layoutOf (r .code)) ∙ r .layout; high = omega (arith, r .right .rows) };
   width = same-width a b k l (r .code) (r .p1);
 }
-
--- rows of an accepted node are few
-pub side-small : (s : List ℕ) (k i n : ℕ) → Side s k i n → offsetOf s k + i + n ≤ 1073741824
-unfolding elementsOf
-side-small s k i n r = omega (arith, r .rows, r .image .node k (r .node) .buffers .small)
-
-pub spanned-small : (s : List ℕ) (k j n w p : ℕ) → Elements s k j n → w ≡ elementWidth s k → p ≡ bufferPlace s k 0 → p + j * w + n * w ≤ 16777216
-spanned-small s k j n w p r ew ep = omega (arith, spanned s k j n w p r ew ep .inside, r .image .size)
 
 -- spans of equally many elements of one width are equally long
 pub same-length : (a b : List ℕ) (k l n : ℕ) {i j at bt x y : ℕ} → Fixed a b k l i j n → Spanned a k i n at x → Spanned b l j n bt y → x ≡ y

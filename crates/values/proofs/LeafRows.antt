@@ -19,11 +19,14 @@ use Rattle.image.specs.Equality.{rowEqual}
 use Rattle.image.specs.Reads.{Read, Nth}
 use Rattle.values.specs.declared.leaf.Leaves.{Leaves}
 use Rattle.values.specs.Pairs.{rangeEqual}
-use Rattle.values.specs.Parts.{Side, Sides, Part, Elements, Leaf, Leafy}
-use Rattle.values.proofs.Fixed.{spanned, side-small}
+use Rattle.accepted.specs.Parts.{Side, Part, Elements}
+use Rattle.values.specs.Parts.{Sides, Leaf, Leafy}
+use Rattle.accepted.proofs.Fixed.{spanned}
+use Rattle.accepted.proofs.Nodes.{side-small}
 use Rattle.values.proofs.Names.{other-length}
 use Rattle.values.proofs.Steps.{and-true}
-use Rattle.values.proofs.Texts.{text-narrow, text-offsets, text-inside, text-up}
+use Rattle.accepted.proofs.Texts.{text-narrow, text-offsets, text-inside}
+use Rattle.values.proofs.Texts.{text-up}
 
 -- the elements of some rows
 side-elements : {s : List ℕ} {k i n : ℕ} → Side s k i n → layoutOf (codeOf s k) ≡ FixedWidth → Elements s k (offsetOf s k + i) n

@@ -1,5 +1,4 @@
 pub mod Blocks
-pub mod ChildRows
 pub mod Distances
 pub mod Fixed
 pub mod Leads
@@ -8,9 +7,7 @@ pub mod Levels
 pub mod MaskedRows
 pub mod Masks
 pub mod Names
-pub mod Nodes
 pub mod Octets
-pub mod RunEnds
 pub mod SameRuns
 pub mod Spans
 pub mod Steps

@@ -3,27 +3,28 @@
 use mathlib.Core.Path.{_≡_, refl, sym, ap, _∙_}
 use mathlib.Core.Bool.{Bool, true}
 use mathlib.Core.List.{List}
-use Prim.Native.Nat.{ℕ, suc, _+_, _*_, _-_, _<_, _≤_}
+use Prim.Native.Nat.{ℕ, suc, _+_, _-_, _<_, _≤_}
 use native.Mathlib.Omega.{arith}
 use native.Mathlib.Nat.{le-of-suc-le-suc, lt-of-not-le}
 use Rattle.image.specs.declared.type_code.Layout.the-variants.{FixedWidth}
 use Rattle.image.specs.Bytes.{numberAt, bytesAt}
-use Rattle.image.specs.Record.{nodeCount, codeOf, lengthOf, offsetOf, firstChild, childCount, elementsOf, bufferPlace}
+use Rattle.image.specs.Record.{nodeCount, offsetOf, firstChild, childCount, elementsOf}
 use Rattle.image.specs.TypeCode.{layoutOf, entryOf, entries}
-use Rattle.image.specs.Element.{elementWidth, elementPlace, runEndWidth, runEndAt, runAt}
+use Rattle.image.specs.Element.{elementWidth, elementPlace, runEndAt, runAt}
 use Rattle.image.specs.Reads.{Read}
 use Rattle.image.specs.Types.{sameBytes}
 use Rattle.image.specs.Row.{fixedRow}
 use Rattle.image.specs.Equality.{rowEqual}
 use Rattle.image.proofs.CodeTable.{agree}
-use Rattle.laws.specs.Accepted.{Node, RunsCover, RunEnds}
+use Rattle.laws.specs.Accepted.{Node, RunEnds}
 use Rattle.values.specs.Pairs.{rangeEqual}
-use Rattle.values.specs.Parts.{RunPart, RunRange, SameEnds, RunParts, Together, Elements, Fixed}
+use Rattle.accepted.specs.Parts.{RunPart, Elements}
+use Rattle.values.specs.Parts.{RunRange, SameEnds, RunParts, Together}
 use Rattle.values.proofs.Steps.{sameRow, by-rows, by-bytes}
 use Rattle.values.proofs.Blocks.{all-at}
 use Rattle.values.proofs.Spans.{number-same}
-use Rattle.values.proofs.Nodes.{length-small, first-child-node}
-use Rattle.values.proofs.RunEnds.{ends-before, runs-cover, runs-few}
+use Rattle.accepted.proofs.Nodes.{length-small, first-child-node}
+use Rattle.accepted.proofs.RunEnds.{ends-before, runs-cover, runs-few}
 
 -- integers of codes 3 to 5 have a fixed width
 ends-fixed : (code : ℕ) → 3 ≤ code → code ≤ 5 → layoutOf code ≡ FixedWidth

@@ -1,52 +1,33 @@
--- Texts without nulls: what acceptance gives of their offsets, and that they are equal as one block of bytes.
+-- Texts without nulls are equal as one block of bytes.
 -- By the law of blocks, with the offsets as they are stored.
-use mathlib.Core.Path.{_≡_, refl, sym, ap, _∙_}
-use mathlib.Core.Bool.{Bool, true, false}
+use mathlib.Core.Path.{_≡_, sym, ap, _∙_}
+use mathlib.Core.Bool.{true, false}
 use mathlib.Core.List.{List}
-use Prim.Native.Nat.{ℕ, zero, suc, _+_, _*_, _-_, _<_, _≤_, _^_}
+use Prim.Native.Nat.{ℕ, suc, _+_, _-_, _<_, _≤_}
 use native.Mathlib.Omega.{arith}
-use lib.ListN.{length}
 use borrow.Author.Tests.{eqb-true, eqb-false}
 use Rattle.image.specs.declared.type_code.Layout.the-variants.{VariableSize}
 use Rattle.image.specs.Bytes.{bytesAt}
-use Rattle.image.specs.Record.{codeOf, bufferPlace, bufferLength, bufferCount, elementsOf}
-use Rattle.image.specs.TypeCode.{layoutOf, bufferRule}
-use Rattle.image.specs.Element.{elementWidth, elementPlace, elementAt}
+use Rattle.image.specs.Record.{codeOf, bufferPlace}
+use Rattle.image.specs.TypeCode.{layoutOf}
+use Rattle.image.specs.Element.{elementAt}
 use Rattle.image.specs.Types.{sameBytes}
 use Rattle.image.specs.Row.{variableRow}
 use Rattle.image.specs.Equality.{rowEqual}
-use Rattle.laws.specs.Accepted.{AcceptedImage, OffsetsRise}
 use Rattle.laws.proofs.Alike.{same-width}
 use Rattle.laws.proofs.Codes.{text-offset-width}
 use Rattle.values.specs.Pairs.{all, rangeEqual, sameByte, sameSpan, spanAt}
-use Rattle.values.specs.Parts.{Part, Parts, Spans}
+use Rattle.accepted.specs.Parts.{Part}
+use Rattle.values.specs.Parts.{Parts, Spans}
 use Rattle.values.proofs.Steps.{sameRow, by-rows, by-bytes}
 use Rattle.values.proofs.Blocks.{blocks, all-at, all-weaker, rise-far, equal-spans}
 use Rattle.values.proofs.Names.{other-length}
-use Rattle.values.proofs.Nodes.{part-small, part-offsets}
+use Rattle.accepted.proofs.Texts.{text-rises, text-offsets}
+use Rattle.accepted.proofs.Nodes.{part-small}
 
-module _ (s : List ℕ) (k i n : ℕ) (r : Part s k i n) (text : layoutOf (codeOf s k) ≡ VariableSize) where
-  pub text-narrow : elementWidth s k ≤ 8
-  text-narrow = r .image .node k (r .node) .widths .variable-size text
-
-  pub text-rises : OffsetsRise s k (bufferLength s k 1)
-  text-rises = r .image .node k (r .node) .places .variable-size text
-
-  two-buffers : bufferCount s k ≡ 2
-  two-buffers = r .image .node k (r .node) .buffers .exactly 2 (rw text)
-
-  pub text-offsets : elementPlace s k i + (n + 1) * elementWidth s k ≤ length s
-  text-offsets = part-offsets r (omega (arith, two-buffers)) (r .image .node k (r .node) .enough .variable-size text)
-
-  -- the text from the offset at i up to that at i + n lies inside
-  pub text-inside : bufferPlace s k 1 + elementAt s k (i + n) ≤ length s
-  text-inside =
-      let inside : bufferPlace s k 1 + bufferLength s k 1 ≤ length s = r .image .node k (r .node) .buffers .inside 1 (omega (arith, two-buffers)) in
-      let end : elementAt s k (i + n) ≤ bufferLength s k 1 = text-rises .within (i + n) (r .high) in
-      omega arith
-
-  pub text-up : elementAt s k i ≤ elementAt s k (i + n)
-  text-up = rise-far (elementAt s k) i n (λ h lo hi. text-rises .rise h (omega (arith, r .high)))
+-- offsets rise over the whole part
+pub text-up : (s : List ℕ) (k i n : ℕ) → Part s k i n → layoutOf (codeOf s k) ≡ VariableSize → elementAt s k i ≤ elementAt s k (i + n)
+text-up s k i n r text = rise-far (elementAt s k) i n (λ h lo hi. text-rises s k i n r text .rise h (omega (arith, r .high)))
 
 -- what the comparison of lengths asks for
 pub text-spans : {a b : List ℕ} {k l i j n d : ℕ} → Parts a b k l i j n d → layoutOf (codeOf a k) ≡ VariableSize → Spans a b k l i j n

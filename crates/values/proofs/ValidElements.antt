@@ -1,30 +1,31 @@
 -- Elements of one width under a mask: those whose bit is set are the same, as numbers of w bytes, at most 64 at a time.
 -- Bit k of the number that a mask's bits make is the mask's bit k; where it is 0 both rows are null, and else their bytes
 -- are compared.
-use mathlib.Core.Path.{_≡_, refl, sym, ap, ap₂, _∙_}
+use mathlib.Core.Path.{_≡_, refl, sym, ap₂, _∙_}
 use mathlib.Core.Bool.{Bool, true, false, not, _&&_, _||_}
 use mathlib.Core.List.{List}
-use Prim.Native.Nat.{ℕ, zero, suc, _+_, _*_, _-_, _/_, _%_, _^_, _<_, _≤_}
+use Prim.Native.Nat.{ℕ, suc, _+_, _*_, _-_, _/_, _%_, _^_, _<_, _≤_}
 use native.Mathlib.Omega.{arith}
 use native.Mathlib.Nat.{zero-add, add-mul, suc-mul, mul-le-mul-right}
 use lib.ListN.{length}
 use lib.Dec.{eqb}
 use Rattle.image.specs.declared.type_code.Layout.the-variants.{FixedWidth}
-use Rattle.image.specs.Bytes.{byteAt, bitAt}
+use Rattle.image.specs.Bytes.{byteAt}
 use Rattle.image.specs.Record.{codeOf, offsetOf, hasBitmap, bitmapPlace, firstBit, bufferPlace}
 use Rattle.image.specs.TypeCode.{layoutOf}
 use Rattle.image.specs.Element.{valid, elementWidth, elementPlace}
 use Rattle.image.specs.Row.{masked, fixedRow}
 use Rattle.image.specs.Equality.{rowEqual}
-use Rattle.image.proofs.Bools.{or-none}
 use Rattle.values.specs.declared.primitive.Columns.{Columns}
 use Rattle.values.specs.Bits.{bitsAt}
 use Rattle.values.specs.Pairs.{all, rangeEqual, sameByte, bitOf, validSame, maskedRow}
-use Rattle.values.specs.Parts.{Side, Masked, Elements, ColumnsAt}
+use Rattle.accepted.specs.Parts.{Side, Elements}
+use Rattle.values.specs.Parts.{Masked, ColumnsAt}
 use Rattle.values.proofs.Steps.{sameRow, by-rows, all-snoc, all-moved, and-true, passed-tail, front-fails}
 use Rattle.values.proofs.WordBits.{bit-of-bits}
 use Rattle.values.proofs.MaskedRows.{mask-at}
-use Rattle.values.proofs.Fixed.{spanned, masked-fixed, row}
+use Rattle.accepted.proofs.Fixed.{spanned}
+use Rattle.values.proofs.Fixed.{masked-fixed, row}
 use Rattle.values.proofs.LeafRows.{fixed-first}
 
 -- the first v bytes and the last v, where that is all of them

@@ -1,66 +1,28 @@
--- The views of rows that are not null lie inside the image, and so do their bytes; two of them compared, and as rows.
--- Row i of a node reads element offset + i, of 16 bytes; acceptance gives the rest.
+-- Two views compared, and rows of views.
+-- Row i of a node reads element offset + i, of 16 bytes; acceptance gives where its bytes stand.
 use mathlib.Core.Path.{_≡_, refl, sym, ap, _∙_}
 use mathlib.Core.Bool.{Bool, true, false}
 use mathlib.Core.List.{List}
 use Prim.Native.Nat.{ℕ, _+_, _*_, _<_, _≤_, _^_}
 use native.Mathlib.Omega.{arith}
-use native.Mathlib.Nat.{add-zero}
-use lib.ListN.{length}
-use borrow.Author.Tests.{le-leb, lt-leb}
 use Rattle.image.specs.declared.type_code.Layout.the-variants.{View}
 use Rattle.image.specs.Bytes.{numberAt, bytesAt}
-use Rattle.image.specs.Record.{codeOf, offsetOf, elementsOf, firstBuffer, bufferPlace, bufferLength, bufferCount, entryPlace, tablesEnd}
+use Rattle.image.specs.Record.{codeOf, offsetOf, bufferPlace}
 use Rattle.image.specs.TypeCode.{layoutOf}
-use Rattle.image.specs.Element.{valid, elementPlace, viewLength, viewBuffer, viewOffset, viewData}
+use Rattle.image.specs.Element.{valid, elementPlace, viewLength, viewData}
 use Rattle.image.specs.Reads.{Read}
 use Rattle.image.specs.Types.{sameBytes}
 use Rattle.image.specs.Row.{viewRow}
 use Rattle.image.specs.Equality.{rowEqual}
-use Rattle.laws.specs.Accepted.{ViewInside}
 use Rattle.values.specs.Pairs.{sameByte, maskedRow}
-use Rattle.values.specs.Parts.{Side, Part, Masked, Viewed, Shown}
+use Rattle.accepted.specs.Parts.{Side, Part, Viewed, Shown}
+use Rattle.values.specs.Parts.{Masked}
+use Rattle.accepted.proofs.Views.{shown-short, viewed, view-place}
 use Rattle.values.proofs.Steps.{front-passes, by-bytes, sameRow, row-test}
 use Rattle.values.proofs.Names.{other-length}
-use Rattle.values.proofs.Fixed.{side-small}
-use Rattle.values.proofs.Nodes.{part-node, part-row, side-part}
+use Rattle.accepted.proofs.Nodes.{side-small}
+use Rattle.accepted.proofs.Nodes.{side-part}
 use Rattle.values.proofs.MaskedRows.{masked-row, mask-at, full-row}
-
--- the bytes of a short view stand in it
-pub shown-short : (s : List ℕ) (k v len : ℕ) → Viewed s k v len → len ≤ 12 → Shown s k v len (v + 4)
-unfolding viewData
-shown-short s k v len r le =
-    let fits : v + 16 ≤ length s = r .fits in
-    record { place = rw (← r .size, le-leb len 12 le); inside = omega arith }
-
--- those of a long one in a data buffer; the entries of the node's buffers start at e
-module _ {s : List ℕ} {k v len : ℕ} (r : Viewed s k v len) (long : 12 < len) {e b : ℕ} (ee : e ≡ entryPlace s (firstBuffer s k)) (eb : b ≡ numberAt 4 s (v + 8)) where
-  data-buffer : 1 + b < bufferCount s k
-  unfolding viewBuffer
-  data-buffer = rw eb (r .view .buffer (rw (← r .size) long))
-
-  pub entry-inside : e + (1 + b) * 8 + 4 ≤ length s
-  unfolding tablesEnd entryPlace
-  entry-inside = omega (arith, ee, data-buffer, r .image .tables, r .image .node k (r .node) .buffers .ends)
-
-  pub entry-small : e + (1 + b) * 8 < 2 ^ 64
-  entry-small = omega (arith, entry-inside, r .image .size)
-
-  entry : entryPlace s (firstBuffer s k + (1 + b)) ≡ e + (1 + b) * 8
-  unfolding entryPlace
-  entry = omega (arith, ee)
-
-  pub shown-long : {p o : ℕ} → p ≡ numberAt 4 s (e + (1 + b) * 8) → o ≡ numberAt 4 s (v + 12) → Shown s k v len (p + o)
-  unfolding viewData viewBuffer viewOffset bufferPlace
-  shown-long {p} {o} ep eo =
-      let place : p ≡ bufferPlace s k (1 + b) = rw entry ep in
-      let stored : o + len ≤ bufferLength s k (1 + b) = rw (eo, eb, r .size) (r .view .inside (rw (← r .size) long)) in
-      let buffer : bufferPlace s k (1 + b) + bufferLength s k (1 + b) ≤ length s = r .image .node k (r .node) .buffers .inside (1 + b) data-buffer in
-      record { place = rw (← r .size, lt-leb len 12 long, place, eo, eb); inside = omega arith }
-
--- where the entries start, as it is read
-pub entries-read : (s : List ℕ) (k bits : ℕ) {e : ℕ} → Read (entryPlace s (firstBuffer s k + 0)) bits e → e ≡ entryPlace s (firstBuffer s k)
-entries-read s k bits r = r .value ∙ simp add-zero
 
 -- the views at two places are equal: length and bytes
 abbrev pub sameViews : List ℕ → ℕ → ℕ → List ℕ → ℕ → ℕ → Bool
@@ -96,22 +58,6 @@ module _ {a b : List ℕ} {k l v w m o : ℕ} (left : Viewed a k v (viewLength a
   -- where more bytes than they have are the same
   pub short-same : m ≡ o → m ≤ 12 → sameBytes (bytesAt a (v + 4) 12) (bytesAt b (w + 4) 12) ≡ true → true ≡ sameViews a k v b l w
   short-same e le t = short-are e le (sym (front-passes (sameByte a b) (v + 4) (w + 4) m 12 le (by-bytes a b _ _ 12 ∙ t)) ∙ by-bytes a b _ _ m)
-
--- the view of an element, as it is read
-module _ {s : List ℕ} {k j : ℕ} (r : Part s k j 1) (views : layoutOf (codeOf s k) ≡ View) {p : ℕ} (ep : p ≡ bufferPlace s k 0) where
-  pub view-place : p + j * 16 ≡ elementPlace s k j
-  unfolding elementPlace
-  view-place = rw (part-node r .widths .view views, ep)
-
-  pub viewed : {len : ℕ} → len ≡ numberAt 4 s (p + j * 16) → Viewed s k (p + j * 16) len
-  unfolding viewLength
-  viewed el =
-      let node = part-node r in
-      let inside : ViewInside s k (elementPlace s k j) = part-row r (λ x. ViewInside s k (elementPlace s k x)) (node .rows .view views) in
-      let some : 1 ≤ bufferCount s k = node .buffers .at-least 1 (rw views) in
-      let buffer : bufferPlace s k 0 + bufferLength s k 0 ≤ length s = node .buffers .inside 0 (omega arith) in
-      let enough : elementsOf s k * 16 ≤ bufferLength s k 0 = rw (node .widths .view views) at (node .enough .view views) in
-      record { image = r .image; node = r .node; fits = omega (arith, r .high); size = el; view = rw view-place inside }
 
 -- the views of elements i and j of two nodes, neither of them null, stand at v and w
 pub record TwoViews (a b : List ℕ) (k l i j v w : ℕ) : Type 0 where

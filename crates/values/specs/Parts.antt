@@ -1,37 +1,23 @@
 -- What the comparison of ranges asks of its callers.
 use mathlib.Core.Path.{_≡_}
-use mathlib.Core.Bool.{Bool, true, false, _||_}
+use mathlib.Core.Bool.{true, false, _||_}
 use mathlib.Core.List.{List}
 use mathlib.Core.Logic.{_⊎_}
 use Prim.Native.Nat.{ℕ, suc, _+_, _-_, _*_, _≤_, _<_, _^_}
 use lib.ListN.{length}
 use Rattle.image.specs.Bytes.{numberAt}
-use Rattle.image.specs.Record.{nodeCount, codeOf, p1Of, lengthOf, offsetOf, hasBitmap, firstChild, elementsOf, bufferPlace, bitmapPlace, firstBit}
+use Rattle.image.specs.Record.{nodeCount, codeOf, p1Of, lengthOf, offsetOf, hasBitmap, firstChild, bufferPlace, bitmapPlace, firstBit}
 use Rattle.image.specs.declared.type_code.Layout.{Layout}
 use Rattle.image.specs.declared.type_code.Layout.the-variants.{FixedWidth, VariableSize, Runs}
 use Rattle.image.specs.TypeCode.{layoutOf}
-use Rattle.image.specs.Element.{valid, elementWidth, elementPlace, elementAt, viewLength, viewData, runEndWidth, runEndAt, runAt}
-use Rattle.laws.specs.Accepted.{AcceptedImage, ViewInside}
+use Rattle.image.specs.Element.{elementWidth, elementPlace, elementAt, runEndAt, runAt}
+use Rattle.laws.specs.Accepted.{AcceptedImage}
 use Rattle.laws.specs.Alike.{Alike}
 use Rattle.image.specs.Reads.{Read}
+use Rattle.accepted.specs.Parts.{Side, Part, RunPart, Elements}
 use Rattle.values.specs.declared.leaf.Leaves.{Leaves}
 use Rattle.values.specs.declared.primitive.Columns.{Columns}
-use Rattle.values.specs.declared.runs.EndsAt.{EndsAt}
 use Rattle.values.specs.Pairs.{all, sameMask}
-
--- n rows from row i on of a node of an accepted image
-pub record Side (s : List ℕ) (k i n : ℕ) : Type 0 where
-  pub image : AcceptedImage s
-  pub node : k < nodeCount s
-  pub rows : i + n ≤ lengthOf s k
-
--- n elements from element j on of a node of an accepted image, each read by a row that is not null
-pub record Part (s : List ℕ) (k j n : ℕ) : Type 0 where
-  pub image : AcceptedImage s
-  pub node : k < nodeCount s
-  pub low : offsetOf s k ≤ j
-  pub high : j + n ≤ elementsOf s k
-  pub not-null : (i : ℕ) → j ≤ offsetOf s k + i → offsetOf s k + i < j + n → valid s k i ≡ true
 
 -- n rows of each of two nodes that are alike down to the depth
 pub record Sides (a b : List ℕ) (k l i j n depth : ℕ) : Type 0 where
@@ -71,13 +57,6 @@ pub record Above (s : List ℕ) (p w x i n : ℕ) : Type 0 where
   pub inside : p + (i + n) * w ≤ length s
   pub above : (h : ℕ) → i ≤ h → h < i + n → x ≤ numberAt w s (p + h * w)
 
--- an element of a run node of an accepted image
-pub record RunPart (s : List ℕ) (k j : ℕ) : Type 0 where
-  pub image : AcceptedImage s
-  pub node : k < nodeCount s
-  pub runs : layoutOf (codeOf s k) ≡ Runs
-  pub element : j < elementsOf s k
-
 -- m runs from run i on of a run node of an accepted image
 pub record RunRange (s : List ℕ) (k i m : ℕ) : Type 0 where
   pub image : AcceptedImage s
@@ -103,19 +82,6 @@ pub record Together (a b : List ℕ) (k l s t n i j m : ℕ) : Type 0 where
   pub right-last : j + m ≡ runAt b l (t + (n - 1))
   pub ends : (q : ℕ) → q < m → runEndAt a k (i + q) + t ≡ runEndAt b l (j + q) + s
 
--- n elements from element j on of a fixed-width node of an accepted image
-pub record Elements (s : List ℕ) (k j n : ℕ) : Type 0 where
-  pub image : AcceptedImage s
-  pub node : k < nodeCount s
-  pub fixed : layoutOf (codeOf s k) ≡ FixedWidth
-  pub high : j + n ≤ elementsOf s k
-
--- where they stand
-pub record Spanned (s : List ℕ) (k j n at len : ℕ) : Type 0 where
-  pub place : at ≡ elementPlace s k j
-  pub size : len ≡ n * elementWidth s k
-  pub inside : at + len ≤ length s
-
 -- n elements of each of two fixed-width nodes of one width
 pub record Fixed (a b : List ℕ) (k l i j n : ℕ) : Type 0 where
   pub left : Elements a k i n
@@ -130,19 +96,6 @@ pub record ColumnsAt (a b : List ℕ) (k l : ℕ) (r : Columns) : Type 0 where
   pub right : r .right ≡ elementPlace b l (offsetOf b l)
   pub place : Read (bitmapPlace a k) 32 (r .place)
   pub first : Read (firstBit a k) 32 (r .first)
-
--- the view at v of a node of an accepted image, of a row that is not null
-pub record Viewed (s : List ℕ) (k v len : ℕ) : Type 0 where
-  pub image : AcceptedImage s
-  pub node : k < nodeCount s
-  pub fits : v + 16 ≤ length s
-  pub size : len ≡ viewLength s v
-  pub view : ViewInside s k v
-
--- where its bytes stand
-pub record Shown (s : List ℕ) (k v len at : ℕ) : Type 0 where
-  pub place : at ≡ viewData s k v
-  pub inside : at + len ≤ length s
 
 -- a node without a bitmap whose elements have w bytes, and the element of row 0 starts at p
 pub record Leaf (s : List ℕ) (k w p : ℕ) : Type 0 where
@@ -159,10 +112,3 @@ pub record Leafy (a b : List ℕ) (k l : ℕ) (r : Leaves) : Type 0 where
   pub right : r .fixed || r .texts ≡ true → Leaf b l (r .width) (r .right)
   pub left-text : r .texts ≡ true → r .«left_text» ≡ bufferPlace a k 1
   pub right-text : r .texts ≡ true → r .«right_text» ≡ bufferPlace b l 1
-
--- where the ends of a run node's runs start, and how wide they are
-pub record Ends (s : List ℕ) (k : ℕ) (r : EndsAt) : Type 0 where
-  pub width : r .width ≡ runEndWidth s k
-  pub place : r .place ≡ bufferPlace s (firstChild s k) 0 + offsetOf s (firstChild s k) * r .width
-  pub narrow : r .width ≤ 8
-  pub near : r .place < 2 ^ 40

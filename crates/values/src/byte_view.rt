@@ -1,12 +1,12 @@
 // Views. Translated from src/equal/byte_view.rs and src/byte_view.rs of arrow-data 60.1.0 (Apache-2.0).
 use crate::utils::equal_len;
 use crate::utils::octets_equal;
+use accepted::byte_view::long_place;
 use image::bytes::quad;
 use image::element::INLINE_LENGTH;
 use image::element::VIEW_SIZE;
 use image::element::is_kept;
 use image::element::mask_of;
-use image::record::ENTRY_SIZE;
 use image::record::buffer_place;
 use image::record::node_entry;
 use image::record::offset;
@@ -20,29 +20,8 @@ ghost use Rattle.image.specs.Element.{viewLength, viewData};
 ghost use Rattle.image.specs.Types.{sameBytes};
 ghost use Rattle.image.specs.Row.{viewRow};
 ghost use Rattle.values.specs.Pairs.{rangeEqual, maskedRow};
-ghost use Rattle.values.specs.Parts.{Parts, Masked, Viewed, Shown};
-
-// Where the bytes of a longer view stand, in one of the node's data buffers; `entries` is where the entries of the node's
-// buffers start.
-fn long_place(s: &[u8], node: u32, entries: usize, view: usize, len: usize) -> usize
-    requires { ⌜ Viewed (now s) node view len ⌝ }
-    requires { ⌜ (12 < len) × (entries ≡ entryPlace (now s) (firstBuffer (now s) node)) ⌝ }
-    ensures { λ r. ⌜ Shown (now (s .entry)) node view len r ⌝ }
-{
-    let buffer = 1 + quad(s, view + 8);
-    quad(s, entries + buffer * ENTRY_SIZE) + quad(s, view + 12)
-}
-
-// Where the bytes of the view at a place stand: in the view, or in one of the node's data buffers.
-pub fn data_place(s: &[u8], node: u32, view: usize, len: usize) -> usize
-    requires { ⌜ Viewed (now s) node view len ⌝ }
-    ensures { λ r. ⌜ Shown (now (s .entry)) node view len r ⌝ }
-{
-    if len <= INLINE_LENGTH {
-        return view + 4;
-    }
-    long_place(s, node, node_entry(s, node, 0), view, len)
-}
+ghost use Rattle.values.specs.Parts.{Parts, Masked};
+ghost use Rattle.accepted.specs.Parts.{Viewed};
 
 // The views at two places are equal: length and bytes. Bytes past the length of a short view are zeros, so that twelve of
 // them can be compared at once; where these differ, those that count decide.

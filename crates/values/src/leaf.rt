@@ -16,7 +16,8 @@ ghost use Rattle.image.specs.Element.{elementWidth, elementPlace};
 ghost use Rattle.image.specs.Record.{offsetOf};
 ghost use Rattle.image.specs.Row.{rowAt};
 ghost use Rattle.values.specs.Pairs.{rangeEqual};
-ghost use Rattle.values.specs.Parts.{Side, Sides, Leafy};
+ghost use Rattle.accepted.specs.Parts.{Side};
+ghost use Rattle.values.specs.Parts.{Sides, Leafy};
 
 // Where the elements of row 0 of two nodes stand, and the texts' bytes. Nodes of other layouts, or with bitmaps, are
 // neither fixed nor texts.

@@ -21,7 +21,8 @@ ghost use Rattle.image.specs.Record.{codeOf, offsetOf, hasBitmap};
 ghost use Rattle.image.specs.TypeCode.{layoutOf};
 ghost use Rattle.image.specs.Row.{fixedRow};
 ghost use Rattle.values.specs.Pairs.{all, sameByte, validSame, rangeEqual, maskedRow};
-ghost use Rattle.values.specs.Parts.{Parts, Masked, Elements, Spanned, Fixed, ColumnsAt};
+ghost use Rattle.values.specs.Parts.{Parts, Masked, Fixed, ColumnsAt};
+ghost use Rattle.accepted.specs.Parts.{Elements, Spanned};
 
 // Rows with nulls are compared so many at a time, as one block of bytes, and where the blocks differ so many as a word of
 // the null mask has bits.

@@ -6,7 +6,7 @@ use native.Mathlib.Omega.{arith}
 use borrow.Author.Tests.{not-true, not-false}
 use borrow.Author.Needs.{needs}
 use Rattle.image.specs.Row.{dictionaryRow, rowAt}
-use Rattle.values.proofs.Nodes.{element-read, part-small, part-nth}
+use Rattle.accepted.proofs.Nodes.{element-read, part-small, part-nth}
 use Rattle.equal.proofs.Child.{widths-same}
 use Rattle.equal.proofs.Rows.{RowsLeft, rows-none, rows-more, rows-fail, rows-done}
 use Rattle.equal.proofs.Dictionaries.{key-narrow, key-nodes, key-requires, key-answer}

@@ -10,7 +10,7 @@ use Rattle.image.specs.declared.type_code.Layout.the-variants.{FixedWidth, View
 use Rattle.image.specs.Row.{fixedRow, viewRow, rowAt}
 use Rattle.image.proofs.CodeTable.{at-layouts}
 use Rattle.equal.proofs.Rows.{RowsLeft, rows-none, rows-done}
-use Rattle.values.proofs.Nodes.{layout-is}
+use Rattle.accepted.proofs.Nodes.{layout-is}
 use Rattle.equal.proofs.Nulls.{sides-left, sides-right, null-more, valid-requires, valid-more, valid-fail, masked-requires, masked-answer}
 use Rattle.equal.proofs.+dictionary-equal+dictionary-long_equal+equal_range+equal_row+equal_valid+equal_values+fixed_list-equal+list-equal+list_view-equal+run-equal+structure-equal+union-equal_dense+union-equal_sparse.Proof.Measures.{equal-valid-at, equal-values-below}
 use Rattle.equal.proofs.equal_valid.Reads as equal-valid

@@ -7,7 +7,7 @@ use Prim.Native.Nat.{ℕ}
 use borrow.Author.Needs.{needs}
 use Rattle.image.specs.declared.type_code.Layout.the-variants.{Null, Boolean, FixedWidth, VariableSize, View, List as Lists, ListView, FixedList, Struct, DenseUnion, SparseUnion, Dictionary, Runs}
 use Rattle.image.proofs.CodeTable.{at-layouts}
-use Rattle.values.proofs.Nodes.{layout-is}
+use Rattle.accepted.proofs.Nodes.{layout-is}
 use Rattle.equal.proofs.Values.{parts-shallow, by-layout, null-values}
 use Rattle.equal.proofs.+dictionary-equal+dictionary-long_equal+equal_range+equal_row+equal_valid+equal_values+fixed_list-equal+list-equal+list_view-equal+run-equal+structure-equal+union-equal_dense+union-equal_sparse.Proof.Measures.{equal-values-at, dictionary·equal-below, fixed-list·equal-below, list-view·equal-below, list·equal-below, run·equal-below, structure·equal-below, union·equal-dense-below, union·equal-sparse-below}
 use Rattle.equal.proofs.dictionary.equal.Reads as dictionary·equal

@@ -5,7 +5,7 @@ use Prim.Native.Nat.{ℕ}
 use native.Mathlib.Omega.{arith}
 use borrow.Author.Tests.{not-true, not-false}
 use borrow.Author.Needs.{needs}
-use Rattle.values.proofs.Nodes.{part-small}
+use Rattle.accepted.proofs.Nodes.{part-small}
 use Rattle.equal.proofs.Lists.{spans-differ, list-spans, list-narrow-left, list-narrow-right, list-order, list-requires, list-answer}
 use Rattle.equal.proofs.+dictionary-equal+dictionary-long_equal+equal_range+equal_row+equal_valid+equal_values+fixed_list-equal+list-equal+list_view-equal+run-equal+structure-equal+union-equal_dense+union-equal_sparse.Proof.Measures.{list·equal-at, equal-range-below}
 use Rattle.equal.proofs.equal_range.Reads as equal-range

@@ -10,8 +10,8 @@ use borrow.Author.Needs.{needs}
 use Rattle.image.specs.Row.{runRow, rowAt}
 use Rattle.equal.proofs.Runs.{Stepping, stepping-start, run-nodes, run-small, run-above, step-requires, step-fail, step-some, step-within, step-again, run-parts, together-requires, together-answer}
 use Rattle.equal.proofs.Child.{layout-right}
-use Rattle.values.proofs.Nodes.{part-small}
-use Rattle.values.proofs.RunEnds.{run-first}
+use Rattle.accepted.proofs.Nodes.{part-small}
+use Rattle.accepted.proofs.RunEnds.{run-first}
 use Rattle.equal.proofs.Rows.{RowsLeft, rows-none, rows-done}
 use Rattle.equal.proofs.+dictionary-equal+dictionary-long_equal+equal_range+equal_row+equal_valid+equal_values+fixed_list-equal+list-equal+list_view-equal+run-equal+structure-equal+union-equal_dense+union-equal_sparse.Proof.Measures.{run·equal-at, equal-range-below, equal-row-below}
 use Rattle.equal.proofs.equal_range.Reads as equal-range
@@ -20,9 +20,9 @@ use Rattle.equal.proofs.run.equal.Reads as run·equal
 use Rattle.equal.proofs.run.least.Reads as least-reads
 use Rattle.image.proofs.record.first_child.Reads as first-child-reads
 use Rattle.values.proofs.leaf.leaves_of.Reads as leaves-of-reads
-use Rattle.values.proofs.runs.ends_of.Reads as ends-of-reads
-use Rattle.values.proofs.runs.run_end.Reads as run-end-reads
-use Rattle.values.proofs.runs.run_of.Reads as run-of-reads
+use Rattle.image.proofs.element.ends_of.Reads as ends-of-reads
+use Rattle.image.proofs.element.run_end.Reads as run-end-reads
+use Rattle.accepted.proofs.runs.run_of.Reads as run-of-reads
 use Rattle.values.proofs.runs.same_runs.Reads as same-runs-reads
 use Rattle.equal.proofs.+dictionary-equal+dictionary-long_equal+equal_range+equal_row+equal_valid+equal_values+fixed_list-equal+list-equal+list_view-equal+run-equal+structure-equal+union-equal_dense+union-equal_sparse.Lts-run-equal as lts
 

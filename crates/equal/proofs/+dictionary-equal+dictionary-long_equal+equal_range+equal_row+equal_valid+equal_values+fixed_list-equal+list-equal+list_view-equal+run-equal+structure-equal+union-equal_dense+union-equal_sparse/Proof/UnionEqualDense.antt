@@ -6,7 +6,7 @@ use native.Mathlib.Omega.{arith}
 use borrow.Author.Tests.{not-true, not-false}
 use borrow.Author.Needs.{needs}
 use Rattle.image.specs.Row.{denseRow, rowAt}
-use Rattle.values.proofs.Nodes.{id-read, dense-offset-read, part-small, part-nth}
+use Rattle.accepted.proofs.Nodes.{id-read, dense-offset-read, part-small, part-nth}
 use Rattle.equal.proofs.Rows.{RowsLeft, rows-none, rows-more, rows-fail, rows-done}
 use Rattle.equal.proofs.Unions.{dense-differs, dense-low, dense-requires, dense-answer}
 use Rattle.equal.proofs.+dictionary-equal+dictionary-long_equal+equal_range+equal_row+equal_valid+equal_values+fixed_list-equal+list-equal+list_view-equal+run-equal+structure-equal+union-equal_dense+union-equal_sparse.Proof.Measures.{union·equal-dense-at, equal-range-below}

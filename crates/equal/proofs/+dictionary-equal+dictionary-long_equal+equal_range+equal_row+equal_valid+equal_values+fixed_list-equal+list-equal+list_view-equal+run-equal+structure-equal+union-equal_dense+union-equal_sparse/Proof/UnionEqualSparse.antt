@@ -5,7 +5,7 @@ use mathlib.Core.Path.{sym, _∙_}
 use Prim.Native.Nat.{ℕ, _-_}
 use borrow.Author.Tests.{not-true, not-false}
 use Rattle.image.specs.Row.{sparseRow, rowAt}
-use Rattle.values.proofs.Nodes.{id-read, part-small}
+use Rattle.accepted.proofs.Nodes.{id-read, part-small}
 use Rattle.equal.proofs.Rows.{RowsLeft, rows-none, rows-more, rows-fail, rows-done}
 use Rattle.equal.proofs.Unions.{sparse-differs, sparse-low, sparse-requires, sparse-answer, sparse-inside, whole-children}
 use mathlib.Core.Logic.{inr}

@@ -2,8 +2,8 @@
 -- The id of a row names a child.
 use native.Mathlib.Omega.{arith}
 use borrow.Author.Needs.{needs}
-use Rattle.values.proofs.Nodes.{dense-offset-read, part-small}
-use Rattle.values.proofs.ChildRows.{dense-known}
+use Rattle.accepted.proofs.Nodes.{dense-offset-read, part-small}
+use Rattle.accepted.proofs.ChildRows.{dense-known}
 use Rattle.rows.proofs.value.dense_value.Statement.{statement}
 use Rattle.rows.proofs.value.dense_value.Tie as tie
 

@@ -2,7 +2,7 @@
 -- The key that is read is the element's.
 use native.Mathlib.Omega.{arith}
 use borrow.Author.Needs.{needs}
-use Rattle.values.proofs.Nodes.{part-node, part-small}
+use Rattle.accepted.proofs.Nodes.{part-node, part-small}
 use Rattle.rows.proofs.value.dictionary_value.Statement.{statement}
 use Rattle.rows.proofs.value.dictionary_value.Tie as tie
 

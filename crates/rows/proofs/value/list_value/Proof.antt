@@ -3,7 +3,7 @@
 use native.Mathlib.Numerals.{add-one}
 use native.Mathlib.Omega.{arith}
 use borrow.Author.Needs.{needs}
-use Rattle.values.proofs.Nodes.{part-node, part-small}
+use Rattle.accepted.proofs.Nodes.{part-node, part-small}
 use Rattle.rows.proofs.ValuePlaces.{list-rises}
 use Rattle.rows.proofs.value.list_value.Statement.{statement}
 use Rattle.rows.proofs.value.list_value.Tie as tie

@@ -2,7 +2,7 @@
 -- An offset and its size stay within the child.
 use native.Mathlib.Omega.{arith}
 use borrow.Author.Needs.{needs}
-use Rattle.values.proofs.Nodes.{size-read, part-node, part-small}
+use Rattle.accepted.proofs.Nodes.{size-read, part-node, part-small}
 use Rattle.rows.proofs.value.list_view_value.Statement.{statement}
 use Rattle.rows.proofs.value.list_view_value.Tie as tie
 

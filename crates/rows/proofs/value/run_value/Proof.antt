@@ -2,7 +2,7 @@
 -- Every element lies in a run.
 use native.Mathlib.Omega.{arith}
 use borrow.Author.Needs.{needs}
-use Rattle.values.proofs.RunEnds.{run-first}
+use Rattle.accepted.proofs.RunEnds.{run-first}
 use Rattle.rows.proofs.value.run_value.Statement.{statement}
 use Rattle.rows.proofs.value.run_value.Tie as tie
 

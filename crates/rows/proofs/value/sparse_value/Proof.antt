@@ -1,6 +1,6 @@
 -- `sparse_value` gives the id and the row of the child that it names, at the same place.
 -- The id of a row names a child.
-use Rattle.values.proofs.ChildRows.{sparse-known}
+use Rattle.accepted.proofs.ChildRows.{sparse-known}
 use Rattle.rows.proofs.value.sparse_value.Statement.{statement}
 use Rattle.rows.proofs.value.sparse_value.Tie as tie
 

@@ -3,7 +3,7 @@
 use native.Mathlib.Omega.{arith}
 use borrow.Author.Needs.{needs}
 use borrow.Author.Tests.{lt-ltb}
-use Rattle.values.proofs.Nodes.{id-read, part-small}
+use Rattle.accepted.proofs.Nodes.{id-read, part-small}
 use Rattle.rows.proofs.value.union_value.Statement.{statement}
 use Rattle.rows.proofs.value.union_value.Tie as tie
 

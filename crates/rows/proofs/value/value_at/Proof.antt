@@ -2,7 +2,7 @@
 -- Each arm is at one layout, whose function gives its value.
 use borrow.Author.Needs.{needs}
 use mathlib.Core.Path.{sym}
-use Rattle.values.proofs.Nodes.{layout-is}
+use Rattle.accepted.proofs.Nodes.{layout-is}
 use Rattle.rows.proofs.value.value_at.Statement.{statement}
 use Rattle.rows.proofs.value.value_at.Tie as tie
 

@@ -3,8 +3,9 @@
 use native.Mathlib.Numerals.{add-one}
 use native.Mathlib.Omega.{arith}
 use borrow.Author.Needs.{needs}
-use Rattle.values.proofs.Nodes.{part-small}
-use Rattle.values.proofs.Texts.{text-narrow, text-up, text-inside}
+use Rattle.accepted.proofs.Nodes.{part-small}
+use Rattle.accepted.proofs.Texts.{text-narrow, text-inside}
+use Rattle.rows.proofs.ValuePlaces.{text-up}
 use Rattle.rows.proofs.value.variable_value.Statement.{statement}
 use Rattle.rows.proofs.value.variable_value.Tie as tie
 
@@ -18,13 +19,13 @@ offset-at-requires-2 : tie.Need-offset-at-requires-2
 offset-at-requires-2 c κs = (text-narrow _ _ _ _ (c .before .before .pre .0) (c .before .before .pre .1), omega (arith, part-small (c .before .before .pre .0)))
 
 sub-size : tie.Need-sub-size
-sub-size c = omega (arith, text-up _ _ _ _ (c .before .before .before .pre .0) (c .before .before .before .pre .1))
+sub-size c = omega (arith, text-up (c .before .before .before .pre .0) (c .before .before .before .pre .1), rw add-one at (c .offset-at2 .ensures))
 
 buffer-place-requires : tie.Need-buffer-place-requires
 buffer-place-requires c κs = search needs
 
 add-leaf : tie.Need-add-leaf
-add-leaf c = omega (arith, text-up _ _ _ _ (c .before .before .before .before .pre .0) (c .before .before .before .before .pre .1), text-inside _ _ _ _ (c .before .before .before .before .pre .0) (c .before .before .before .before .pre .1), c .before .before .before .before .pre .0 .image .size)
+add-leaf c = omega (arith, text-up (c .before .before .before .before .pre .0) (c .before .before .before .before .pre .1), rw add-one at (c .before .offset-at2 .ensures), text-inside _ _ _ _ (c .before .before .before .before .pre .0) (c .before .before .before .before .pre .1), c .before .before .before .before .pre .0 .image .size)
 
 leaf-requires : tie.Need-leaf-requires
 leaf-requires c κs = search needs

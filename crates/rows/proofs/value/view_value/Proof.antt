@@ -3,8 +3,8 @@
 use native.Mathlib.Omega.{arith}
 use borrow.Author.Needs.{needs}
 use Rattle.image.specs.Element.{viewLength}
-use Rattle.values.proofs.Nodes.{part-small}
-use Rattle.values.proofs.Views.{viewed, view-place}
+use Rattle.accepted.proofs.Nodes.{part-small}
+use Rattle.accepted.proofs.Views.{viewed, view-place}
 use Rattle.rows.proofs.value.view_value.Statement.{statement}
 use Rattle.rows.proofs.value.view_value.Tie as tie
 

@@ -67,7 +67,7 @@ returns-2 : tie.Need-returns-2
 returns-2 c = rw (← c .before .before .before .before .code .ensures .value, ← c .before .before .before .layout .ensures) (c .list-views-not-whole .ensures ∙ views _ _ (c .before .before .before .layout .result) (c .before .before .match .keys2))
 
 returns-3 : tie.Need-returns-3
-returns-3 c = rw (← c .before .before .before .before .before .code .ensures .value, ← c .before .before .before .before .layout .ensures) (c .is-ragged2 .ensures ∙ rw (c .before .buffer-length2 .ensures .value) (offsets _ _ (c .before .before .before .before .layout .result) (c .before .before .before .match .keys3)))
+returns-3 c = rw (← c .before .before .before .before .before .code .ensures .value, ← c .before .before .before .before .layout .ensures) (c .is-not-whole2 .ensures ∙ rw (c .before .buffer-length2 .ensures .value) (offsets _ _ (c .before .before .before .before .layout .result) (c .before .before .before .match .keys3)))
 
 returns-4 : tie.Need-returns-4
 returns-4 c = rw (← c .before .before .code .ensures .value, ← c .before .layout .ensures) (none _ _ (c .before .layout .result) (c .match .keys4))

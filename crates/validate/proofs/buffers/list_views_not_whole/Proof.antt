@@ -23,7 +23,7 @@ is-not-whole-requires-2 : tie.Need-is-not-whole-requires-2
 is-not-whole-requires-2 c κs = search needs
 
 returns-2 : tie.Need-returns-2
-returns-2 c = rw (← c .before .before .before .before .before .element-width .ensures, ← c .before .before .before .before .buffer-length .ensures .value, ← c .before .before .before .is-not-whole .ensures, c .before .before .if1 .left, ← c .before .buffer-length2 .ensures .value) (c .is-ragged2 .ensures)
+returns-2 c = rw (← c .before .before .before .before .before .element-width .ensures, ← c .before .before .before .before .buffer-length .ensures .value, ← c .before .before .before .is-not-whole .ensures, c .before .before .if1 .left, ← c .before .buffer-length2 .ensures .value) (c .is-not-whole2 .ensures)
 
 pub list-views-not-whole-spec : {M : Type 1} → statement M
 list-views-not-whole-spec =

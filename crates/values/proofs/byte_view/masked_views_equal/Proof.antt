@@ -9,9 +9,10 @@ use borrow.Author.Tests.{not-true, not-false}
 use Rattle.image.specs.Row.{viewRow}
 use Rattle.values.specs.Pairs.{maskedRow}
 use Rattle.values.proofs.Steps.{Left, left-none, left-more, left-fails, left-done, sameRow, by-rows, row-test}
-use Rattle.values.proofs.Fixed.{side-small}
+use Rattle.accepted.proofs.Nodes.{side-small}
 use Rattle.values.proofs.MaskedRows.{masked-row, null-rows}
-use Rattle.values.proofs.Views.{entries-read, viewPlace, first-view, next-view, view-small, row-views, row-are}
+use Rattle.accepted.proofs.Views.{entries-read}
+use Rattle.values.proofs.Views.{viewPlace, first-view, next-view, view-small, row-views, row-are}
 use Rattle.values.proofs.byte_view.masked_views_equal.Statement.{statement}
 use Rattle.values.proofs.byte_view.masked_views_equal.Tie as tie
 

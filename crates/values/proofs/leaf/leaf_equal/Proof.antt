@@ -1,7 +1,7 @@
 -- `leaf_equal` compares one pair of rows.
 -- A row is its value: the bytes at its place, or the text between its offsets.
 use mathlib.Core.Path.{_∙_}
-use Rattle.values.proofs.Fixed.{side-small}
+use Rattle.accepted.proofs.Nodes.{side-small}
 use Rattle.values.proofs.LeafRows.{fixed-left, fixed-right, fixed-rows, left-nth, right-nth, left-read, right-read, text-differs, text-same}
 use native.Mathlib.Omega.{arith}
 use Rattle.values.proofs.leaf.leaf_equal.Statement.{statement}

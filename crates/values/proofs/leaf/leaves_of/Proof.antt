@@ -1,7 +1,7 @@
 -- `leaves_of` reads what is compared of two nodes.
 -- The layout is told by the arm; a place is inside since the image is accepted.
 use mathlib.Core.Path.{refl, sym, _∙_}
-use Rattle.values.proofs.Nodes.{layout-is}
+use Rattle.accepted.proofs.Nodes.{layout-is}
 use Rattle.values.proofs.LeafRows.{fixed-first, text-first, no-leaves, fixed-leaves, text-leaves, other-layout}
 use borrow.Author.Needs.{needs}
 use Rattle.values.proofs.leaf.leaves_of.Statement.{statement}

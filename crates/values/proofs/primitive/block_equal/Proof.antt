@@ -1,6 +1,7 @@
 -- `values::primitive::block_equal` meets its contract.
 -- The definition is rewritten by what the calls ensure and by the tests on the way.
-use Rattle.values.proofs.Fixed.{masked-fixed, side-small}
+use Rattle.values.proofs.Fixed.{masked-fixed}
+use Rattle.accepted.proofs.Nodes.{side-small}
 use mathlib.Core.Path.{_∙_}
 use native.Mathlib.Omega.{arith}
 use borrow.Author.Needs.{needs}

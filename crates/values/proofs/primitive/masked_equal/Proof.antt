@@ -2,7 +2,7 @@
 -- The loop keeps that what is left to look at gives the answer; the measure is how much is left.
 use Rattle.values.proofs.Steps.{Left, left-none, left-jump, jump-fails, left-rest, by-rows, sameRow}
 use Rattle.values.proofs.MaskedRows.{masked-ahead}
-use Rattle.values.proofs.Fixed.{side-small}
+use Rattle.accepted.proofs.Nodes.{side-small}
 use Rattle.image.specs.Row.{fixedRow}
 use Rattle.values.specs.Pairs.{maskedRow}
 use borrow.Author.Tests.{not-true, not-false}

@@ -1,6 +1,6 @@
 -- `values::primitive::span_of` meets its contract.
 -- The definition is rewritten by what the calls ensure and by the tests on the way.
-use Rattle.values.proofs.Fixed.{spanned, spanned-small}
+use Rattle.accepted.proofs.Fixed.{spanned, spanned-small}
 use native.Mathlib.Omega.{arith}
 use borrow.Author.Needs.{needs}
 use Rattle.values.proofs.primitive.span_of.Statement.{statement}

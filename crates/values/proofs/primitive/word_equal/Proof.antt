@@ -1,10 +1,9 @@
 -- `word_equal` compares at most 64 rows.
 -- The bits of the word are those of the rows; the elements lie inside.
 use Rattle.values.proofs.ValidElements.{left-inside, right-inside, word-rows}
-use Rattle.values.proofs.Fixed.{side-small}
+use Rattle.accepted.proofs.Nodes.{side-small}
 use mathlib.Core.Path.{_∙_}
 use native.Mathlib.Omega.{arith}
-use borrow.Author.Needs.{needs}
 use Rattle.values.proofs.primitive.word_equal.Statement.{statement}
 use Rattle.values.proofs.primitive.word_equal.Tie as tie
 

@@ -1,7 +1,8 @@
 -- `values::variable_size::variable_sized_equal` meets its contract.
 -- The definition is rewritten by what the calls ensure and by the tests on the way.
-use Rattle.values.proofs.Nodes.{part-small}
-use Rattle.values.proofs.Texts.{text-spans, text-narrow, text-inside, text-up, texts-differ, texts-block, right-end}
+use Rattle.accepted.proofs.Nodes.{part-small}
+use Rattle.values.proofs.Texts.{text-spans, text-up, texts-differ, texts-block, right-end}
+use Rattle.accepted.proofs.Texts.{text-narrow, text-inside}
 use Rattle.image.specs.TypeCode.{layoutOf}
 use borrow.Author.Tests.{not-true, not-false}
 use mathlib.Core.Path.{sym, ap, _∙_}

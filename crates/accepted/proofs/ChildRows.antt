@@ -10,8 +10,8 @@ use Rattle.image.specs.Record.{codeOf, p1Of, lengthOf, firstChild, childCount, 
 use Rattle.image.specs.TypeCode.{layoutOf}
 use Rattle.image.specs.Element.{elementAt, typeIdAt, denseOffsetAt, childWithId}
 use Rattle.laws.specs.Accepted.{IdKnown}
-use Rattle.values.specs.Parts.{Part}
-use Rattle.values.proofs.Nodes.{length-small, first-child-node, part-node, part-row}
+use Rattle.accepted.specs.Parts.{Part}
+use Rattle.accepted.proofs.Nodes.{length-small, first-child-node, part-node, part-row}
 
 -- the child rows of fixed-size lists
 module _ {s : List ℕ} {k j n : ℕ} (r : Part s k j n) (lists : layoutOf (codeOf s k) ≡ FixedList) where

@@ -1,8 +1,8 @@
 -- The count is held to the rule of the code.
 -- The definition's reads are the results.
 use borrow.Author.Needs.{needs}
-use Rattle.validate.proofs.tree.buffer_count_wrong.Statement.{statement}
-use Rattle.validate.proofs.tree.buffer_count_wrong.Tie as tie
+use Rattle.validate.proofs.tree.count_wrong.Statement.{statement}
+use Rattle.validate.proofs.tree.count_wrong.Tie as tie
 
 code-requires : tie.Need-code-requires
 code-requires c κs = search needs
@@ -22,8 +22,8 @@ allows-requires c κs = search needs
 returns : tie.Need-returns
 returns c = rw (← c .before .before .before .code .ensures .value, ← c .before .before .children .ensures, ← c .before .child-count .ensures .value, ← c .allows .ensures)
 
-pub buffer_count_wrong-spec : {M : Type 1} → statement M
-buffer_count_wrong-spec =
+pub count-wrong-spec : {M : Type 1} → statement M
+count-wrong-spec =
     tie.close
     (tie.spec
     code-requires

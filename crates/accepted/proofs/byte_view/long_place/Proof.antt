@@ -1,10 +1,10 @@
 -- The place is that of a long view's bytes, and they lie inside.
 -- Acceptance says that the entry of its buffer lies inside, and that the buffer holds them.
-use Rattle.values.proofs.Views.{entry-inside, entry-small, shown-long}
+use Rattle.accepted.proofs.Views.{entry-inside, entry-small, shown-long}
 use native.Mathlib.Omega.{arith}
 use borrow.Author.Needs.{needs}
-use Rattle.values.proofs.byte_view.long_place.Statement.{statement}
-use Rattle.values.proofs.byte_view.long_place.Tie as tie
+use Rattle.accepted.proofs.byte_view.long_place.Statement.{statement}
+use Rattle.accepted.proofs.byte_view.long_place.Tie as tie
 
 add-quad : tie.Need-add-quad
 add-quad c = search needs

@@ -1,11 +1,11 @@
 -- `ends_of` finds where the run ends stand.
 -- Each part of the place is what its reader says.
 use mathlib.Core.Path.{refl}
-use Rattle.values.proofs.RunEnds.{ends-small, ends-read}
+use Rattle.image.proofs.RunEnds.{ends-small, ends-read}
 use native.Mathlib.Omega.{arith}
 use borrow.Author.Needs.{needs}
-use Rattle.values.proofs.runs.ends_of.Statement.{statement}
-use Rattle.values.proofs.runs.ends_of.Tie as tie
+use Rattle.image.proofs.element.ends_of.Statement.{statement}
+use Rattle.image.proofs.element.ends_of.Tie as tie
 
 first-child-requires : tie.Need-first-child-requires
 first-child-requires c κs = search needs

@@ -1,9 +1,9 @@
 -- The place is that of the view's bytes, and they lie inside.
 -- A short view holds them itself; of a long one the callee says it.
-use Rattle.values.proofs.Views.{shown-short, entries-read}
+use Rattle.accepted.proofs.Views.{shown-short, entries-read}
 use borrow.Author.Needs.{needs}
-use Rattle.values.proofs.byte_view.data_place.Statement.{statement}
-use Rattle.values.proofs.byte_view.data_place.Tie as tie
+use Rattle.accepted.proofs.byte_view.data_place.Statement.{statement}
+use Rattle.accepted.proofs.byte_view.data_place.Tie as tie
 
 add-result : tie.Need-add-result
 add-result c = search needs

@@ -14,7 +14,7 @@ use Rattle.image.specs.TypeCode.{layoutOf}
 use Rattle.image.specs.Element.{valid, childEnd, elementWidth, elementPlace, elementAt, sizeAt, typeIdAt, denseOffsetAt}
 use Rattle.image.specs.Reads.{Read, Nth}
 use Rattle.laws.specs.Accepted.{AcceptedImage, Node}
-use Rattle.values.specs.Parts.{Side, Part}
+use Rattle.accepted.specs.Parts.{Side, Part}
 
 -- a child is a node
 pub child-node : (s : List ℕ) (k c : ℕ) → AcceptedImage s → k < nodeCount s → c < childCount s k → firstChild s k + c < nodeCount s
@@ -101,3 +101,8 @@ side-part {s} {k} {i} r is = record {
       let e : i ≡ x = omega arith in
       rw e at is;
 }
+
+-- rows of an accepted node are few
+pub side-small : (s : List ℕ) (k i n : ℕ) → Side s k i n → offsetOf s k + i + n ≤ 1073741824
+unfolding elementsOf
+side-small s k i n r = omega (arith, r .rows, r .image .node k (r .node) .buffers .small)

@@ -1,53 +1,22 @@
--- Runs: their ends as they are read, and the run of an element, found by bisection.
+-- The run of an element, found by bisection.
 -- The run ends rise, so an element's run is the first whose end lies above it.
 use mathlib.Core.Path.{_≡_, ap, _∙_}
 use mathlib.Core.Bool.{true, false}
 use mathlib.Core.List.{List}
 use mathlib.Core.Logic.{_⊎_, inl, inr}
-use Prim.Native.Nat.{ℕ, suc, _+_, _*_, _-_, _/_, _<_, _≤_, _^_}
+use Prim.Native.Nat.{ℕ, suc, _+_, _-_, _/_, _<_, _≤_}
 use native.Mathlib.Omega.{arith}
-use native.Mathlib.Nat.{add-mul, mul-le-mul-left, le-refl, le-antisymm, lt-of-not-le, le-of-suc-le-suc, eq-or-lt-of-le}
+use native.Mathlib.Nat.{le-refl, le-antisymm, lt-of-not-le, le-of-suc-le-suc, eq-or-lt-of-le}
 use borrow.Author.Tests.{ltb-false, lt-ltb}
-use Rattle.image.specs.Bytes.{numberAt}
-use Rattle.image.specs.Record.{codeOf, lengthOf, offsetOf, firstChild, childCount, bufferPlace, elementsOf}
-use Rattle.image.specs.TypeCode.{layoutOf, integerWidth}
+use Rattle.image.specs.Record.{codeOf, lengthOf, firstChild, childCount, elementsOf}
+use Rattle.image.specs.TypeCode.{layoutOf}
 use Rattle.image.specs.declared.type_code.Layout.the-variants.{Runs}
-use Rattle.image.specs.Element.{runEndWidth, runEndAt, endsAbove, runAt}
-use Rattle.image.specs.Reads.{Read, Nth}
+use Rattle.image.specs.Element.{runEndAt, endsAbove, runAt}
+use Rattle.image.specs.Reads.{Read}
 use Rattle.image.proofs.Ranges.{first-before, first-at-most}
-use Rattle.image.proofs.Widths.{integer-width}
 use Rattle.laws.specs.Accepted.{RunsCover}
-use Rattle.values.specs.declared.runs.EndsAt.{EndsAt}
-use Rattle.values.specs.Parts.{Part, RunPart, Ends}
-use Rattle.values.proofs.Nodes.{length-small, first-child-node}
-
--- where run ends start, as it is read
-pub ends-small : (c : ℕ) {x y p o w : ℕ} → Read x 32 p → Read y 32 o → w ≡ integerWidth c → p + o * w < 2 ^ 40
-ends-small c {x} {y} {p} {o} {w} ep eo ew =
-    let narrow : w ≤ 8 = rw ew (integer-width c) in
-    let most : o * w ≤ o * 8 = mul-le-mul-left o narrow in
-    omega (arith, ep .small, eo .small)
-
-pub ends-read : (s : List ℕ) (k : ℕ) (v : EndsAt) {e c p o : ℕ} → Read (firstChild s k) 16 e → c ≡ codeOf s e → v .width ≡ integerWidth c → Read (bufferPlace s e 0) 32 p → Read (offsetOf s e) 32 o
-    → v .place ≡ p + o * v .width → Ends s k v
-unfolding runEndWidth
-ends-read s k v {e} {c} ee ec ew ep eo at = record {
-  width = rw (← ee .value, ← ec) ew;
-  place = rw (← ee .value, ← ep .value, ← eo .value) at;
-  narrow = rw ew (integer-width c);
-  near = rw at (ends-small c ep eo ew);
-}
-
--- a run end, as it is read
-pub run-end-nth : {s : List ℕ} {k r : ℕ} {v : EndsAt} → Ends s k v → r < 2 ^ 33 → Nth (v .place) (v .width) r
-run-end-nth f lt = record { near = f .near; narrow = f .narrow; few = omega arith }
-
-pub run-end-read : (s : List ℕ) (k r : ℕ) (v : EndsAt) {bits x : ℕ} → Ends s k v → Read (numberAt (v .width) s (v .place + r * v .width)) bits x → x ≡ runEndAt s k r
-unfolding runEndAt
-run-end-read s k r v f e =
-    let d : (offsetOf s (firstChild s k) + r) * v .width ≡ offsetOf s (firstChild s k) * v .width + r * v .width = add-mul (offsetOf s (firstChild s k)) r (v .width) in
-    let at : bufferPlace s (firstChild s k) 0 + (offsetOf s (firstChild s k) + r) * v .width ≡ v .place + r * v .width = omega (arith, f .place) in
-    e .value ∙ rw (← f .width, at)
+use Rattle.accepted.specs.Parts.{Part, RunPart}
+use Rattle.accepted.proofs.Nodes.{length-small, first-child-node}
 
 -- element j lies below the end of run r, or not
 above : (s : List ℕ) (k j r : ℕ) → j < runEndAt s k r → endsAbove s k j r ≡ true

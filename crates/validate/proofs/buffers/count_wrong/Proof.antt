@@ -1,8 +1,8 @@
--- `buffer_count_wrong` is that the rule does not allow the node's number of buffers.
+-- `count_wrong` is that the rule does not allow the node's number of buffers.
 -- The rule and the number are those of the definition.
 use borrow.Author.Needs.{needs}
-use Rattle.validate.proofs.buffers.buffer_count_wrong.Statement.{statement}
-use Rattle.validate.proofs.buffers.buffer_count_wrong.Tie as tie
+use Rattle.validate.proofs.buffers.count_wrong.Statement.{statement}
+use Rattle.validate.proofs.buffers.count_wrong.Tie as tie
 
 code-requires : tie.Need-code-requires
 code-requires c κs = search needs
@@ -22,8 +22,8 @@ allows-requires c κs = search needs
 returns : tie.Need-returns
 returns c = rw (c .allows .ensures, c .before .before .buffers .ensures, c .before .before .before .code .ensures .value, c .before .buffer-count .ensures .value)
 
-pub buffer_count_wrong-spec : {M : Type 1} → statement M
-buffer_count_wrong-spec =
+pub count-wrong-spec : {M : Type 1} → statement M
+count-wrong-spec =
     tie.close
     (tie.spec
     code-requires

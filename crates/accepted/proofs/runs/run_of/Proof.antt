@@ -1,12 +1,12 @@
 -- `run_of` finds the run of an element.
 -- The loop keeps that the runs below low end at or before the element, and those from high on above it.
 use mathlib.Core.Path.{refl}
-use Rattle.values.proofs.RunEnds.{Bisect, bisect-start, bisect-small, bisect-up, bisect-down, bisect-done}
+use Rattle.accepted.proofs.RunEnds.{Bisect, bisect-start, bisect-small, bisect-up, bisect-down, bisect-done}
 use Prim.Native.Nat.{_-_}
 use native.Mathlib.Omega.{arith}
 use borrow.Author.Needs.{needs}
-use Rattle.values.proofs.runs.run_of.Statement.{statement}
-use Rattle.values.proofs.runs.run_of.Tie as tie
+use Rattle.accepted.proofs.runs.run_of.Statement.{statement}
+use Rattle.accepted.proofs.runs.run_of.Tie as tie
 
 abbrev Inv-loop : tie.InvT-loop
 Inv-loop s node j ends low₀ high₀ low high = Bisect s node j low high

@@ -1,0 +1,27 @@
+// The run of an element of a run-end encoded node. Translated from src/equal/run.rs of arrow-data 60.1.0 (Apache-2.0).
+use image::element::ends_of;
+use image::element::run_end;
+use image::record::first_child;
+use image::record::length;
+ghost use mathlib.Core.Path.{_≡_};
+ghost use Rattle.image.specs.Element.{runAt};
+ghost use Rattle.accepted.specs.Parts.{RunPart};
+
+// The run that holds element j: the first whose end lies above it, found by bisection.
+pub fn run_of(s: &[u8], node: u32, j: usize) -> usize
+    requires { ⌜ RunPart (now s) node j ⌝ }
+    ensures { λ r. ⌜ r ≡ runAt (now (s .entry)) node j ⌝ }
+{
+    let ends = ends_of(s, node);
+    let mut low: usize = 0;
+    let mut high = length(s, first_child(s, node));
+    while low < high {
+        let middle = low + (high - low) / 2;
+        if run_end(s, node, ends, middle) <= j {
+            low = middle + 1;
+        } else {
+            high = middle;
+        }
+    }
+    low
+}
