@@ -1,19 +1,10 @@
-#!/usr/bin/env python3
-"""Writes the program `pairs`: the pairs that document 01 names, as calls on images, and what it must print.
+"""The pairs that document 01 names, as calls on images, and its answers.
 
 Images are laid out from columns as crates/cases/specs/Build.antt lays them out: nodes level by level, and the bytes of
-each node's buffers, bitmap and name after the tables, in that order. The expected answers are document 01's.
-
-    python3 tests/pairs.py            write crates/pairs/src/calls.rt, crates/pairs/src/main.rt and crates/pairs/stdout
-    python3 tests/pairs.py --check    say whether they are as written
+each node's buffers, bitmap and name after the tables, in that order.
 """
 
-import os
-import sys
-
 from image import DEEPEST, by_level, flags, number, tables, tables_size, view
-
-CRATE = os.path.join(os.path.dirname(os.path.abspath(__file__)), "..", "crates", "pairs")
 
 # The type codes that the pairs use.
 INT8, INT16, FLOAT32, UTF8, FIXED_SIZE_BINARY, UTF8_VIEW = 2, 3, 11, 26, 30, 31
@@ -167,47 +158,35 @@ def write(whole, start, count, room):
 
 LONG = b"thirteen long"
 
-# A function's name, its label, document 01's words, the call and the answer.
+# Document 01's words, the call and the answer.
 PAIRS = [
-    ("p1", "P1", "P1 the session's tables: equal.", compare(session(0), session(9)), EQUAL),
+    ("P1 the session's tables: equal.", compare(session(0), session(9)), EQUAL),
     (
-        "p2",
-        "P2",
         "P2 offsets 0,2,4 against 4,6,8, same child rows: equal.",
         compare(list_of([0, 2, 4], [1, 2, 3, 4]), list_of([4, 6, 8], [9, 9, 9, 9, 1, 2, 3, 4])),
         EQUAL,
     ),
     (
-        "p3",
-        "P3",
         "P3 run ends 2,5 of a,b against 1,2,5 of a,a,b: equal.",
         compare(runs_of(5, [2, 5], ["a", "b"]), runs_of(5, [1, 2, 5], ["a", "a", "b"])),
         EQUAL,
     ),
     (
-        "p4",
-        "P4",
         "P4 null key against key to a null value: unequal.",
         compare(dictionary_of([0], bits=[0]), dictionary_of([1])),
         UNEQUAL,
     ),
     (
-        "p5",
-        "P5",
         "P5 Float32 bits 00000000 against 80000000 hexadecimal: unequal.",
         compare(float_of(0x00000000), float_of(0x80000000)),
         UNEQUAL,
     ),
     (
-        "p6_root",
-        "P6-root",
         "P6 root Maps differing in key name: equal.",
         compare(image(map_of("key")), image(map_of("keys"))),
         EQUAL,
     ),
     (
-        "p6_list",
-        "P6-list",
         "P6 inside a List: unequal.",
         compare(
             image(lists(LIST, [0, 1], map_of("key", "item"))),
@@ -216,47 +195,35 @@ PAIRS = [
         UNEQUAL,
     ),
     (
-        "p7_end",
-        "P7-end",
         "P7 start 3 count 0 of 3 rows: equal.",
         compare_range(session(0), session(9), 3, 3, 0),
         EQUAL,
     ),
     (
-        "p7_left",
-        "P7-left",
         "P7 start 4: 21, the left side's.",
         compare_range(session(0), session(9), 4, 3, 0),
         refused(21),
     ),
     (
-        "p7_right",
-        "P7-right",
         "P7 start 4: 21, the right side's.",
         compare_range(session(0), session(9), 3, 4, 0),
         refused(21, side=1),
     ),
-    ("p8_zero", "P8-zero", "P8 FixedSizeBinary width 0: accepted.", check(binary_of(0)), ACCEPTED),
-    ("p8_negative", "P8-negative", "P8 FixedSizeBinary width -1: 11.", check(binary_of(-1)), refused(11)),
+    ("P8 FixedSizeBinary width 0: accepted.", check(binary_of(0)), ACCEPTED),
+    ("P8 FixedSizeBinary width -1: 11.", check(binary_of(-1)), refused(11)),
     (
-        "p9_five",
-        "P9-five",
         "P9 the session's five row bytes into 5: written.",
         write(session(0), 0, 3, 5),
         (0, 0, 0, 5),
     ),
-    ("p9_four", "P9-four", "P9 the session's five row bytes into 4: 43.", write(session(0), 0, 3, 4), refused(43)),
-    ("p10_sixteen", "P10-16", "P10 depth 16 accepted.", check(depth_of(DEEPEST)), ACCEPTED),
+    ("P9 the session's five row bytes into 4: 43.", write(session(0), 0, 3, 4), refused(43)),
+    ("P10 depth 16 accepted.", check(depth_of(DEEPEST)), ACCEPTED),
     (
-        "p10_seventeen",
-        "P10-17",
         "P10 depth 17: 12, of the node of that depth.",
         check(depth_of(DEEPEST + 1)),
         refused(12, node=DEEPEST),
     ),
     (
-        "views",
-        "views",
         "13-byte views in different buffers: equal.",
         compare(
             image(Column(UTF8_VIEW, 1, [view(LONG, 0, 0), LONG])),
@@ -265,100 +232,18 @@ PAIRS = [
         EQUAL,
     ),
     (
-        "sparse",
-        "sparse",
         "Sparse unions that differ only in a child that the row's id does not name: equal.",
         compare(sparse_of([1, 8], [8, 2]), sparse_of([1, 9], [9, 2])),
         EQUAL,
     ),
     (
-        "padding",
-        "padding",
         "View of 5 with a nonzero pad byte: 18.",
         check(image(Column(UTF8_VIEW, 1, [number(4, 5) + b"hello" + bytes([0, 0, 0, 0, 0, 0, 1])]))),
         refused(18),
     ),
     (
-        "large_list_view",
-        "large-list-view",
         "LargeListView offset 9,223,372,036,854,775,807, size 1: 17.",
         check(large_list_view_of(9223372036854775807, 1)),
         refused(17),
     ),
 ]
-
-# What is written.
-
-WIDTH = 22
-
-
-def literal(whole):
-    """The image as a byte string, each part on lines of its own."""
-    lines = [part[at : at + WIDTH] for part in whole for at in range(0, len(part), WIDTH)]
-    return "\\\n        ".join("".join("\\x%02x" % byte for byte in line) for line in lines)
-
-
-def function(name, words, call):
-    callee, images, rest = call
-    lines = ["// " + words, "pub fn %s() -> Reply {" % name]
-    for what, whole in images:
-        lines.append('    let %s = b"%s";' % (what, literal(whole)))
-    if callee == "write":
-        lines.append("    let mut out = [0u8; %d];" % rest[-1])
-        rest = rest[:-1] + ["&mut out"]
-    taken = ", ".join([what for what, _ in images] + [str(value) for value in rest])
-    told = {"check": "of_check", "write": "of_write"}.get(callee, "of_comparison")
-    lines.append("    %s(api::%s(%s))" % (told, callee, taken))
-    lines.append("}")
-    return "\n".join(lines) + "\n"
-
-
-def calls():
-    head = (
-        "// The calls of document 01's pairs, written by tests/pairs.py.\n"
-        "use crate::reply::Reply;\n"
-        "use crate::reply::of_check;\n"
-        "use crate::reply::of_comparison;\n"
-        "use crate::reply::of_write;\n\n"
-    )
-    return head + "\n".join(function(name, words, call) for name, _, words, call, _ in PAIRS)
-
-
-def program():
-    lines = [
-        "// Runs the pairs of document 01 and prints a line for each: its label, and the answer's number, side, node and value.",
-        "// Written by tests/pairs.py.",
-        "mod calls;",
-        "mod reply;",
-        "",
-        "use reply::print;",
-        "",
-        "fn main() {",
-    ]
-    lines += ['    print(b"%s", calls::%s());' % (label, name) for name, label, _, _, _ in PAIRS]
-    lines.append("}")
-    return "\n".join(lines) + "\n"
-
-
-def expected():
-    return "".join("%s %s\n" % (label, " ".join(map(str, answer))) for _, label, _, _, answer in PAIRS)
-
-
-def main():
-    files = {"src/calls.rt": calls(), "src/main.rt": program(), "stdout": expected()}
-    same = True
-    for name, text in files.items():
-        path = os.path.join(CRATE, name)
-        if sys.argv[1:] == ["--check"]:
-            with open(path, encoding="utf-8") as file:
-                if file.read() != text:
-                    print("not as written: crates/pairs/" + name)
-                    same = False
-        else:
-            with open(path, "w", encoding="utf-8") as file:
-                file.write(text)
-    return 0 if same else 1
-
-
-if __name__ == "__main__":
-    sys.exit(main())

@@ -142,7 +142,7 @@ def full_store(script):
 
 def desk(script):
     """The pairs of document 01."""
-    for _, _, _, (call, images, rest), _ in pairs.PAIRS:
+    for _, (call, images, rest), _ in pairs.PAIRS:
         for side, (_, whole) in enumerate(images):
             script.store(side, b"".join(whole))
         if call == "compare":

@@ -1,5 +1,6 @@
 #!/usr/bin/env python3
-"""Writes calls with their answers for the host tests: random images, good and damaged, and what the model says of them.
+"""Writes calls with their answers for the host tests: document 01's pairs with its answers, and random images, good and
+damaged, with what the model says of them.
 
     python3 tests/host/cases.py FILE COUNT SEED [CORPUS]
 
@@ -16,6 +17,7 @@ sys.path.insert(0, os.path.join(os.path.dirname(os.path.abspath(__file__)), ".."
 
 import columns
 import model
+import pairs
 from image import CODES, number
 
 
@@ -35,6 +37,22 @@ def table(rng, seed):
 
 def laid(rng, kind, rows):
     return columns.image(rng, columns.lay(rng, kind, rows))
+
+
+def write_call(image, start, count, room, answer, written):
+    return b"\x02" + sized(image) + number(4, start) + number(4, count) + number(4, room) + packed(answer) + sized(written)
+
+
+def document_calls():
+    """Document 01's pairs. Ranges have no call for C."""
+    for _, (call, images, rest), answer in pairs.PAIRS:
+        lent = [b"".join(parts) for _, parts in images]
+        if call == "check":
+            yield b"\x00" + sized(lent[0]) + packed(answer)
+        elif call == "compare":
+            yield b"\x01" + sized(lent[0]) + sized(lent[1]) + packed(answer)
+        elif call == "write":
+            yield write_call(lent[0], *rest, answer, model.write(lent[0], *rest)[1])
 
 
 def calls(rng, seed):
@@ -59,13 +77,15 @@ def calls(rng, seed):
         _, whole = model.write(image, start, count, 1 << 20)
         for room in {len(whole), max(len(whole) - 1, 0), len(whole) + rng.randint(1, 9)}:
             answer, written = model.write(image, start, count, room)
-            yield b"\x02" + sized(image) + number(4, start) + number(4, count) + number(4, room) + packed(answer) + sized(written)
+            yield write_call(image, start, count, room, answer, written)
 
 
 def main():
     path, count, first = sys.argv[1], int(sys.argv[2]), int(sys.argv[3])
     corpus = sys.argv[4] if len(sys.argv) > 4 else None
     with open(path, "wb") as file:
+        for record in document_calls():
+            file.write(record)
         for seed in range(first, first + count):
             rng = random.Random(seed)
             for record in calls(rng, seed):

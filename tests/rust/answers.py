@@ -39,7 +39,7 @@ SMALL, MAP_SMALL, EACH = 260, 400, 6
 
 def desk():
     """Document 01's pairs. Where it has one image, the image is compared with itself; what is refused is not asked."""
-    for _, _, words, (call, images, numbers), (number, _, _, value) in pairs.PAIRS:
+    for words, (call, images, numbers), (number, _, _, value) in pairs.PAIRS:
         left, right = (b"".join(parts) for _, parts in (images * 2)[:2])
         if number or call == "write":
             yield words + " Not asked.", None, None

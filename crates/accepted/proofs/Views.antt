@@ -14,11 +14,11 @@ use Rattle.image.specs.TypeCode.{layoutOf}
 use Rattle.image.specs.Element.{elementPlace, viewLength, viewBuffer, viewOffset, viewData}
 use Rattle.image.specs.Reads.{Read}
 use Rattle.laws.specs.Accepted.{ViewInside}
-use Rattle.accepted.specs.Parts.{Part, Viewed, Shown}
+use Rattle.accepted.specs.Parts.{Part, Viewed, ViewBytes}
 use Rattle.accepted.proofs.Nodes.{part-node, part-row}
 
 -- the bytes of a short view stand in it
-pub shown-short : (s : List ℕ) (k v len : ℕ) → Viewed s k v len → len ≤ 12 → Shown s k v len (v + 4)
+pub shown-short : (s : List ℕ) (k v len : ℕ) → Viewed s k v len → len ≤ 12 → ViewBytes s k v len (v + 4)
 unfolding viewData
 shown-short s k v len r le =
     let fits : v + 16 ≤ length s = r .fits in
@@ -41,7 +41,7 @@ module _ {s : List ℕ} {k v len : ℕ} (r : Viewed s k v len) (long : 12 < len)
   unfolding entryPlace
   entry = omega (arith, ee)
 
-  pub shown-long : {p o : ℕ} → p ≡ numberAt 4 s (e + (1 + b) * 8) → o ≡ numberAt 4 s (v + 12) → Shown s k v len (p + o)
+  pub shown-long : {p o : ℕ} → p ≡ numberAt 4 s (e + (1 + b) * 8) → o ≡ numberAt 4 s (v + 12) → ViewBytes s k v len (p + o)
   unfolding viewData viewBuffer viewOffset bufferPlace
   shown-long {p} {o} ep eo =
       let place : p ≡ bufferPlace s k (1 + b) = rw entry ep in

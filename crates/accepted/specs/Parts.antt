@@ -47,7 +47,7 @@ pub record Viewed (s : List ℕ) (k v len : ℕ) : Type 0 where
   pub view : ViewInside s k v
 
 -- where its bytes stand
-pub record Shown (s : List ℕ) (k v len at : ℕ) : Type 0 where
+pub record ViewBytes (s : List ℕ) (k v len at : ℕ) : Type 0 where
   pub place : at ≡ viewData s k v
   pub inside : at + len ≤ length s
 

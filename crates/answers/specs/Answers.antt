@@ -1,12 +1,10 @@
 -- What each of the library's calls answers, for all inputs.
-use mathlib.Core.Bool.{Bool, true, false, cond, not}
+use mathlib.Core.Bool.{Bool, true, false, cond}
 use mathlib.Core.List.{List, _++_}
 use Prim.Native.Nat.{ℕ, _+_}
 use lib.ListN.{length, drop}
 use lib.Dec.{ltb}
-use Rattle.image.specs.declared.answer.Side.{Side}
 use Rattle.image.specs.declared.answer.Side.the-variants.{Left, Right}
-use Rattle.image.specs.declared.answer.Fault.{Fault}
 use Rattle.image.specs.declared.answer.Checked.{Checked}
 use Rattle.image.specs.declared.answer.Checked.the-variants.{Accepted, Refused}
 use Rattle.image.specs.Record.{lengthOf}

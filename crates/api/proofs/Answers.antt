@@ -1,6 +1,6 @@
 -- Steps of the answers of the comparisons: what callees gave, put into the definitions.
 -- By rewriting with the callees' equations; the variants that an answer cannot be are impossible.
-use mathlib.Core.Path.{_≡_, refl, sym, _∙_}
+use mathlib.Core.Path.{_≡_, refl, sym}
 use mathlib.Core.Bool.{Bool, true, false, cond, _&&_}
 use mathlib.Core.List.{List}
 use Prim.Native.Nat.{ℕ, _+_, _-_, _≤_, _<_}
@@ -18,9 +18,7 @@ use Rattle.image.specs.Row.{rowAt}
 use Rattle.image.specs.Types.{typesAgree, typesAgreeAt}
 use Rattle.image.specs.Equality.{rangesEqual, tablesEqual}
 use Rattle.image.proofs.Bools.{and-left, and-right}
-use Rattle.answers.specs.declared.Paired.{Paired}
 use Rattle.answers.specs.declared.Paired.the-variants.{Agreed, Refused as PairRefused, UnequalTypes as PairUnequal}
-use Rattle.answers.specs.declared.Bounds.{Bounds}
 use Rattle.answers.specs.declared.Bounds.the-variants.{Within, OutOfRange as BoundsOut}
 use Rattle.answers.specs.declared.Compared.{Compared}
 use Rattle.answers.specs.declared.Compared.the-variants.{No, Refused as CompareRefused}

@@ -8,6 +8,7 @@ use equal::equal_range;
 use image::answer::Checked;
 use image::answer::Side;
 use image::place::Place;
+use image::record::MAX_DEPTH;
 use image::record::length;
 use rows::measure::Room;
 use rows::measure::measure_rows;
@@ -20,9 +21,6 @@ ghost use Rattle.image.specs.Equality.{tablesEqual, rangesEqual};
 ghost use Rattle.image.specs.Faults.{checkImage};
 ghost use Rattle.answers.specs.declared.Paired.the-variants.{Agreed};
 ghost use Rattle.answers.specs.Answers.{compareAnswer, pairedOf, boundsOf, boundedAnswer, compareRangeAnswer, writeAnswer, writeOutput, exceeds, yesOrNo};
-
-// A table's depth is at most so much.
-const DEPTH: usize = 16;
 
 // The image check.
 pub fn check(image: &[u8]) -> Checked
@@ -46,7 +44,7 @@ fn compare_accepted(left: &[u8], right: &[u8]) -> Compared
         return Compared::No;
     }
     let rows = length(left, 0);
-    yes_or_no(equal_range(left, 0, right, 0, 0, 0, rows, DEPTH))
+    yes_or_no(equal_range(left, 0, right, 0, 0, 0, rows, MAX_DEPTH))
 }
 
 // Whether two tables are equal, the left one accepted.
@@ -84,7 +82,7 @@ fn paired(left: &[u8], right: &[u8]) -> Paired
     if let Checked::Refused(fault) = second {
         return Paired::Refused(Side::Right, fault);
     }
-    if !types_equal(left, right, 0, 0, Place::Root, DEPTH) {
+    if !types_equal(left, right, 0, 0, Place::Root, MAX_DEPTH) {
         return Paired::UnequalTypes;
     }
     Paired::Agreed
@@ -142,7 +140,7 @@ fn compare_agreed(
             left_start,
             right_start,
             count,
-            DEPTH,
+            MAX_DEPTH,
         )),
     }
 }
@@ -178,8 +176,8 @@ pub fn write(image: &[u8], start: usize, count: usize, out: &mut [u8]) -> Writte
         return Written::OutOfRange;
     }
     let room = out.len();
-    let Room::Left(rest) = measure_rows(image, 0, start, count, DEPTH, room) else {
+    let Room::Left(rest) = measure_rows(image, 0, start, count, MAX_DEPTH, room) else {
         return Written::TooLong;
     };
-    Written::Bytes(write_rows(image, 0, start, count, DEPTH, out, 0))
+    Written::Bytes(write_rows(image, 0, start, count, MAX_DEPTH, out, 0))
 }

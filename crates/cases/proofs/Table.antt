@@ -1,7 +1,7 @@
 -- Cases P1 to P10 hold: each call of the table has the answer that stands beside it.
 -- One test over the whole table is computed; the test of two lists is their equality, which gives each case.
 use mathlib.Core.Path.{_≡_, refl, sym, subst}
-use mathlib.Core.Bool.{Bool, true, false, _&&_, false≢true}
+use mathlib.Core.Bool.{Bool, true, _&&_, false≢true}
 use mathlib.Core.List.{List, [], _∷_, List·Memᴰ, List·Memᴰ·head, List·Memᴰ·tail}
 use Prim.Native.Nat.{ℕ}
 use lib.Dec.{eqb}

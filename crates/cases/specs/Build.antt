@@ -1,7 +1,7 @@
 -- Images laid out from Arrow columns: a column has a field, what it stores, and children.
 -- Nodes and buffers are numbered depth by depth, and their bytes are placed after the tables, in that order.
 use mathlib.Core.List.{List, [], _∷_, _++_, flatten, flatMap}
-use Prim.Native.Nat.{ℕ, suc, _+_, _*_, _-_, _/_}
+use Prim.Native.Nat.{ℕ, _+_, _*_, _-_, _/_}
 use Prim.Native.Char.{code as codePoint}
 use Prim.Native.String.{String, [] as noText, _∷_ as _then_}
 use lib.ListN.{length}
@@ -68,7 +68,7 @@ ifAny (b ∷ bs) x = x
 unfoldable pub placed : Node → List ℕ
 placed x = flatten (x .stored .buffers) ++ x .stored .bitmap ++ x .field .name
 
--- the 44 bytes of a node's record, from its first child, its first buffer and the place of its bytes
+-- the bytes of a node's record, from its first child, its first buffer and the place of its bytes
 unfoldable pub recordBytes : Node → ℕ → ℕ → ℕ → List ℕ
 recordBytes x child buffer place =
     let bitmapPlace = place + length (flatten (x .stored .buffers)) in

@@ -4,7 +4,7 @@ use mathlib.Core.List.{List, [], _∷_, _++_}
 use Prim.Native.Nat.{ℕ, zero, suc, _-_, _^_}
 use Prim.Native.String.{String}
 use Rattle.cases.specs.Build.{Column, Field, Stored, column, image, field, nullable, stored, numbers, texts, lists, masked}
-use Rattle.cases.specs.Calls.{Call, check, compare, compareRange, write, accepted, equal, unequal, refused, written, tooLong, Case, _answers_}
+use Rattle.cases.specs.Calls.{check, compare, compareRange, write, accepted, equal, unequal, refused, written, tooLong, Case, _answers_}
 
 -- The type codes that the cases use.
 abbrev pub int8 : ℕ

@@ -3,10 +3,9 @@
 use mathlib.Core.Path.{_≡_, refl, ap, _∙_}
 use mathlib.Core.Bool.{Bool, true, false, _&&_}
 use Prim.Native.Nat.{ℕ, zero, suc, _+_, _-_, _<_, _≤_}
-use native.Mathlib.Omega.{arith}
 use Rattle.image.specs.Row.{Row, range}
 use Rattle.image.specs.Equality.{rowEqual, rowsEqual}
-use Rattle.values.specs.Pairs.{all, rangeEqual}
+use Rattle.values.specs.Pairs.{rangeEqual}
 use Rattle.values.proofs.Steps.{Left, left-none, left-more, left-fails, left-done, left-jump, jump-fails, sameRow, by-rows}
 
 -- one row

@@ -3,7 +3,6 @@ use crate::equal_range;
 use image::record::first_child;
 use image::record::p1;
 ghost use mathlib.Core.Path.{_≡_};
-ghost use Prim.Native.Nat.{_+_, _<_, _≤_, _^_};
 ghost use Rattle.image.specs.declared.type_code.Layout.the-variants.{FixedList};
 ghost use Rattle.image.specs.Record.{codeOf};
 ghost use Rattle.image.specs.TypeCode.{layoutOf};

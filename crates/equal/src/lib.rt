@@ -33,7 +33,7 @@ ghost use Rattle.image.specs.Record.{codeOf};
 ghost use Rattle.image.specs.TypeCode.{layoutOf};
 ghost use Rattle.image.specs.Row.{rowAt, valueAt};
 ghost use Rattle.values.specs.Pairs.{all, rangeEqual, sameMask};
-ghost use Rattle.values.specs.Parts.{Sides, Parts, Leafy};
+ghost use Rattle.values.specs.Parts.{Sides, Parts, LeavesAt};
 
 // The elements of two nodes from s and from t on are equal, n of them, none of them null: the rule of their layout.
 fn equal_values(
@@ -119,7 +119,7 @@ fn equal_row(
     depth: usize,
 ) -> bool
     requires { ⌜ Sides (now a) (now b) an bn s t 1 depth ⌝ }
-    requires { ⌜ Leafy (now a) (now b) an bn l ⌝ }
+    requires { ⌜ LeavesAt (now a) (now b) an bn l ⌝ }
     ensures { λ r. ⌜ r ≡ rangeEqual (rowAt depth (now (a .entry)) an) (rowAt depth (now (b .entry)) bn) s t 1 ⌝ }
 {
     if 0 < depth {

@@ -4,7 +4,7 @@ use image::element::offset_at;
 use image::record::first_child;
 use values::lengths::lengths_equal;
 ghost use mathlib.Core.Path.{_≡_};
-ghost use Prim.Native.Nat.{_+_, _<_, _≤_, _^_};
+ghost use Prim.Native.Nat.{_+_};
 ghost use Rattle.image.specs.declared.type_code.Layout.the-variants.{List as Lists};
 ghost use Rattle.image.specs.Record.{codeOf};
 ghost use Rattle.image.specs.TypeCode.{layoutOf};

@@ -5,7 +5,7 @@ use image::element::element_width;
 use image::record::buffer_place;
 use image::record::first_child;
 ghost use mathlib.Core.Path.{_≡_};
-ghost use Prim.Native.Nat.{_+_, _<_, _≤_, _^_};
+ghost use Prim.Native.Nat.{_+_, _<_};
 ghost use Rattle.image.specs.declared.type_code.Layout.the-variants.{ListView};
 ghost use Rattle.image.specs.Record.{codeOf};
 ghost use Rattle.image.specs.TypeCode.{layoutOf};

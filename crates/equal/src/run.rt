@@ -8,7 +8,7 @@ use image::record::first_child;
 use values::leaf::leaves_of;
 use values::runs::same_runs;
 ghost use mathlib.Core.Path.{_≡_};
-ghost use Prim.Native.Nat.{_+_, _<_, _≤_, _^_, min};
+ghost use Prim.Native.Nat.{_+_, _<_, min};
 ghost use Rattle.image.specs.declared.type_code.Layout.the-variants.{Runs};
 ghost use Rattle.image.specs.Record.{codeOf};
 ghost use Rattle.image.specs.TypeCode.{layoutOf};

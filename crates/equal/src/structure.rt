@@ -4,7 +4,7 @@ use image::record::child_count;
 use image::record::first_child;
 ghost use mathlib.Core.Path.{_≡_};
 ghost use mathlib.Core.Logic.{_⊎_};
-ghost use Prim.Native.Nat.{_+_, _<_, _≤_, _^_};
+ghost use Prim.Native.Nat.{_+_, _<_};
 ghost use Rattle.image.specs.declared.type_code.Layout.the-variants.{Struct, SparseUnion};
 ghost use Rattle.image.specs.Record.{codeOf};
 ghost use Rattle.image.specs.TypeCode.{layoutOf};

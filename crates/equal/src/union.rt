@@ -8,7 +8,7 @@ use image::record::buffer_place;
 use image::record::first_child;
 use values::utils::equal_len;
 ghost use mathlib.Core.Path.{_≡_};
-ghost use Prim.Native.Nat.{_+_, _<_, _≤_, _^_};
+ghost use Prim.Native.Nat.{_+_, _<_};
 ghost use Rattle.image.specs.declared.type_code.Layout.the-variants.{DenseUnion, SparseUnion};
 ghost use Rattle.image.specs.Record.{codeOf};
 ghost use Rattle.image.specs.TypeCode.{layoutOf};

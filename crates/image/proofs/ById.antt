@@ -1,11 +1,10 @@
 -- A table of a union's children by their type ids, filled from the last child to the first.
 -- After the children from number k on, an entry is the first of those that has its id: the next child down takes its own.
-use mathlib.Core.Path.{_≡_, refl, sym, ap, _∙_}
+use mathlib.Core.Path.{_≡_, refl, sym, _∙_}
 use mathlib.Core.Bool.{Bool, true, false}
 use mathlib.Core.List.{List}
 use Prim.Native.Nat.{ℕ, suc, _+_, _-_, _<_, _≤_}
 use native.Mathlib.Omega.{arith}
-use native.Mathlib.Nat.{add-zero}
 use lib.Dec.{eqb}
 use lib.ListN.{length, getD, set, replicate, length-set, length-replicate, getD-replicate}
 use lib.Seq.{getD-set-same, getD-set-other}

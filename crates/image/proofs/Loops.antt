@@ -1,8 +1,8 @@
 -- What a loop over a range keeps: a test, a search or a rise over all numbers is that over those from number k on.
 -- One record for tests and searches, one for rises, whose least allowed number changes; a turn takes one number off.
 use mathlib.Core.Path.{_≡_, refl, sym, ap, _∙_}
-use mathlib.Core.Bool.{Bool, true, false, not, cond, _&&_, _||_}
-use Prim.Native.Nat.{ℕ, zero, suc, _+_, _*_, _-_, _<_, _≤_}
+use mathlib.Core.Bool.{Bool, true, false, _&&_, _||_}
+use Prim.Native.Nat.{ℕ, zero, suc, _+_, _-_, _<_, _≤_}
 use native.Mathlib.Omega.{arith}
 use native.Mathlib.Nat.{add-zero, zero-add, sub-zero}
 use native.Mathlib.Numerals.{add-one}

@@ -1,7 +1,7 @@
 -- Laws of little-endian numbers: 0 past the end, a byte more makes the next, four and eight bytes written out, many side by side.
 -- By induction over the width; the bounds by powers of 2 and products.
 use mathlib.Core.Path.{_≡_, refl, sym, ap, _∙_}
-use mathlib.Core.Bool.{Bool, true, false}
+use mathlib.Core.Bool.{false}
 use mathlib.Core.List.{List}
 use mathlib.Core.Logic.{_⊎_, inl, inr}
 use Prim.Native.Nat.{ℕ, zero, suc, _+_, _*_, _-_, _/_, _%_, _<_, _≤_, _^_}
@@ -9,8 +9,8 @@ use native.Mathlib.Omega.{arith}
 use native.Mathlib.Nat.{pow-le-pow-right, zero-div, mul-le-mul, le-refl, suc-mul}
 use lib.Pow.{pow-add}
 use native.Mathlib.Numerals.{add-one, add-two, add-three}
-use lib.Dec.{eqb, lit<, lit≤}
-use lib.ListN.{length, getD, List·getD-eq-default}
+use lib.Dec.{lit<}
+use lib.ListN.{length, List·getD-eq-default}
 use Rattle.image.specs.Bytes.{byteAt, numberAt, bitAt}
 use Rattle.image.specs.Reads.{Read, Packed}
 

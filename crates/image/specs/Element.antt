@@ -2,11 +2,11 @@
 -- element offset + i").
 use mathlib.Core.Bool.{Bool, cond, not, _||_}
 use mathlib.Core.List.{List}
-use Prim.Native.Nat.{ℕ, suc, _+_, _*_}
+use Prim.Native.Nat.{ℕ, _+_, _*_}
 use lib.Dec.{eqb, leb, ltb}
 use Rattle.image.specs.Ranges.{first}
 use Rattle.image.specs.Bytes.{byteAt, numberAt, bitAt}
-use Rattle.image.specs.Record.{codeOf, idOf, p1Of, offsetOf, hasBitmap, bitmapPlace, firstBit, firstChild, childCount, firstBuffer, bufferCount, bufferPlace, bufferLength, lengthOf}
+use Rattle.image.specs.Record.{codeOf, idOf, p1Of, offsetOf, hasBitmap, bitmapPlace, firstBit, firstChild, childCount, bufferPlace, lengthOf}
 use Rattle.image.specs.TypeCode.{integerWidth, widthOf}
 
 -- row i of node k is not null: its bitmap bit is 1, or there is no bitmap

@@ -1,17 +1,17 @@
 -- The faults of an image ("Turned away because of the input", 10 to 18): for each number and each node whether the
 -- node has a fault of that number, and the answer of the image check.
-use mathlib.Core.Bool.{Bool, true, false, cond, not, _&&_, _||_}
+use mathlib.Core.Bool.{Bool, false, cond, not, _&&_, _||_}
 use mathlib.Core.List.{List}
-use Prim.Native.Nat.{ℕ, zero, suc, _+_, _*_, _-_, _%_, _^_, min}
+use Prim.Native.Nat.{ℕ, zero, suc, _+_, _*_, _-_, _%_, min}
 use lib.ListN.{length}
 use lib.Dec.{eqb, leb, ltb}
 use Rattle.image.specs.declared.answer.Checked.{Checked}
 use Rattle.image.specs.declared.answer.Checked.the-variants.{Accepted, Refused}
 use Rattle.image.specs.declared.type_code.Layout.{Layout}
 use Rattle.image.specs.declared.type_code.Layout.the-variants.{Null, Boolean, FixedWidth, VariableSize, View, List as Lists, ListView, FixedList, Struct, DenseUnion, SparseUnion, Dictionary, Runs}
-use Rattle.image.specs.Ranges.{any, every, first, rises}
+use Rattle.image.specs.Ranges.{any, first, rises}
 use Rattle.image.specs.Bytes.{byteAt, numberAt}
-use Rattle.image.specs.Record.{nodeCount, bufferTotal, tablesEnd, codeOf, flagsOf, idOf, nameLength, p1Of, p2Of, lengthOf, offsetOf, namePlace, bitmapPlace, bitmapLength, firstBit, firstChild, childCount, firstBuffer, bufferCount, hasBitmap, elementsOf, childStart, bufferStart, bufferPlace, bufferLength}
+use Rattle.image.specs.Record.{maxDepth, nodeCount, bufferTotal, tablesEnd, codeOf, flagsOf, idOf, nameLength, p1Of, p2Of, lengthOf, offsetOf, namePlace, bitmapPlace, bitmapLength, firstBit, firstChild, childCount, firstBuffer, bufferCount, hasBitmap, elementsOf, childStart, bufferStart, bufferPlace, bufferLength}
 use Rattle.image.specs.TypeCode.{layoutOf, p1Fits, p2Fits, isUnion, keySigned, signBit, takesBitmap, childRule, bufferRule, counts}
 use Rattle.image.specs.Element.{valid, elementWidth, elementPlace, elementAt, sizeAt, typeIdAt, denseOffsetAt, childEnd, childWithId, inlineLength, viewLength, viewBuffer, viewOffset, viewData, runEndWidth, runEndAt}
 
@@ -40,9 +40,6 @@ fault11 s k =
 unfoldable pub levelEnd : List ℕ → ℕ → ℕ
 levelEnd s zero = 0
 levelEnd s (suc d) = min (childStart s (levelEnd s d)) (nodeCount s)
-
-abbrev pub maxDepth : ℕ
-maxDepth = 16
 
 -- "union ids not strictly rising within 0 to 127"
 unfoldable pub idsRise : List ℕ → ℕ → Bool

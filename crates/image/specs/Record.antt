@@ -1,7 +1,7 @@
 -- The image's header, its node records and its buffer entries ("The image").
 use mathlib.Core.Bool.{Bool}
 use mathlib.Core.List.{List}
-use Prim.Native.Nat.{ℕ, suc, _+_, _*_, _/_, _%_}
+use Prim.Native.Nat.{ℕ, _+_, _*_, _/_, _%_}
 use lib.Dec.{eqb}
 use Rattle.image.specs.Bytes.{byteAt, numberAt}
 use Rattle.image.specs.Ranges.{sumTo}
@@ -13,13 +13,27 @@ nodeCount s = numberAt 2 s 0
 abbrev pub bufferTotal : List ℕ → ℕ
 bufferTotal s = numberAt 2 s 2
 
+-- the sizes of the header, of a node's record and of a buffer's entry
+abbrev pub headerSize : ℕ
+headerSize = 4
+
+abbrev pub recordSize : ℕ
+recordSize = 44
+
+abbrev pub entrySize : ℕ
+entrySize = 8
+
+-- "Depth at most 16, the root being 1."
+abbrev pub maxDepth : ℕ
+maxDepth = 16
+
 -- "Then n records of 44 bytes": where the record of node k starts
 unfoldable pub recordPlace : ℕ → ℕ
-recordPlace k = 4 + k * 44
+recordPlace k = headerSize + k * recordSize
 
 -- "m entries of two u32 (place, length)": where the entry of buffer b starts
 unfoldable pub entryPlace : List ℕ → ℕ → ℕ
-entryPlace s b = recordPlace (nodeCount s) + b * 8
+entryPlace s b = recordPlace (nodeCount s) + b * entrySize
 
 -- "then free bytes": the length of header and tables
 unfoldable pub tablesEnd : List ℕ → ℕ

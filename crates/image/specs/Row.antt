@@ -1,13 +1,13 @@
 -- What a row is, and the row that stands at each place ("Rows of two nodes whose types agree are equal if both are
 -- null, or neither is and the values agree").
-use mathlib.Core.Bool.{Bool, true, false, cond, _&&_}
+use mathlib.Core.Bool.{Bool, true, false, cond}
 use mathlib.Core.List.{List, [], _∷_}
 use Prim.Native.Nat.{ℕ, zero, suc, _+_, _*_, _-_}
-use lib.Dec.{eqb, ltb}
+use lib.Dec.{ltb}
 use Rattle.image.specs.declared.type_code.Layout.{Layout}
 use Rattle.image.specs.declared.type_code.Layout.the-variants.{Null, Boolean, FixedWidth, VariableSize, View, List as Lists, ListView, FixedList, Struct, DenseUnion, SparseUnion, Dictionary, Runs}
 use Rattle.image.specs.Bytes.{bitAt, bytesAt}
-use Rattle.image.specs.Record.{codeOf, p1Of, offsetOf, firstChild, childCount, bufferPlace}
+use Rattle.image.specs.Record.{maxDepth, codeOf, p1Of, offsetOf, firstChild, childCount, bufferPlace}
 use Rattle.image.specs.TypeCode.{layoutOf}
 use Rattle.image.specs.Element.{valid, elementWidth, elementPlace, elementAt, sizeAt, typeIdAt, denseOffsetAt, childEnd, childWithId, viewLength, viewData, runAt}
 
@@ -117,4 +117,4 @@ rowAt (suc depth) s k i = masked (valid s k i) (valueAt (layoutOf (codeOf s k)) 
 
 -- the n rows of the table from row i on
 unfoldable pub tableRows : List ℕ → ℕ → ℕ → Rows
-tableRows s i n = range (rowAt 16 s 0) i n
+tableRows s i n = range (rowAt maxDepth s 0) i n

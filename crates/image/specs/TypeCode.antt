@@ -1,7 +1,7 @@
 -- What each type code says of a node ("The type codes are constants belonging to one type").
 use mathlib.Core.Bool.{Bool, true, false, cond, _&&_, _||_}
 use mathlib.Core.List.{List, [], _∷_}
-use Prim.Native.Nat.{ℕ, _+_, _*_, _-_, _^_, _/_}
+use Prim.Native.Nat.{ℕ, _*_, _-_, _^_, _/_}
 use lib.ListN.{getD}
 use lib.Dec.{eqb, leb, ltb}
 use Rattle.image.specs.declared.type_code.Layout.{Layout}

@@ -8,7 +8,7 @@ use Rattle.image.specs.declared.place.Place.the-variants.{Root, Entries,
 use Rattle.image.specs.declared.place.Counted.{Counted}
 use Rattle.image.specs.Ranges.{every}
 use Rattle.image.specs.Bytes.{bytesAt}
-use Rattle.image.specs.Record.{codeOf, idOf, nameLength, p1Of, p2Of, namePlace, firstChild, childCount, nullable}
+use Rattle.image.specs.Record.{maxDepth, codeOf, idOf, nameLength, p1Of, p2Of, namePlace, firstChild, childCount, nullable}
 use Rattle.image.specs.TypeCode.{isUnion}
 
 -- two lists of numbers are the same
@@ -68,4 +68,4 @@ typesAgreeAt (suc depth) p s t i j =
 
 -- "They do not count for the root": the types of two images agree
 unfoldable pub typesAgree : List ℕ → List ℕ → Bool
-typesAgree s t = typesAgreeAt 16 Root s t 0 0
+typesAgree s t = typesAgreeAt maxDepth Root s t 0 0

@@ -8,7 +8,10 @@ ghost use mathlib.Core.Path.{_≡_};
 ghost use Prim.Native.Nat.{_+_, _≤_};
 ghost use Rattle.image.specs.Bytes.{byteAt, numberAt};
 ghost use Rattle.image.specs.Reads.{Read};
-ghost use Rattle.image.specs.Record.{nodeCount, bufferTotal, recordPlace, entryPlace, codeOf, flagsOf, idOf, nameLength, p1Of, p2Of, lengthOf, offsetOf, namePlace, bitmapPlace, bitmapLength, firstBit, firstChild, childCount, firstBuffer, bufferCount, nullable, hasBitmap, elementsOf, bufferPlace, bufferLength, tablesEnd};
+ghost use Rattle.image.specs.Record.{recordSize, nodeCount, bufferTotal, recordPlace, entryPlace, codeOf, flagsOf, idOf, nameLength, p1Of, p2Of, lengthOf, offsetOf, namePlace, bitmapPlace, bitmapLength, firstBit, firstChild, childCount, firstBuffer, bufferCount, nullable, hasBitmap, elementsOf, bufferPlace, bufferLength, tablesEnd};
+
+// A table's depth is at most so much, the root being 1.
+pub const MAX_DEPTH: usize = 16;
 
 // The sizes of the header, of a node's record and of a buffer's entry.
 const HEADER_SIZE: usize = 4;
@@ -40,7 +43,7 @@ fn record_place(node: u32) -> usize
 
 // The field of one byte at a byte of the node's record.
 fn field8(image: &[u8], node: u32, at: usize) -> u8
-    requires { ⌜ at ≤ 44 ⌝ }
+    requires { ⌜ at ≤ recordSize ⌝ }
     ensures { λ r. ⌜ Read (byteAt (now (image .entry)) (recordPlace node + at)) 8 r ⌝ }
 {
     byte(image, record_place(node) + at)
@@ -48,7 +51,7 @@ fn field8(image: &[u8], node: u32, at: usize) -> u8
 
 // The field of two bytes.
 fn field16(image: &[u8], node: u32, at: usize) -> u32
-    requires { ⌜ at ≤ 44 ⌝ }
+    requires { ⌜ at ≤ recordSize ⌝ }
     ensures { λ r. ⌜ Read (numberAt 2 (now (image .entry)) (recordPlace node + at)) 16 r ⌝ }
 {
     le16(image, record_place(node) + at)
@@ -56,7 +59,7 @@ fn field16(image: &[u8], node: u32, at: usize) -> u32
 
 // The field of four bytes.
 fn field32(image: &[u8], node: u32, at: usize) -> usize
-    requires { ⌜ at ≤ 44 ⌝ }
+    requires { ⌜ at ≤ recordSize ⌝ }
     ensures { λ r. ⌜ Read (numberAt 4 (now (image .entry)) (recordPlace node + at)) 32 r ⌝ }
 {
     le32(image, record_place(node) + at)

@@ -14,10 +14,10 @@ use Rattle.image.specs.declared.answer.Checked.the-variants.{Accepted}
 use Rattle.image.specs.declared.type_code.Count.{Count}
 use Rattle.image.specs.declared.type_code.Count.the-variants.{Exactly, AtLeast}
 use Rattle.image.specs.Bytes.{byteAt, bitAt}
-use Rattle.image.specs.Record.{nodeCount, bufferTotal, codeOf, idOf, lengthOf, offsetOf, nameLength, namePlace, bitmapPlace, bitmapLength, firstBit, hasBitmap, firstChild, childCount, firstBuffer, bufferCount, bufferLength, elementsOf, childStart, bufferStart}
+use Rattle.image.specs.Record.{nodeCount, bufferTotal, idOf, lengthOf, offsetOf, nameLength, namePlace, bitmapPlace, bitmapLength, firstBit, hasBitmap, firstChild, childCount, firstBuffer, bufferCount, bufferLength, elementsOf, childStart, bufferStart}
 use Rattle.image.specs.TypeCode.{counts, signBit}
 use Rattle.image.specs.Element.{childEnd, elementAt, elementWidth, runEndWidth, runEndAt, endsAbove, runAt, hasId, typeIdAt, childWithId, denseOffsetAt, inlineLength, viewLength, valid}
-use Rattle.image.specs.Faults.{fault, fault10, fault11, fault12, fault13, fault14, fault15, fault16, fault17, fault18, checkImage, outside, idsRise, mapEntries, runEnds, under, childUnder, offsetsRise, listOutside, bufferOutside, rowsUnder, nonzero, tooFewElements, idUnknown, denseOutside, keyOutside, paddingNonzero, viewFault, longViewFault, runEndsRise, lastEndBelow, denseRowFault, sparseRowFault, keyRowFault, viewRowFault}
+use Rattle.image.specs.Faults.{fault, fault10, fault11, fault12, fault13, fault14, fault15, fault16, fault17, fault18, checkImage, outside, idsRise, mapEntries, runEnds, under, childUnder, offsetsRise, listOutside, bufferOutside, rowsUnder, nonzero, idUnknown, denseOutside, keyOutside, paddingNonzero, viewFault, longViewFault, runEndsRise, lastEndBelow, denseRowFault, sparseRowFault, keyRowFault, viewRowFault}
 use Rattle.image.proofs.Bools.{facts, or-left, or-right, and-fails}
 use Rattle.image.proofs.Ranges.{any-false, any-below, sum-next, rises-least, rises-top, rises-apart, first-from, first-at-most, first-passes}
 use Rattle.image.proofs.Widths.{variable-width, view-width, list-width, list-view-width, key-width}

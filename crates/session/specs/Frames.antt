@@ -1,7 +1,7 @@
 -- Frames ("Frames: 01 or 02 and 1 to 64 bytes, a piece left or right; 03 side, close; 04 compare all; 05 and three u32
 -- (left start, right start, count); 06 side, u32 start, u32 count, write; 07 side, empty and open. Sides: 00 left, 01
 -- right.").
-use mathlib.Core.Bool.{Bool, true, false, cond}
+use mathlib.Core.Bool.{cond}
 use mathlib.Core.List.{List}
 use Prim.Native.Nat.{ℕ}
 use lib.ListN.{length}

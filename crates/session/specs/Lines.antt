@@ -1,5 +1,5 @@
 -- Lines: "1 to 65 bytes of lower-case hexadecimal, one space allowed between bytes".
-use mathlib.Core.Bool.{Bool, true, false, cond}
+use mathlib.Core.Bool.{cond}
 use mathlib.Core.List.{List, [], _∷_}
 use mathlib.Core.Path.{_≡_}
 use Prim.Native.Nat.{ℕ, _+_, _*_, _-_, _≤_}

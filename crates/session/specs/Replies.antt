@@ -6,8 +6,6 @@ use Prim.Native.Nat.{ℕ, _+_, _/_, _%_}
 use lib.ListN.{take}
 use lib.Dec.{ltb}
 use Rattle.image.specs.declared.answer.Side.{Side}
-use Rattle.image.specs.declared.answer.Fault.{Fault}
-use Rattle.image.specs.declared.answer.Checked.{Checked}
 use Rattle.answers.specs.declared.Compared.{Compared}
 use Rattle.answers.specs.declared.Compared.the-variants.{Yes, No, Refused as CompareRefused, UnequalTypes, OutOfRange as RangeOut}
 use Rattle.answers.specs.declared.Written.{Written}

@@ -1,6 +1,6 @@
 -- What a line does: the reply, the state after it, both stores and the output, for every line and every state.
 use mathlib.Core.Bool.{Bool, true, false, cond, _&&_}
-use mathlib.Core.List.{List, [], _∷_, _++_}
+use mathlib.Core.List.{List}
 use Prim.Native.Nat.{ℕ, _+_}
 use lib.ListN.{length, take, drop}
 use lib.Seq.{paste}

@@ -6,7 +6,7 @@ use mathlib.Core.Path.{_≡_}
 use lib.Dec.{leb, ltb}
 use Rattle.image.specs.Bytes.{numberAt}
 use Rattle.image.specs.Reads.{Read}
-use Rattle.image.specs.Record.{lengthOf, offsetOf, bufferPlace}
+use Rattle.image.specs.Record.{recordSize, lengthOf, offsetOf, bufferPlace}
 use Rattle.image.specs.Element.{elementWidth, elementAt}
 use Rattle.image.specs.Faults.{keyOutside}
 
@@ -25,7 +25,7 @@ reaches limit f k = leb limit (f k)
 -- so small that no place and no sum wraps
 pub record Strided (place stride w step top count : ℕ) : Type 0 where
   pub near : place < 2 ^ 40
-  pub short : stride ≤ 44
+  pub short : stride ≤ recordSize
   pub narrow : w ≤ 8
   pub least : step ≤ 1
   pub high : top < 2 ^ 63

@@ -2,8 +2,8 @@
 use mathlib.Core.Path.{_≡_}
 use mathlib.Core.List.{List}
 use Prim.Native.Nat.{ℕ, _+_, _*_, _≤_, _<_, suc}
-use Rattle.image.specs.Record.{nodeCount, childStart, bufferStart}
-use Rattle.image.specs.Faults.{levelEnd, maxDepth}
+use Rattle.image.specs.Record.{maxDepth, nodeCount, childStart, bufferStart}
+use Rattle.image.specs.Faults.{levelEnd}
 use Rattle.validate.specs.declared.tree.Parent.{Parent}
 use Rattle.validate.specs.declared.tree.Walk.{Walk}
 

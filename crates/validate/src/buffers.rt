@@ -18,7 +18,7 @@ use image::type_code::Layout;
 use image::type_code::TypeCode;
 ghost use mathlib.Core.Path.{_≡_};
 ghost use mathlib.Core.Bool.{_&&_, not};
-ghost use Prim.Native.Nat.{_+_, _*_, _<_, _≤_, _^_};
+ghost use Prim.Native.Nat.{_+_, _*_, _<_, _^_};
 ghost use lib.Dec.{eqb, ltb};
 ghost use Rattle.image.specs.Ranges.{any};
 ghost use Rattle.image.specs.Record.{codeOf, bitmapPlace, bitmapLength, firstBit, lengthOf, bufferCount, bufferTotal, hasBitmap};

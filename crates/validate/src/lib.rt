@@ -24,7 +24,6 @@ use tree::Walk;
 use tree::fault_12;
 ghost use mathlib.Core.Path.{_≡_};
 ghost use Prim.Native.Nat.{_<_, _^_};
-ghost use Rattle.image.specs.Record.{nodeCount};
 ghost use Rattle.image.specs.Faults.{fault10, fault, firstFaulty, checkImage};
 ghost use Rattle.validate.specs.Walks.{Walks};
 

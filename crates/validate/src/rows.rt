@@ -42,7 +42,7 @@ ghost use Rattle.image.specs.Reads.{Packed, MaskRead};
 ghost use Rattle.image.specs.Record.{lengthOf};
 ghost use Rattle.image.specs.Element.{elementWidth, viewLength};
 ghost use Rattle.validate.specs.Strides.{KeyLimit, Keys, numberIn, reaches};
-ghost use Rattle.validate.specs.Views.{Entries, ViewHere, ViewsHere};
+ghost use Rattle.validate.specs.Views.{ViewHere, ViewsHere};
 ghost use Rattle.image.specs.Faults.{fault18, denseRowFault, sparseRowFault, keyRowFault, viewRowFault, viewFault, paddingNonzero, longViewFault, runEndsRise, lastEndBelow};
 
 const BLOCK: usize = 64;

@@ -1,5 +1,6 @@
 // 12: the tree is broken.
 use crate::rise::rise;
+use image::record::MAX_DEPTH;
 use image::record::RECORD_SIZE;
 use image::record::buffer_count;
 use image::record::child_count;
@@ -14,12 +15,10 @@ ghost use mathlib.Core.Path.{_≡_};
 ghost use mathlib.Core.Bool.{_&&_, not};
 ghost use Prim.Native.Nat.{_+_, _<_, _^_, min};
 ghost use lib.Dec.{eqb};
-ghost use Rattle.image.specs.Record.{nodeCount, codeOf, idOf, childCount, childStart, bufferStart};
+ghost use Rattle.image.specs.Record.{maxDepth, nodeCount, codeOf, idOf, childCount, childStart, bufferStart};
 ghost use Rattle.image.specs.TypeCode.{layoutOf, childRule, counts, isUnion};
-ghost use Rattle.image.specs.Faults.{fault12, levelEnd, maxDepth, idsRise, underUnion, mapEntries, runEnds};
+ghost use Rattle.image.specs.Faults.{fault12, levelEnd, idsRise, underUnion, mapEntries, runEnds};
 ghost use Rattle.validate.specs.Walks.{Sum, Passed, Parents, Walks};
-
-const DEPTH: usize = 16;
 
 const LARGEST_ID: usize = 127;
 
@@ -76,7 +75,7 @@ fn level_end(image: &[u8], n: usize) -> usize
 {
     let mut end: usize = 0;
     let mut d: usize = 0;
-    while d < DEPTH {
+    while d < MAX_DEPTH {
         end = least(child_start(image, end), n);
         d += 1;
     }

@@ -1,7 +1,7 @@
 -- Rows of texts or lists without nulls are equal exactly where they are equally long in turn and all that they hold is
 -- the same as one block.
 -- By induction over the rows: the block of the first and the block of the others make the whole, since offsets rise.
-use mathlib.Core.Path.{_≡_, refl, sym, ap, ap₂, _∙_}
+use mathlib.Core.Path.{_≡_, refl}
 use mathlib.Core.Bool.{Bool, true, false, _&&_}
 use Prim.Native.Nat.{ℕ, zero, suc, _+_, _-_, _<_, _≤_}
 use native.Mathlib.Omega.{arith}

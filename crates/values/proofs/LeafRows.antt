@@ -20,7 +20,7 @@ use Rattle.image.specs.Reads.{Read, Nth}
 use Rattle.values.specs.declared.leaf.Leaves.{Leaves}
 use Rattle.values.specs.Pairs.{rangeEqual}
 use Rattle.accepted.specs.Parts.{Side, Part, Elements}
-use Rattle.values.specs.Parts.{Sides, Leaf, Leafy}
+use Rattle.values.specs.Parts.{Sides, Leaf, LeavesAt}
 use Rattle.accepted.proofs.Fixed.{spanned}
 use Rattle.accepted.proofs.Nodes.{side-small}
 use Rattle.values.proofs.Names.{other-length}
@@ -63,7 +63,7 @@ unfolding elementPlace
 first-read s k ew ep eo = rw (ew, ep .value, eo .value)
 
 -- no layout is said
-pub no-leaves : (a b : List ℕ) (k l : ℕ) (v : Leaves) → v .fixed ≡ false → v .texts ≡ false → Leafy a b k l v
+pub no-leaves : (a b : List ℕ) (k l : ℕ) (v : Leaves) → v .fixed ≡ false → v .texts ≡ false → LeavesAt a b k l v
 no-leaves a b k l v f t = record {
   fixed = λ e. absurd (false≢true (sym f ∙ e));
   texts = λ e. absurd (false≢true (sym t ∙ e));
@@ -78,7 +78,7 @@ no-leaves a b k l v f t = record {
 
 -- the layout of two nodes is said
 module _ {a b : List ℕ} {k l : ℕ} {v : Leaves} (left : Leaf a k (v .width) (v .left)) (right : Leaf b l (v .width) (v .right)) where
-  pub fixed-leaves : v .texts ≡ false → layoutOf (codeOf a k) ≡ FixedWidth → Leafy a b k l v
+  pub fixed-leaves : v .texts ≡ false → layoutOf (codeOf a k) ≡ FixedWidth → LeavesAt a b k l v
   fixed-leaves other e = record {
     fixed = λ is. e;
     texts = λ is. absurd (false≢true (sym other ∙ is));
@@ -88,7 +88,7 @@ module _ {a b : List ℕ} {k l : ℕ} {v : Leaves} (left : Leaf a k (v .width) (
     right-text = λ is. absurd (false≢true (sym other ∙ is));
   }
 
-  pub text-leaves : v .fixed ≡ false → layoutOf (codeOf a k) ≡ VariableSize → v .«left_text» ≡ bufferPlace a k 1 → v .«right_text» ≡ bufferPlace b l 1 → Leafy a b k l v
+  pub text-leaves : v .fixed ≡ false → layoutOf (codeOf a k) ≡ VariableSize → v .«left_text» ≡ bufferPlace a k 1 → v .«right_text» ≡ bufferPlace b l 1 → LeavesAt a b k l v
   text-leaves other e t u = record {
     fixed = λ is. absurd (false≢true (sym other ∙ is));
     texts = λ is. e;
@@ -172,7 +172,7 @@ module _ {s : List ℕ} {k i w p : ℕ} (r : Side s k i 1) (f : Leaf s k w p) wh
         }
 
 -- two rows of which it was read that their layout is fixed-width, or variable-size
-module _ {a b : List ℕ} {k l i j d : ℕ} {v : Leaves} (r : Sides a b k l i j 1 (suc d)) (y : Leafy a b k l v) where
+module _ {a b : List ℕ} {k l i j d : ℕ} {v : Leaves} (r : Sides a b k l i j 1 (suc d)) (y : LeavesAt a b k l v) where
   right-layout : {x : Layout} → layoutOf (codeOf a k) ≡ x → layoutOf (codeOf b l) ≡ x
   right-layout e = sym (ap layoutOf (r .alike .0 .code)) ∙ e
 

@@ -9,7 +9,7 @@ use Rattle.image.specs.declared.type_code.Layout.{Layout}
 use Rattle.image.specs.Record.{codeOf, offsetOf, elementsOf}
 use Rattle.image.specs.TypeCode.{layoutOf}
 use Rattle.image.specs.Element.{valid}
-use Rattle.image.specs.Row.{Row, masked, range}
+use Rattle.image.specs.Row.{Row, masked}
 use Rattle.image.specs.Equality.{rowEqual}
 use Rattle.image.proofs.Bools.{and-left, and-right, flags-same}
 use Rattle.values.specs.Pairs.{all, rangeEqual, sameMask, maskedRow}
@@ -75,11 +75,6 @@ module _ {x : Layout} {a b : List ℕ} {k l i j : ℕ} (r : Masked x a b k l i j
     full-row e =
         let other : valid b l j ≡ true = sym one-mask ∙ e in
         rw (e, other)
-
-    -- as a range
-    pub full-rows : valid a k i ≡ true → rangeEqual (value a k) (value b l) (offsetOf a k + i) (offsetOf b l + j) 1 ≡ rowEqual (maskedRow value a k i) (maskedRow value b l j)
-    unfolding range rowEqual
-    full-rows e = and-true _ ∙ full-row e
 
 module _ (value : List ℕ → ℕ → ℕ → Row) where
   -- rows whose values are equal are equal under masks that agree

@@ -5,7 +5,6 @@ use mathlib.Core.Bool.{Bool, true, false, cond, Bool·beq, _&&_}
 use mathlib.Core.List.{List}
 use Prim.Native.Nat.{ℕ, zero, suc, _+_, _^_, _<_, _≤_}
 use native.Mathlib.Omega.{arith}
-use native.Mathlib.Nat.{add-zero}
 use lib.Dec.{eqb}
 use Rattle.image.specs.Bytes.{bitAt}
 use Rattle.image.specs.Ranges.{every}

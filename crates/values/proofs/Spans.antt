@@ -1,13 +1,13 @@
 -- Offsets that were read, and the spans between them, where all offsets are the same as one block.
 -- An element's number is read at its place; the same bytes make the same numbers, and these the same differences.
-use mathlib.Core.Path.{_≡_, refl, sym, ap, ap₂, _∙_}
-use mathlib.Core.Bool.{Bool, true, false}
+use mathlib.Core.Path.{_≡_, refl, ap, ap₂, _∙_}
+use mathlib.Core.Bool.{true}
 use mathlib.Core.List.{List}
 use Prim.Native.Nat.{ℕ, zero, suc, _+_, _*_, _-_, _<_, _≤_}
 use native.Mathlib.Omega.{arith}
 use native.Mathlib.Nat.{add-mul, mul-le-mul-right}
 use lib.ListN.{length}
-use borrow.Author.Tests.{eqb-true, eq-eqb, ne-eqb}
+use borrow.Author.Tests.{eqb-true, eq-eqb}
 use Rattle.image.specs.Bytes.{numberAt, bytesAt}
 use Rattle.image.specs.Record.{bufferPlace}
 use Rattle.image.specs.Element.{elementWidth, elementPlace, elementAt}

@@ -11,7 +11,7 @@ use borrow.Author.Tests.{eq-eqb, ne-eqb}
 use Rattle.image.specs.Bytes.{byteAt, bytesAt}
 use Rattle.image.specs.Types.{sameBytes}
 use Rattle.image.specs.Row.{Row, range}
-use Rattle.image.specs.Equality.{rowEqual, rowsEqual}
+use Rattle.image.specs.Equality.{rowEqual}
 use Rattle.image.proofs.Bools.{and-left}
 use Rattle.values.specs.Pairs.{all, rangeEqual, sameByte}
 

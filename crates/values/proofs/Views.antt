@@ -15,7 +15,7 @@ use Rattle.image.specs.Types.{sameBytes}
 use Rattle.image.specs.Row.{viewRow}
 use Rattle.image.specs.Equality.{rowEqual}
 use Rattle.values.specs.Pairs.{sameByte, maskedRow}
-use Rattle.accepted.specs.Parts.{Side, Part, Viewed, Shown}
+use Rattle.accepted.specs.Parts.{Side, Part, Viewed, ViewBytes}
 use Rattle.values.specs.Parts.{Masked}
 use Rattle.accepted.proofs.Views.{shown-short, viewed, view-place}
 use Rattle.values.proofs.Steps.{front-passes, by-bytes, sameRow, row-test}
@@ -48,7 +48,7 @@ module _ {a b : List ℕ} {k l v w m o : ℕ} (left : Viewed a k v (viewLength a
   pub lengths-differ : (m ≡ o → ⊥) → false ≡ sameViews a k v b l w
   lengths-differ h = sym (other-length a b _ _ (viewLength a v) (viewLength b w) (λ e. h (left-length ∙ e ∙ sym right-length)))
 
-  pub shown-are : m ≡ o → {p q : ℕ} {x : Bool} → Shown a k v m p → Shown b l w m q → x ≡ sameBytes (bytesAt a p m) (bytesAt b q m) → x ≡ sameViews a k v b l w
+  pub shown-are : m ≡ o → {p q : ℕ} {x : Bool} → ViewBytes a k v m p → ViewBytes b l w m q → x ≡ sameBytes (bytesAt a p m) (bytesAt b q m) → x ≡ sameViews a k v b l w
   shown-are e sa sb ex = rw (← left-length, ← right-length, ← e, ← sa .place, ← sb .place) ex
 
   -- short ones

@@ -1,7 +1,7 @@
 -- The number that bits make: its bit k is theirs; cut off after n of them it is the number of these; and its set bits up to
 -- the first that is not.
 -- Each bit is the lowest digit of what the bits before it leave; by induction over their number.
-use mathlib.Core.Path.{_≡_, refl, sym, ap, ap₂, _∙_}
+use mathlib.Core.Path.{_≡_, sym, ap, ap₂, _∙_}
 use mathlib.Core.Bool.{Bool, true, false, cond}
 use mathlib.Core.List.{List}
 use Prim.Native.Nat.{ℕ, zero, suc, _+_, _*_, _-_, _/_, _%_, _^_, _<_, _≤_}
@@ -12,7 +12,6 @@ use lib.Pow.{pow-pos, pow-lt}
 use borrow.Author.Tests.{eq-eqb, ne-eqb}
 use Rattle.image.specs.Bytes.{bitAt}
 use Rattle.image.specs.Ranges.{every}
-use Rattle.image.proofs.Ranges.{every-at}
 use Rattle.values.specs.Bits.{bitsAt, Leading}
 use Rattle.values.specs.Pairs.{all, sameBit, bitOf}
 use Rattle.values.proofs.Words.{cut-off, halved, same-words, full-result}

@@ -105,7 +105,7 @@ pub record Leaf (s : List ℕ) (k w p : ℕ) : Type 0 where
 
 -- what is read once of two nodes whose rows are compared one pair at a time: their layout is fixed-width, or
 -- variable-size, or neither is said; where the elements of row 0 start, and where the texts do
-pub record Leafy (a b : List ℕ) (k l : ℕ) (r : Leaves) : Type 0 where
+pub record LeavesAt (a b : List ℕ) (k l : ℕ) (r : Leaves) : Type 0 where
   pub fixed : r .fixed ≡ true → layoutOf (codeOf a k) ≡ FixedWidth
   pub texts : r .texts ≡ true → layoutOf (codeOf a k) ≡ VariableSize
   pub left : r .fixed || r .texts ≡ true → Leaf a k (r .width) (r .left)

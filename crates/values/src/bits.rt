@@ -70,7 +70,7 @@ fn same_tail(a: &[u8], p: usize, i: usize, b: &[u8], q: usize, j: usize, n: usiz
 }
 
 // Bits i, i + 1, .. at one place are bits j, j + 1, .. at another, n of them: 64 at a time, and the rest.
-pub fn same_bits(a: &[u8], p: usize, i: usize, b: &[u8], q: usize, j: usize, n: usize) -> bool
+pub fn equal_bits(a: &[u8], p: usize, i: usize, b: &[u8], q: usize, j: usize, n: usize) -> bool
     requires { ⌜ (p < 2 ^ 32) × (q < 2 ^ 32) × (i + n < 2 ^ 35) × (j + n < 2 ^ 35) ⌝ }
     ensures { λ r. ⌜ r ≡ all (sameBit (now (a .entry)) p (now (b .entry)) q) i j n ⌝ }
 {

@@ -1,8 +1,7 @@
 // Translated from src/equal/boolean.rs of arrow-data 60.1.0 (Apache-2.0).
-use crate::bits::same_bits;
+use crate::bits::equal_bits;
 use image::record::buffer_place;
 ghost use mathlib.Core.Path.{_≡_};
-ghost use Prim.Native.Nat.{_+_, _<_, _≤_, _^_};
 ghost use Rattle.image.specs.declared.type_code.Layout.the-variants.{Boolean};
 ghost use Rattle.image.specs.Record.{codeOf};
 ghost use Rattle.image.specs.TypeCode.{layoutOf};
@@ -16,7 +15,7 @@ pub fn boolean_equal(a: &[u8], an: u32, b: &[u8], bn: u32, s: usize, t: usize, n
     requires { ⌜ layoutOf (codeOf (now a) an) ≡ Boolean ⌝ }
     ensures { λ r. ⌜ r ≡ rangeEqual (booleanRow (now (a .entry)) an) (booleanRow (now (b .entry)) bn) s t n ⌝ }
 {
-    same_bits(
+    equal_bits(
         a,
         buffer_place(a, an, 0),
         s,

@@ -17,7 +17,7 @@ ghost use Rattle.image.specs.Record.{offsetOf};
 ghost use Rattle.image.specs.Row.{rowAt};
 ghost use Rattle.values.specs.Pairs.{rangeEqual};
 ghost use Rattle.accepted.specs.Parts.{Side};
-ghost use Rattle.values.specs.Parts.{Sides, Leafy};
+ghost use Rattle.values.specs.Parts.{Sides, LeavesAt};
 
 // Where the elements of row 0 of two nodes stand, and the texts' bytes. Nodes of other layouts, or with bitmaps, are
 // neither fixed nor texts.
@@ -42,7 +42,7 @@ pub fn first_place(s: &[u8], node: u32, width: usize) -> usize
 // Two nodes taken apart.
 pub fn leaves_of(a: &[u8], an: u32, b: &[u8], bn: u32) -> Leaves
     requires { ⌜ Side (now a) an 0 0 × Side (now b) bn 0 0 ⌝ }
-    ensures { λ r. ⌜ Leafy (now (a .entry)) (now (b .entry)) an bn r ⌝ }
+    ensures { λ r. ⌜ LeavesAt (now (a .entry)) (now (b .entry)) an bn r ⌝ }
 {
     let none = Leaves {
         fixed: false,
@@ -102,7 +102,7 @@ pub fn leaf_equal(
     depth: usize,
 ) -> bool
     requires { ⌜ Sides (now a) (now b) an bn s t 1 (suc depth) ⌝ }
-    requires { ⌜ Leafy (now a) (now b) an bn l ⌝ }
+    requires { ⌜ LeavesAt (now a) (now b) an bn l ⌝ }
     requires { ⌜ (l .fixed || l .texts) ≡ true ⌝ }
     ensures { λ r. ⌜ r ≡ rangeEqual (rowAt (suc depth) (now (a .entry)) an) (rowAt (suc depth) (now (b .entry)) bn) s t 1 ⌝ }
 {

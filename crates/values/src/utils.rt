@@ -1,10 +1,11 @@
 // Bytes, null masks and types. Translated from src/equal/utils.rs of arrow-data 60.1.0 (Apache-2.0).
+use crate::bits::equal_bits;
 use crate::bits::leading_set;
-use crate::bits::same_bits;
 use crate::types::types_equal;
 use image::bytes::octet;
 use image::bytes::quad;
 use image::place::Place;
+use image::record::MAX_DEPTH;
 use image::record::bitmap_place;
 use image::record::first_bit;
 use image::record::has_bitmap;
@@ -133,7 +134,7 @@ pub fn equal_nulls(a: &[u8], an: u32, b: &[u8], bn: u32, s: usize, t: usize, n: 
     if !has_bitmap(b, bn) {
         return all_set(a, bitmap_place(a, an), first_bit(a, an) + s, n);
     }
-    same_bits(
+    equal_bits(
         a,
         bitmap_place(a, an),
         first_bit(a, an) + s,
@@ -148,7 +149,7 @@ pub fn equal_nulls(a: &[u8], an: u32, b: &[u8], bn: u32, s: usize, t: usize, n: 
 pub fn base_equal(a: &[u8], b: &[u8]) -> bool
     ensures { λ r. ⌜ r ≡ (typesAgree (now (a .entry)) (now (b .entry)) && eqb (lengthOf (now (a .entry)) 0) (lengthOf (now (b .entry)) 0)) ⌝ }
 {
-    if !types_equal(a, b, 0, 0, Place::Root, 16) {
+    if !types_equal(a, b, 0, 0, Place::Root, MAX_DEPTH) {
         return false;
     }
     image::record::length(a, 0) == image::record::length(b, 0)

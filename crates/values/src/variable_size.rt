@@ -4,7 +4,7 @@ use crate::utils::equal_len;
 use image::element::offset_at;
 use image::record::buffer_place;
 ghost use mathlib.Core.Path.{_≡_};
-ghost use Prim.Native.Nat.{_+_, _<_, _≤_, _^_};
+ghost use Prim.Native.Nat.{_+_};
 ghost use Rattle.image.specs.declared.type_code.Layout.the-variants.{VariableSize};
 ghost use Rattle.image.specs.Record.{codeOf};
 ghost use Rattle.image.specs.TypeCode.{layoutOf};

@@ -1,7 +1,6 @@
 -- The length that is lent is the buffer's, or the most that can be answered.
 -- By the test.
 use Rattle.editions_c.proofs.Outputs.{short-used, long-used}
-use borrow.Author.Needs.{needs}
 use Rattle.editions_c.proofs.used_length.Statement.{statement}
 use Rattle.editions_c.proofs.used_length.Tie as tie
 

@@ -2,10 +2,9 @@
 -- The loop keeps that what is left to look at gives the answer; the measure is how much is left.
 use Rattle.image.proofs.Numbers.{read-through, read-all}
 use Rattle.image.proofs.Numbers.{read-past, read-none, read-more, fits-word}
-use Rattle.image.specs.Bytes.{numberAt, byteAt}
+use Rattle.image.specs.Bytes.{numberAt}
 use Rattle.image.specs.Reads.{Read}
-use Prim.Native.Nat.{ℕ, _+_, _-_, _*_, _<_, _≤_}
-use lib.ListN.{length, getD}
+use Prim.Native.Nat.{_+_, _-_, _*_, _≤_}
 use native.Mathlib.Omega.{arith}
 use borrow.Author.Needs.{needs}
 use Rattle.image.proofs.bytes.by_bytes.Statement.{statement}

@@ -1,7 +1,6 @@
 -- `image::bytes::le16` meets its contract.
 -- The definition is rewritten by what the calls ensure and by the tests on the way.
 use Rattle.image.proofs.Numbers.{read-past, number-two}
-use mathlib.Core.Path.{refl, sym, _∙_}
 use native.Mathlib.Omega.{arith}
 use borrow.Author.Needs.{needs}
 use Rattle.image.proofs.bytes.le16.Statement.{statement}

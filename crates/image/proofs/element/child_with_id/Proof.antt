@@ -2,8 +2,6 @@
 -- The loop keeps that what is left to look at gives the answer; the measure is how much is left.
 use Rattle.image.proofs.Compare.{is-eq, is-ne}
 use mathlib.Core.Path.{_≡_, refl, ap₂}
-use borrow.Author.Tests.{eq-eqb, ne-eqb}
-use lib.Dec.{eqb}
 use mathlib.Core.List.{List}
 use mathlib.Core.Bool.{true, false}
 use Rattle.image.specs.Reads.{Read}
@@ -12,8 +10,7 @@ use Rattle.image.proofs.Loops.{Rest, rest-none, first-more, first-found
 use Rattle.image.specs.Element.{hasId, childWithId}
 use Rattle.image.specs.Record.{idOf}
 use Rattle.image.specs.Ranges
-use Prim.Native.Nat.{ℕ, _+_, _-_, _*_, _<_, _≤_}
-use lib.ListN.{length, getD}
+use Prim.Native.Nat.{ℕ, _-_}
 use native.Mathlib.Omega.{arith}
 use borrow.Author.Needs.{needs}
 use Rattle.image.proofs.element.child_with_id.Statement.{statement}

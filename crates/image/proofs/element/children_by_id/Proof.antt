@@ -3,8 +3,7 @@
 use mathlib.Core.Path.{_∙_}
 use Rattle.image.proofs.ById.{filled-all}
 use Rattle.image.proofs.ById.{Filled, filled-none, filled-more}
-use Prim.Native.Nat.{ℕ, _+_, _-_, _*_, _<_, _≤_}
-use lib.ListN.{length, getD}
+use Prim.Native.Nat.{_-_}
 use native.Mathlib.Omega.{arith}
 use borrow.Author.Needs.{needs}
 use Rattle.image.proofs.element.children_by_id.Statement.{statement}

@@ -1,7 +1,6 @@
 -- `image::element::element_width` meets its contract.
 -- The definition is rewritten by what the calls ensure and by the tests on the way.
 use Rattle.image.specs.Element.{elementWidth}
-use native.Mathlib.Omega.{arith}
 use borrow.Author.Needs.{needs}
 use Rattle.image.proofs.element.element_width.Statement.{statement}
 use Rattle.image.proofs.element.element_width.Tie as tie

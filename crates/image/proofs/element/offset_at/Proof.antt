@@ -1,7 +1,6 @@
 -- `image::element::offset_at` meets its contract.
 -- The definition is rewritten by what the calls ensure and by the tests on the way.
 use Rattle.image.specs.Element.{elementAt, elementPlace}
-use native.Mathlib.Omega.{arith}
 use borrow.Author.Needs.{needs}
 use Rattle.image.proofs.element.offset_at.Statement.{statement}
 use Rattle.image.proofs.element.offset_at.Tie as tie

@@ -2,7 +2,6 @@
 -- The definition is rewritten by what the calls ensure and by the tests on the way.
 use borrow.Author.Tests.{eq-eqb, ne-eqb}
 use Rattle.image.specs.Types.{ordinaryCounts}
-use native.Mathlib.Omega.{arith}
 use borrow.Author.Needs.{needs}
 use Rattle.image.proofs.place.ordinary.Statement.{statement}
 use Rattle.image.proofs.place.ordinary.Tie as tie

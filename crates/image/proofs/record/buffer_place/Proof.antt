@@ -1,7 +1,6 @@
 -- `image::record::buffer_place` meets its contract.
 -- The definition is rewritten by what the calls ensure and by the tests on the way.
 use Rattle.image.specs.Record.{bufferPlace}
-use native.Mathlib.Omega.{arith}
 use borrow.Author.Needs.{needs}
 use Rattle.image.proofs.record.buffer_place.Statement.{statement}
 use Rattle.image.proofs.record.buffer_place.Tie as tie

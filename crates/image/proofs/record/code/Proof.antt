@@ -1,6 +1,5 @@
 -- `image::record::code` meets its contract.
 -- The definition is rewritten by what the calls ensure and by the tests on the way.
-use native.Mathlib.Omega.{arith}
 use borrow.Author.Needs.{needs}
 use Rattle.image.proofs.record.code.Statement.{statement}
 use Rattle.image.proofs.record.code.Tie as tie

@@ -1,7 +1,6 @@
 -- `image::record::has_bitmap` meets its contract.
 -- The definition is rewritten by what the calls ensure and by the tests on the way.
 use Rattle.image.specs.Record.{hasBitmap}
-use native.Mathlib.Omega.{arith}
 use borrow.Author.Needs.{needs}
 use Rattle.image.proofs.record.has_bitmap.Statement.{statement}
 use Rattle.image.proofs.record.has_bitmap.Tie as tie

@@ -1,7 +1,6 @@
 -- `image::record::is_nullable` meets its contract.
 -- The definition is rewritten by what the calls ensure and by the tests on the way.
 use Rattle.image.specs.Record.{nullable}
-use native.Mathlib.Omega.{arith}
 use borrow.Author.Needs.{needs}
 use Rattle.image.proofs.record.is_nullable.Statement.{statement}
 use Rattle.image.proofs.record.is_nullable.Tie as tie

@@ -1,6 +1,5 @@
 -- `image::record::node_entry` meets its contract.
 -- The definition is rewritten by what the calls ensure and by the tests on the way.
-use native.Mathlib.Omega.{arith}
 use borrow.Author.Needs.{needs}
 use Rattle.image.proofs.record.node_entry.Statement.{statement}
 use Rattle.image.proofs.record.node_entry.Tie as tie

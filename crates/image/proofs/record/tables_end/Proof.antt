@@ -1,7 +1,6 @@
 -- `image::record::tables_end` meets its contract.
 -- The definition is rewritten by what the calls ensure and by the tests on the way.
 use Rattle.image.specs.Record.{tablesEnd}
-use native.Mathlib.Omega.{arith}
 use borrow.Author.Needs.{needs}
 use Rattle.image.proofs.record.tables_end.Statement.{statement}
 use Rattle.image.proofs.record.tables_end.Tie as tie

@@ -4,6 +4,7 @@ use mathlib.Core.Path.{_≡_}
 use mathlib.Core.List.{List}
 use Prim.Native.Nat.{ℕ, _+_, _-_, _*_}
 use native.Mathlib.Nat.{zero-add}
+use Rattle.image.specs.Record.{recordSize}
 use Rattle.image.specs.Bytes.{numberAt}
 use Rattle.image.proofs.Loops.{Rising, rising-none, rising-more, rising-below, rising-above, rising-done}
 use Rattle.validate.specs.Strides.{numberIn}
@@ -28,10 +29,10 @@ loop-holds : tie.Need-loop-holds Inv-loop μ-loop
 loop-holds c = rising-none _ _ _ _ _ _
 
 mul-number : tie.Need-mul-number Inv-loop μ-loop
-mul-number c = omega (arith, stride-small (c .before .loop .k) (c .before .before .before .args .stride) 44 (omega arith) (c .before .before .before .pre .short))
+mul-number c = omega (arith, stride-small (c .before .loop .k) (c .before .before .before .args .stride) recordSize (omega arith) (c .before .before .before .pre .short))
 
 add-number : tie.Need-add-number Inv-loop μ-loop
-add-number c = omega (arith, stride-small (c .before .loop .k) (c .before .before .before .args .stride) 44 (omega arith) (c .before .before .before .pre .short))
+add-number c = omega (arith, stride-small (c .before .loop .k) (c .before .before .before .args .stride) recordSize (omega arith) (c .before .before .before .pre .short))
 
 number-requires : tie.Need-number-requires Inv-loop μ-loop
 number-requires c κs = search needs

@@ -9,7 +9,6 @@ use Rattle.image.specs.Bytes.{byteAt}
 use Rattle.image.specs.Faults.{nonzero, paddingNonzero}
 use Rattle.image.proofs.Loops.{Rest, rest-none, any-more, any-found, any-done}
 use Prim.Native.Nat.{ℕ, _-_}
-use lib.ListN.{length}
 use borrow.Author.Needs.{needs}
 use Rattle.validate.proofs.rows.padding_nonzero.Statement.{statement}
 use Rattle.validate.proofs.rows.padding_nonzero.Tie as tie

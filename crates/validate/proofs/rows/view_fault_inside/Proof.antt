@@ -4,7 +4,6 @@ use borrow.Author.Tests.{le-leb, lt-leb, lt-ltb, le-ltb}
 use Rattle.image.specs.Element.{viewLength, viewBuffer, viewOffset, viewData}
 use Rattle.image.specs.Faults.{viewFault, longViewFault}
 use Rattle.validate.proofs.ViewRows.{place-at, length-at, data-here}
-use native.Mathlib.Omega.{arith}
 use borrow.Author.Needs.{needs}
 use Rattle.validate.proofs.rows.view_fault_inside.Statement.{statement}
 use Rattle.validate.proofs.rows.view_fault_inside.Tie as tie

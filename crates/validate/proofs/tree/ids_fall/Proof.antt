@@ -6,7 +6,7 @@ use Prim.Native.Nat.{ℕ, _+_, _*_}
 use borrow.Author.Tests.{not-true, not-false}
 use Rattle.image.specs.Bytes.{byteAt, numberAt}
 use Rattle.image.specs.Ranges.{rises}
-use Rattle.image.specs.Record.{recordPlace, idOf}
+use Rattle.image.specs.Record.{headerSize, recordSize, recordPlace, idOf}
 use Rattle.image.specs.Faults.{idsRise}
 use Rattle.image.proofs.Loops.{rises-same}
 use Rattle.validate.specs.Strides.{numberIn}
@@ -16,14 +16,14 @@ use Rattle.validate.proofs.tree.ids_fall.Statement.{statement}
 use Rattle.validate.proofs.tree.ids_fall.Tie as tie
 
 -- the id of child k of those from node f on
-same-id : (s : List ℕ) (f place k : ℕ) → place ≡ recordPlace f + 2 → numberIn s place 44 1 (0 + k) ≡ idOf s (f + k)
+same-id : (s : List ℕ) (f place k : ℕ) → place ≡ recordPlace f + 2 → numberIn s place recordSize 1 (0 + k) ≡ idOf s (f + k)
 unfolding numberIn numberAt recordPlace
 same-id s f place k e =
-    let p : place + (0 + k) * 44 ≡ 4 + (f + k) * 44 + 2 = omega (arith, e) in
+    let p : place + (0 + k) * recordSize ≡ headerSize + (f + k) * recordSize + 2 = omega (arith, e) in
     omega (arith, ap (λ (i : ℕ). byteAt s i) p)
 
-same-ids : (s : List ℕ) (f place n : ℕ) → place ≡ recordPlace f + 2 → rises 1 (numberIn s place 44 1) 127 0 0 n ≡ rises 1 (idOf s) 127 0 f n
-same-ids s f place n e = rises-same 1 (numberIn s place 44 1) (idOf s) 127 0 0 f n (λ k. same-id s f place k e)
+same-ids : (s : List ℕ) (f place n : ℕ) → place ≡ recordPlace f + 2 → rises 1 (numberIn s place recordSize 1) 127 0 0 n ≡ rises 1 (idOf s) 127 0 f n
+same-ids s f place n e = rises-same 1 (numberIn s place recordSize 1) (idOf s) 127 0 0 f n (λ k. same-id s f place k e)
 
 code-requires : tie.Need-code-requires
 code-requires c κs = search needs

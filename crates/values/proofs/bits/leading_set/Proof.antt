@@ -6,8 +6,7 @@ use Rattle.values.proofs.Leads.{every-none}
 use Rattle.values.proofs.WordBits.{word-stops, word-more, word-ends}
 use mathlib.Core.Path.{_≡_}
 use mathlib.Core.Bool.{true}
-use Prim.Native.Nat.{ℕ, _+_, _-_, _*_, _<_, _≤_}
-use lib.ListN.{length, getD}
+use Prim.Native.Nat.{_-_, _≤_}
 use native.Mathlib.Omega.{arith}
 use borrow.Author.Needs.{needs}
 use Rattle.values.proofs.bits.leading_set.Statement.{statement}

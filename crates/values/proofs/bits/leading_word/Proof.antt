@@ -1,7 +1,6 @@
 -- `leading_word` counts the set bits of a word that is read.
 -- The bits of the word are those of the slice.
 use Rattle.values.proofs.WordBits.{leading-ones, leading-full}
-use native.Mathlib.Omega.{arith}
 use borrow.Author.Needs.{needs}
 use Rattle.values.proofs.bits.leading_word.Statement.{statement}
 use Rattle.values.proofs.bits.leading_word.Tie as tie

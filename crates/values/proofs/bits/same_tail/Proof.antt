@@ -1,8 +1,6 @@
 -- Fewer than 64 bits are the same.
 -- Two words cut off after n bits are equal where their first n pairs are.
 use Rattle.values.proofs.WordBits.{tails-same, one-shifted, one-positive}
-use mathlib.Core.Path.{sym, _∙_}
-use native.Mathlib.Omega.{arith}
 use borrow.Author.Needs.{needs}
 use Rattle.values.proofs.bits.same_tail.Statement.{statement}
 use Rattle.values.proofs.bits.same_tail.Tie as tie

@@ -11,12 +11,12 @@ buffer-place-requires c κs = search needs
 buffer-place-requires-2 : tie.Need-buffer-place-requires-2
 buffer-place-requires-2 c κs = search needs
 
-same-bits-requires : tie.Need-same-bits-requires
-same-bits-requires c κs = few-bits (c .before .before .before .before .pre .0) (c .before .buffer-place .ensures) (c .buffer-place2 .ensures)
+equal-bits-requires : tie.Need-equal-bits-requires
+equal-bits-requires c κs = few-bits (c .before .before .before .before .pre .0) (c .before .buffer-place .ensures) (c .buffer-place2 .ensures)
 
 returns : tie.Need-returns
-returns c = boolean-rows _ _ _ _ _ _ _ (c .before .before .buffer-place .ensures .value) (c .before .buffer-place2 .ensures .value) (c .same-bits .ensures)
+returns c = boolean-rows _ _ _ _ _ _ _ (c .before .before .buffer-place .ensures .value) (c .before .buffer-place2 .ensures .value) (c .equal-bits .ensures)
 
 pub boolean-equal-spec : {M : Type 1} → statement M
 boolean-equal-spec =
-    tie.close (tie.spec buffer-place-requires buffer-place-requires-2 same-bits-requires returns)
+    tie.close (tie.spec buffer-place-requires buffer-place-requires-2 equal-bits-requires returns)

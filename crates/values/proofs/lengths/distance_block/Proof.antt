@@ -4,10 +4,8 @@ use Rattle.values.proofs.Distances.{above-packed, above-read, above-few
 use Rattle.values.proofs.Steps.{all-none}
 use Rattle.values.specs.Pairs.{all, sameDistance}
 use mathlib.Core.Path.{_≡_}
-use Prim.Native.Nat.{ℕ, _+_, _-_, _*_, _<_, _≤_}
-use lib.ListN.{length, getD}
+use Prim.Native.Nat.{_-_, _≤_}
 use native.Mathlib.Omega.{arith}
-use borrow.Author.Needs.{needs}
 use Rattle.values.proofs.lengths.distance_block.Statement.{statement}
 use Rattle.values.proofs.lengths.distance_block.Tie as tie
 

@@ -6,10 +6,8 @@ use Rattle.values.specs.Pairs.{sameDistance}
 use borrow.Author.Tests.{not-true, not-false}
 use native.Mathlib.Nat.{le-refl}
 use mathlib.Core.Path.{sym, _∙_}
-use Prim.Native.Nat.{ℕ, _+_, _-_, _*_, _<_, _≤_}
-use lib.ListN.{length, getD}
+use Prim.Native.Nat.{_-_}
 use native.Mathlib.Omega.{arith}
-use borrow.Author.Needs.{needs}
 use Rattle.values.proofs.lengths.distances_equal.Statement.{statement}
 use Rattle.values.proofs.lengths.distances_equal.Tie as tie
 

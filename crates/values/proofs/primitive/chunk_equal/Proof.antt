@@ -5,7 +5,6 @@ use Rattle.values.proofs.ValidElements.{whole-rows}
 use Rattle.image.specs.Row.{fixedRow}
 use borrow.Author.Tests.{not-true, not-false}
 use mathlib.Core.Path.{sym, _∙_}
-use native.Mathlib.Omega.{arith}
 use borrow.Author.Needs.{needs}
 use Rattle.values.proofs.primitive.chunk_equal.Statement.{statement}
 use Rattle.values.proofs.primitive.chunk_equal.Tie as tie

@@ -1,7 +1,6 @@
 -- `columns_of` reads two nodes.
 -- Each field is what its reader says.
 use Rattle.values.proofs.ValidElements.{left-first, right-first, other-width}
-use native.Mathlib.Omega.{arith}
 use borrow.Author.Needs.{needs}
 use Rattle.values.proofs.primitive.columns_of.Statement.{statement}
 use Rattle.values.proofs.primitive.columns_of.Tie as tie

@@ -3,7 +3,6 @@
 use Rattle.values.proofs.Fixed.{same-length, fixed-block}
 use mathlib.Core.Path.{_∙_}
 use native.Mathlib.Omega.{arith}
-use borrow.Author.Needs.{needs}
 use Rattle.values.proofs.primitive.elements_equal.Statement.{statement}
 use Rattle.values.proofs.primitive.elements_equal.Tie as tie
 

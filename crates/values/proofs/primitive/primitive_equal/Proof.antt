@@ -1,8 +1,6 @@
 -- `values::primitive::primitive_equal` meets its contract.
 -- The definition is rewritten by what the calls ensure and by the tests on the way.
 use Rattle.values.proofs.Fixed.{parts-fixed}
-use native.Mathlib.Omega.{arith}
-use borrow.Author.Needs.{needs}
 use Rattle.values.proofs.primitive.primitive_equal.Statement.{statement}
 use Rattle.values.proofs.primitive.primitive_equal.Tie as tie
 

@@ -1,8 +1,5 @@
 -- `valid_equal` has a loop for each of four widths, and one for the others.
 -- Each is the loop for any width.
-use mathlib.Core.Path.{_≡_}
-use native.Mathlib.Omega.{arith}
-use borrow.Author.Needs.{needs}
 use Rattle.values.proofs.primitive.valid_equal.Statement.{statement}
 use Rattle.values.proofs.primitive.valid_equal.Tie as tie
 

@@ -3,11 +3,9 @@
 use Rattle.values.proofs.ValidElements.{element-room, more-pairs, valid-test}
 use Rattle.values.proofs.Steps.{all-none}
 use Rattle.values.specs.Pairs.{all, validSame}
-use mathlib.Core.Path.{_≡_, _∙_}
-use Prim.Native.Nat.{ℕ, _+_, _-_, _*_, _<_, _≤_}
-use lib.ListN.{length, getD}
+use mathlib.Core.Path.{_≡_}
+use Prim.Native.Nat.{_-_, _≤_}
 use native.Mathlib.Omega.{arith}
-use borrow.Author.Needs.{needs}
 use Rattle.values.proofs.primitive.valid_same.Statement.{statement}
 use Rattle.values.proofs.primitive.valid_same.Tie as tie
 

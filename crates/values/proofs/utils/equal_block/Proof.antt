@@ -3,8 +3,7 @@
 use Rattle.values.proofs.Steps.{all-none, all-snoc}
 use Rattle.values.specs.Pairs.{all, sameByte}
 use mathlib.Core.Path.{_≡_}
-use Prim.Native.Nat.{ℕ, _+_, _-_, _*_, _<_, _≤_}
-use lib.ListN.{length, getD}
+use Prim.Native.Nat.{_-_, _≤_}
 use native.Mathlib.Omega.{arith}
 use borrow.Author.Needs.{needs}
 use Rattle.values.proofs.utils.equal_block.Statement.{statement}

@@ -54,8 +54,8 @@ bitmap-place-requires-3 c κs = search needs
 first-bit-requires-3 : tie.Need-first-bit-requires-3
 first-bit-requires-3 c κs = search needs
 
-add-same-bits : tie.Need-add-same-bits
-add-same-bits c = search needs
+add-equal-bits : tie.Need-add-equal-bits
+add-equal-bits c = search needs
 
 bitmap-place-requires-4 : tie.Need-bitmap-place-requires-4
 bitmap-place-requires-4 c κs = search needs
@@ -63,14 +63,14 @@ bitmap-place-requires-4 c κs = search needs
 first-bit-requires-4 : tie.Need-first-bit-requires-4
 first-bit-requires-4 c κs = search needs
 
-add-same-bits-2 : tie.Need-add-same-bits-2
-add-same-bits-2 c = search needs
+add-equal-bits-2 : tie.Need-add-equal-bits-2
+add-equal-bits-2 c = search needs
 
-same-bits-requires : tie.Need-same-bits-requires
-same-bits-requires c κs = search needs
+equal-bits-requires : tie.Need-equal-bits-requires
+equal-bits-requires c κs = search needs
 
 returns-4 : tie.Need-returns-4
-returns-4 c = masks-both _ _ _ _ _ _ _ (c .before .before .before .before .before .before .before .before .has-bitmap .ensures) (c .before .before .before .before .before .before .has-bitmap3 .ensures) (not-false _ (c .before .before .before .before .before .before .before .if1 .left)) (not-false _ (c .before .before .before .before .before .if3 .left)) (c .before .before .before .before .bitmap-place3 .ensures) (c .before .before .before .first-bit3 .ensures) (c .before .before .bitmap-place4 .ensures) (c .before .first-bit4 .ensures) (c .same-bits .ensures)
+returns-4 c = masks-both _ _ _ _ _ _ _ (c .before .before .before .before .before .before .before .before .has-bitmap .ensures) (c .before .before .before .before .before .before .has-bitmap3 .ensures) (not-false _ (c .before .before .before .before .before .before .before .if1 .left)) (not-false _ (c .before .before .before .before .before .if3 .left)) (c .before .before .before .before .bitmap-place3 .ensures) (c .before .before .before .first-bit3 .ensures) (c .before .before .bitmap-place4 .ensures) (c .before .first-bit4 .ensures) (c .equal-bits .ensures)
 
 pub equal-nulls-spec : {M : Type 1} → statement M
 equal-nulls-spec =
@@ -92,9 +92,9 @@ equal-nulls-spec =
     returns-3
     bitmap-place-requires-3
     first-bit-requires-3
-    add-same-bits
+    add-equal-bits
     bitmap-place-requires-4
     first-bit-requires-4
-    add-same-bits-2
-    same-bits-requires
+    add-equal-bits-2
+    equal-bits-requires
     returns-4)

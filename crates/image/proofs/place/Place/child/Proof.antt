@@ -1,7 +1,6 @@
 -- `image::place::Place::child` meets its contract.
 -- The definition is rewritten by what the calls ensure and by the tests on the way.
 use borrow.Author.Tests.{eq-eqb, ne-eqb}
-use native.Mathlib.Omega.{arith}
 use borrow.Author.Needs.{needs}
 use Rattle.image.proofs.place.Place.child.Statement.{statement}
 use Rattle.image.proofs.place.Place.child.Tie as tie

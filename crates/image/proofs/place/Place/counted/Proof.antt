@@ -1,7 +1,6 @@
 -- `image::place::Place::counted` meets its contract.
 -- The definition is rewritten by what the calls ensure and by the tests on the way.
 use borrow.Author.Tests.{eq-eqb, ne-eqb}
-use native.Mathlib.Omega.{arith}
 use borrow.Author.Needs.{needs}
 use Rattle.image.proofs.place.Place.counted.Statement.{statement}
 use Rattle.image.proofs.place.Place.counted.Tie as tie

@@ -1,8 +1,8 @@
 -- `TypeCode::is_union` answers as the definition does.
 -- Each range of codes between the code's tests is one test over that range.
+use mathlib.Core.List.{[]}
 use native.Mathlib.Omega.{arith}
 use mathlib.Core.Path.{refl}
-use mathlib.Core.List.{[]}
 use Rattle.image.proofs.CodeTable.{constant}
 use mathlib.Core.Bool.{true, false}
 use Rattle.image.specs.TypeCode.{isUnion}

@@ -1,9 +1,9 @@
 -- `TypeCode::p2_fits` answers as the definition does.
 -- Whether a code is a decimal's is one test over each range of codes; then the code's tests are the definition's.
+use mathlib.Core.List.{[]}
 use native.Mathlib.Omega.{arith}
 use borrow.Author.Tests.{lt-ltb, le-ltb}
 use mathlib.Core.Bool.{true, false}
-use mathlib.Core.List.{[]}
 use mathlib.Core.Logic.{⊎-elim}
 use mathlib.Core.Path.{_≡_, refl}
 use Prim.Native.Nat.{ℕ, _≤_, _<_}

@@ -8,8 +8,8 @@ use Rattle.values.proofs.Words.{words-same, words-differ}
 use Prim.Native.Nat.{_-_}
 use native.Mathlib.Omega.{arith}
 use borrow.Author.Needs.{needs}
-use Rattle.values.proofs.bits.same_bits.Statement.{statement}
-use Rattle.values.proofs.bits.same_bits.Tie as tie
+use Rattle.values.proofs.bits.equal_bits.Statement.{statement}
+use Rattle.values.proofs.bits.equal_bits.Tie as tie
 
 abbrev Inv-loop : tie.InvT-loop
 Inv-loop a p i b q j n m whole k₀ k = Left (sameBit a p b q) i j n k
@@ -110,8 +110,8 @@ same-tail-requires-2 c κs = search needs
 returns-4 : tie.Need-returns-4 Inv-loop μ-loop
 returns-4 c = left-rest _ _ _ _ _ (c .before .before .loop .inv) (c .same-tail2 .ensures)
 
-pub same-bits-spec : {M : Type 1} → statement M
-same-bits-spec =
+pub equal-bits-spec : {M : Type 1} → statement M
+equal-bits-spec =
     tie.close
     (tie.spec
     Inv-loop
