@@ -23,4 +23,4 @@ spanned s k j n w p r ew ep =
     record { place = rw (ew, ep); size = rw ew; inside = rw (ew, ep) (omega arith) }
 
 pub spanned-small : (s : List ℕ) (k j n w p : ℕ) → Elements s k j n → w ≡ elementWidth s k → p ≡ bufferPlace s k 0 → p + j * w + n * w ≤ 16777216
-spanned-small s k j n w p r ew ep = omega (arith, spanned s k j n w p r ew ep .inside, r .image .size)
+spanned-small s k j n w p r ew ep = omega (arith, spanned s k j n w p r ew ep .inside, r .image .tables .size)

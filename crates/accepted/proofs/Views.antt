@@ -32,10 +32,10 @@ module _ {s : List ℕ} {k v len : ℕ} (r : Viewed s k v len) (long : 12 < len)
 
   pub entry-inside : e + (1 + b) * 8 + 4 ≤ length s
   unfolding tablesEnd entryPlace
-  entry-inside = omega (arith, ee, data-buffer, r .image .tables, r .image .node k (r .node) .buffers .ends)
+  entry-inside = omega (arith, ee, data-buffer, r .image .tables .inside, r .image .node k (r .node) .buffers .ends)
 
   pub entry-small : e + (1 + b) * 8 < 2 ^ 64
-  entry-small = omega (arith, entry-inside, r .image .size)
+  entry-small = omega (arith, entry-inside, r .image .tables .size)
 
   entry : entryPlace s (firstBuffer s k + (1 + b)) ≡ e + (1 + b) * 8
   unfolding entryPlace

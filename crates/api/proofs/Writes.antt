@@ -26,7 +26,7 @@ use Rattle.api.proofs.Answers.{within}
 pub table-side : (s : List ℕ) (i n : ℕ) → checkImage s ≡ Accepted → exceeds s i n ≡ false → Side s 0 i n
 table-side s i n is inside =
     let image = accepted s is in
-    record { image = image; node = omega (arith, image .some-nodes); rows = within s i n inside }
+    record { image = image; node = omega (arith, image .tables .some-nodes); rows = within s i n inside }
 
 module _ (s : List ℕ) (i n : ℕ) (out : List ℕ) where
   abbrev bytes : List ℕ

@@ -17,8 +17,8 @@ use Rattle.values.specs.Parts.{Sides}
 -- ranges of two tables
 pub table-sides : (a b : List ℕ) (i j n : ℕ) → AcceptedImage a → AcceptedImage b → typesAgree a b ≡ true → i + n ≤ lengthOf a 0 → j + n ≤ lengthOf b 0 → Sides a b 0 0 i j n 16
 table-sides a b i j n left right types li lj = record {
-  left = record { image = left; node = omega (arith, left .some-nodes); rows = li };
-  right = record { image = right; node = omega (arith, right .some-nodes); rows = lj };
+  left = record { image = left; node = omega (arith, left .tables .some-nodes); rows = li };
+  right = record { image = right; node = omega (arith, right .tables .some-nodes); rows = lj };
   alike = types-alike a b left types;
 }
 

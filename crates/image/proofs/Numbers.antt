@@ -1,18 +1,18 @@
 -- Laws of little-endian numbers: 0 past the end, a byte more makes the next, four and eight bytes written out, many side by side.
 -- By induction over the width; the bounds by powers of 2 and products.
 use mathlib.Core.Path.{_≡_, refl, sym, ap, _∙_}
-use mathlib.Core.Bool.{false}
+use mathlib.Core.Bool.{Bool, true, false, true≢false, _||_}
 use mathlib.Core.List.{List}
-use mathlib.Core.Logic.{_⊎_, inl, inr}
 use Prim.Native.Nat.{ℕ, zero, suc, _+_, _*_, _-_, _/_, _%_, _<_, _≤_, _^_}
 use native.Mathlib.Omega.{arith}
-use native.Mathlib.Nat.{pow-le-pow-right, zero-div, mul-le-mul, le-refl, suc-mul}
+use native.Mathlib.Nat.{pow-le-pow-right, zero-div, mul-le-mul, le-refl, suc-mul, add-mul}
 use lib.Pow.{pow-add}
 use native.Mathlib.Numerals.{add-one, add-two, add-three}
-use lib.Dec.{lit<}
+use lib.Dec.{eqb, leb, lit<}
 use lib.ListN.{length, List·getD-eq-default}
+use borrow.Author.Tests.{eqb-true, ne-eqb, leb-true, leb-false}
 use Rattle.image.specs.Bytes.{byteAt, numberAt, bitAt}
-use Rattle.image.specs.Reads.{Read, Packed}
+use Rattle.image.specs.Reads.{Read, isWidth, Packed}
 
 pub byte-past : (s : List ℕ) (i : ℕ) → length s ≤ i → byteAt s i ≡ 0
 byte-past s i le = List·getD-eq-default s 0 {n = i} le
@@ -94,29 +94,58 @@ times-small j w few narrow =
     let le : j ≤ 2 ^ 40 = omega arith in
     mul-le-mul le narrow
 
+-- integers have one to eight bytes
+pub width-some : (w : ℕ) → isWidth w ≡ true → 1 ≤ w
+unfolding isWidth
+width-some zero e = absurd (true≢false (sym e))
+width-some (suc w) e = omega arith
+
+pub width-most : (w : ℕ) → isWidth w ≡ true → w ≤ 8
+unfolding isWidth
+width-most w e = cases (leb w 8) refl
+  where
+    cases : (b : Bool) → leb w 8 ≡ b → w ≤ 8
+    cases true le = leb-true w 8 le
+    cases false gt =
+        let lt : 8 < w = leb-false w 8 gt in
+        let none : false ≡ true = rw (ne-eqb w 1 (λ q. omega arith), ne-eqb w 2 (λ q. omega arith), ne-eqb w 4 (λ q. omega arith), ne-eqb w 8 (λ q. omega arith)) at e in
+        absurd (true≢false (sym none))
+
 -- numbers that lie side by side inside n bytes: there are at most n, fewer lie inside too, and so does each of them
 pub packed-few : {n place w count : ℕ} → Packed n place w count → count ≤ n
-packed-few {n} {place} {w} {count} p = cases (p .whole)
-  where
-    cases : (w ≡ 4) ⊎ (w ≡ 8) → count ≤ n
-    cases (inl e) =
-        let h : place + count * 4 ≤ n = rw (← e) (p .inside) in
-        omega arith
-    cases (inr e) =
-        let h : place + count * 8 ≤ n = rw (← e) (p .inside) in
-        omega arith
+packed-few {n} {place} {w} {count} p =
+    let h : count * 1 ≤ count * w = mul-le-mul (le-refl count) (width-some w (p .width)) in
+    omega (arith, p .inside)
 
 pub packed-fewer : {n place w count : ℕ} (m : ℕ) → m ≤ count → Packed n place w count → Packed n place w m
 packed-fewer {n} {place} {w} {count} m le p =
     let h : m * w ≤ count * w = mul-le-mul le (le-refl w) in
-    record { whole = p .whole; inside = omega (arith, p .inside) }
+    record { width = p .width; inside = omega (arith, p .inside) }
+
+-- those past the first o stand from o widths further on
+pub packed-from : {n place w count : ℕ} (o m : ℕ) → o + m ≤ count → Packed n place w count → Packed n (place + o * w) w m
+packed-from {n} {place} {w} {count} o m le p =
+    let h : (o + m) * w ≤ count * w = mul-le-mul le (le-refl w) in
+    let e : (o + m) * w ≡ o * w + m * w = add-mul o m w in
+    record { width = p .width; inside = omega (arith, p .inside) }
 
 pub packed-last : {n place w : ℕ} (j : ℕ) → Packed n place w (j + 1) → place + j * w + w ≤ n
 packed-last {n} {place} {w} j p =
     let h : (j + 1) * w ≡ j * w + w = rw (add-one j) (suc-mul j w) in
     omega (arith, p .inside)
 
--- a width of 4 or 8 that is not 4
-pub not-four : {w : ℕ} → (w ≡ 4) ⊎ (w ≡ 8) → (w ≡ 4 → ⊥) → w ≡ 8
-not-four (inl e) ne = absurd (ne e)
-not-four (inr e) ne = e
+-- a number of one byte
+pub read-byte : {w b r : ℕ} (s : List ℕ) (i : ℕ) → w ≡ 1 → b ≡ byteAt s i → Read b 8 r → Read (numberAt w s i) (8 * w) r
+unfolding numberAt
+read-byte s i e at p = rw e (record { value = omega (arith, p .value, at); small = p .small })
+
+-- a width that is not 4, 8 or 2 is 1
+pub width-one : {w : ℕ} → isWidth w ≡ true → (w ≡ 4 → ⊥) → (w ≡ 8 → ⊥) → (w ≡ 2 → ⊥) → w ≡ 1
+unfolding isWidth
+width-one {w} e four eight two =
+    let h : eqb w 1 || false || false || false ≡ true = rw (ne-eqb w 2 two, ne-eqb w 4 four, ne-eqb w 8 eight) at e in
+    one (eqb w 1) refl h
+  where
+    one : (b : Bool) → eqb w 1 ≡ b → b || false || false || false ≡ true → w ≡ 1
+    one true q h = eqb-true w 1 q
+    one false q h = cc

@@ -14,6 +14,7 @@ use Rattle.image.specs.declared.type_code.Layout.{Layout}
 use Rattle.image.specs.declared.type_code.Layout.the-variants.{Null, VariableSize, View, List as Lists, ListView, Dictionary}
 use Rattle.image.proofs.type_code.Layout.{the-type}
 use Rattle.image.specs.Ranges.{every}
+use Rattle.image.specs.Reads.{isWidth}
 use Rattle.image.specs.TypeCode.{Entry, entry, entries, entryOf, layoutOf, integerWidth, widthOf}
 use Rattle.image.proofs.Bools.{when-true, and-left, and-right, facts}
 use Rattle.image.proofs.Ranges.{every-below}
@@ -104,3 +105,14 @@ unfolding integerWidth
 integer-width-least code =
     at-least (eqb code 2 || eqb code 6) _ _ 1 (lit≤ tt)
     (at-least (eqb code 3 || eqb code 7) _ _ 1 (lit≤ tt) (at-least (eqb code 4 || eqb code 8) _ _ 1 (lit≤ tt) (lit≤ tt)))
+
+-- it is one of the widths that integers have
+pub integer-is-width : (code : ℕ) → isWidth (integerWidth code) ≡ true
+unfolding integerWidth isWidth
+integer-is-width code = cases (eqb code 2 || eqb code 6) (eqb code 3 || eqb code 7) (eqb code 4 || eqb code 8)
+  where
+    cases : (a b c : Bool) → isWidth (cond a 1 (cond b 2 (cond c 4 8))) ≡ true
+    cases true b c = refl
+    cases false true c = refl
+    cases false false true = refl
+    cases false false false = refl

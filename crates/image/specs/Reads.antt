@@ -1,9 +1,9 @@
 -- What a reader's contract says of its result.
 use mathlib.Core.Path.{_≡_}
-use mathlib.Core.Bool.{Bool}
+use mathlib.Core.Bool.{Bool, true, _||_}
 use mathlib.Core.List.{List}
-use mathlib.Core.Logic.{_⊎_}
 use Prim.Native.Nat.{ℕ, _+_, _*_, _<_, _≤_, _^_}
+use lib.Dec.{eqb}
 use lib.ListN.{length, getD}
 use Rattle.image.specs.declared.element.EndsAt.{EndsAt}
 use Rattle.image.specs.Record.{hasBitmap, bitmapPlace, firstBit, firstChild, offsetOf, bufferPlace}
@@ -20,9 +20,13 @@ pub record Nth (place w j : ℕ) : Type 0 where
   pub narrow : w ≤ 8
   pub few : j < 2 ^ 40
 
--- of n bytes those from a place on hold so many numbers of w bytes, and w is 4 or 8
+-- a width that integers have
+unfoldable pub isWidth : ℕ → Bool
+isWidth w = eqb w 1 || eqb w 2 || eqb w 4 || eqb w 8
+
+-- of n bytes those from a place on hold so many integers of w bytes
 pub record Packed (n place w count : ℕ) : Type 0 where
-  pub whole : (w ≡ 4) ⊎ (w ≡ 8)
+  pub width : isWidth w ≡ true
   pub inside : place + count * w ≤ n
 
 -- a table of the children of union k by their type ids: entry id is the child that has it, or the children's end

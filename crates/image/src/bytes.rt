@@ -121,15 +121,22 @@ pub fn nth(s: &[u8], place: usize, w: usize, j: usize) -> usize
     number(s, place + j * w, w)
 }
 
-// The same where w is 4 or 8 and the number lies inside: no test but that of w, which a loop makes once.
+// The same where w is 1, 2, 4 or 8 and the number lies inside: no test but those of w, which a loop makes once.
 pub fn nth_inside(s: &[u8], place: usize, w: usize, j: usize) -> usize
     requires { ⌜ Packed (length (now s)) place w (j + 1) ⌝ }
     ensures { λ r. ⌜ Read (numberAt w (now (s .entry)) (place + j * w)) (8 * w) r ⌝ }
 {
+    let i = place + j * w;
     if w == 4 {
-        return quad(s, place + j * w);
+        return quad(s, i);
     }
-    octet(s, place + j * w)
+    if w == 8 {
+        return octet(s, i);
+    }
+    if w == 2 {
+        return pair(s, i);
+    }
+    wide(s[i])
 }
 
 // Bit j of the bits that start at a place.

@@ -14,9 +14,9 @@ ghost use Rattle.image.specs.Record.{recordSize, nodeCount, bufferTotal,
 pub const MAX_DEPTH: usize = 16;
 
 // The sizes of the header, of a node's record and of a buffer's entry.
-const HEADER_SIZE: usize = 4;
+pub const HEADER_SIZE: usize = 4;
 
-pub const RECORD_SIZE: usize = 44;
+const RECORD_SIZE: usize = 44;
 
 pub const ENTRY_SIZE: usize = 8;
 
@@ -79,18 +79,11 @@ pub fn flags(image: &[u8], node: u32) -> u8
     field8(image, node, 1)
 }
 
-// Where the type id of a node stands.
-pub fn id_place(node: u32) -> usize
-    ensures { λ r. ⌜ Read (recordPlace node + 2) 39 r ⌝ }
-{
-    record_place(node) + 2
-}
-
 // The type id of a union's child.
 pub fn type_id(image: &[u8], node: u32) -> u8
     ensures { λ r. ⌜ Read (idOf (now (image .entry)) node) 8 r ⌝ }
 {
-    byte(image, id_place(node))
+    field8(image, node, 2)
 }
 
 // The length of the node's name.

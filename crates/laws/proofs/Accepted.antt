@@ -1,4 +1,4 @@
--- What acceptance gives, from the image check.
+-- What the check gives, number by number, and all of it where an image is accepted.
 -- A test that says false is a fact; each number's tests give that number's record.
 use mathlib.Core.Path.{_≡_, refl}
 use mathlib.Core.Bool.{Bool, true, false, not, _||_}
@@ -21,8 +21,8 @@ use Rattle.image.specs.Faults.{fault, fault10, fault11, fault12, fault13, fault
 use Rattle.image.proofs.Bools.{facts, or-left, or-right, and-fails}
 use Rattle.image.proofs.Ranges.{any-false, any-below, sum-next, rises-least, rises-top, rises-apart, first-from, first-at-most, first-passes}
 use Rattle.image.proofs.Widths.{variable-width, view-width, list-width, list-view-width, key-width}
-use Rattle.laws.specs.Accepted.{Known, Widths, Ids, RunEnds, Entries, Tree, Named, Buffers, Enough, Children, OffsetsRise, Places, IdKnown, ViewInside, RunsCover, NodeRows, Node, AcceptedImage}
-use Rattle.laws.proofs.NoFault.{no-fault, no-fault10}
+use Rattle.laws.specs.Accepted.{Known, Widths, Ids, RunEnds, Entries, Tree, Named, Buffers, Enough, Children, OffsetsRise, Places, IdKnown, ViewInside, RunsCover, NodeRows, AcceptedImage, NoneBelow, Tables}
+use Rattle.laws.proofs.NoFault.{accepted-none}
 use Rattle.laws.proofs.Codes.{runs-code, run-end-width}
 
 -- no bitmap, no null
@@ -297,39 +297,71 @@ rows s k e c = record {
       runs-cover s k (h .0) (h .1) (c .runs l);
 }
 
-module _ (s : List ℕ) (accepts : checkImage s ≡ Accepted) where
-  node : 0 < nodeCount s → (k : ℕ) → k < nodeCount s → Node s k
+-- What the numbers below one give: of the whole image, and of node k.
+pub tables : {number : ℕ} {s : List ℕ} → NoneBelow number s → Tables s
+unfolding fault10
+tables b =
+    let h = simp facts at (b .image) in
+    record { header = omega arith; size = omega arith; some-nodes = omega arith; few-nodes = omega arith; few-buffers = omega arith; inside = omega arith }
+
+module _ {number : ℕ} {s : List ℕ} (b : NoneBelow number s) where
+  child-sum : 12 < number → childStart s (nodeCount s) ≡ nodeCount s
   unfolding fault
-  node some k lt =
-      let children-total = child-total s (no-fault s accepts 12 (omega arith) (omega arith) 0 some) in
-      let buffers-total = buffer-total s (no-fault s accepts 14 (omega arith) (omega arith) 0 some) in
-      let codes = known s k (no-fault s accepts 11 (omega arith) (omega arith) k lt) in
-      let lengths = children s k (no-fault s accepts 16 (omega arith) (omega arith) k lt) in
-      record {
-        known = codes;
-        widths = widths s k;
-        tree = tree s k (no-fault s accepts 12 (omega arith) (omega arith) k lt) lt children-total;
-        named = named s k (no-fault s accepts 13 (omega arith) (omega arith) k lt);
-        buffers = buffers s k (no-fault s accepts 14 (omega arith) (omega arith) k lt) lt buffers-total;
-        enough = enough s k (no-fault s accepts 15 (omega arith) (omega arith) k lt);
-        children = lengths;
-        places = places s k (no-fault s accepts 17 (omega arith) (omega arith) k lt);
-        rows = rows s k (no-fault s accepts 18 (omega arith) (omega arith) k lt) lengths;
-      }
+  child-sum lt = child-total s (b .nodes 12 (omega arith) lt 0 (omega (arith, tables b .some-nodes)))
+
+  buffer-sum : 14 < number → bufferStart s (nodeCount s) ≡ bufferTotal s
+  unfolding fault
+  buffer-sum lt = buffer-total s (b .nodes 14 (omega arith) lt 0 (omega (arith, tables b .some-nodes)))
+
+  module _ (k : ℕ) (node : k < nodeCount s) where
+    pub after-11 : 11 < number → Known s k
+    unfolding fault
+    after-11 lt = known s k (b .nodes 11 (omega arith) lt k node)
+
+    pub after-12 : 12 < number → Tree s k
+    unfolding fault
+    after-12 lt = tree s k (b .nodes 12 (omega arith) lt k node) node (child-sum lt)
+
+    after-13 : 13 < number → Named s k
+    unfolding fault
+    after-13 lt = named s k (b .nodes 13 (omega arith) lt k node)
+
+    pub after-14 : 14 < number → Buffers s k
+    unfolding fault
+    after-14 lt = buffers s k (b .nodes 14 (omega arith) lt k node) node (buffer-sum lt)
+
+    pub after-15 : 15 < number → Enough s k
+    unfolding fault
+    after-15 lt = enough s k (b .nodes 15 (omega arith) lt k node)
+
+    after-16 : 16 < number → Children s k
+    unfolding fault
+    after-16 lt = children s k (b .nodes 16 (omega arith) lt k node)
+
+    after-17 : 17 < number → Places s k
+    unfolding fault
+    after-17 lt = places s k (b .nodes 17 (omega arith) lt k node)
+
+    after-18 : 18 < number → NodeRows s k
+    unfolding fault
+    after-18 lt = rows s k (b .nodes 18 (omega arith) lt k node) (after-16 (omega arith))
 
 pub accepted : (s : List ℕ) → checkImage s ≡ Accepted → AcceptedImage s
-unfolding fault10 fault
 accepted s accepts =
-    let h = simp facts at (no-fault10 s accepts) in
-    let some : 0 < nodeCount s = omega arith in
+    let none = accepted-none s accepts in
     record {
-      header = omega arith;
-      size = omega arith;
-      some-nodes = omega arith;
-      few-nodes = omega arith;
-      few-buffers = omega arith;
-      tables = omega arith;
-      child-total = child-total s (no-fault s accepts 12 (omega arith) (omega arith) 0 some);
-      buffer-total = buffer-total s (no-fault s accepts 14 (omega arith) (omega arith) 0 some);
-      node = node s accepts some;
+      tables = tables none;
+      child-total = child-sum none (omega arith);
+      buffer-total = buffer-sum none (omega arith);
+      node = λ k node. record {
+        known = after-11 none k node (omega arith);
+        widths = widths s k;
+        tree = after-12 none k node (omega arith);
+        named = after-13 none k node (omega arith);
+        buffers = after-14 none k node (omega arith);
+        enough = after-15 none k node (omega arith);
+        children = after-16 none k node (omega arith);
+        places = after-17 none k node (omega arith);
+        rows = after-18 none k node (omega arith);
+      };
     }

@@ -84,7 +84,7 @@ root-alike (suc d) a b k l image node e =
 -- images whose types agree
 pub types-alike : (a b : List ℕ) → AcceptedImage a → typesAgree a b ≡ true → Alike 16 a b 0 0
 unfolding typesAgree
-types-alike a b image e = root-alike 16 a b 0 0 image (omega (arith, image .some-nodes)) e
+types-alike a b image e = root-alike 16 a b 0 0 image (omega (arith, image .tables .some-nodes)) e
 
 -- nodes of one code and p1 have elements of one width
 pub same-width : (a b : List ℕ) (k l : ℕ) → codeOf a k ≡ codeOf b l → p1Of a k ≡ p1Of b l → elementWidth a k ≡ elementWidth b l

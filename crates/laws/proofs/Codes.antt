@@ -9,12 +9,13 @@ use native.Mathlib.Omega.{arith}
 use lib.Dec.{eqb, leb}
 use borrow.Author.Tests.{eqb-true, le-leb}
 use Rattle.image.specs.declared.type_code.Layout.{Layout}
-use Rattle.image.specs.declared.type_code.Layout.the-variants.{VariableSize, List as Lists, DenseUnion, SparseUnion, Runs}
+use Rattle.image.specs.declared.type_code.Layout.the-variants.{FixedWidth, VariableSize, List as Lists, DenseUnion, SparseUnion, Runs}
 use Rattle.image.specs.Ranges.{every}
 use Rattle.image.specs.Record.{codeOf, p1Of}
 use Rattle.image.specs.Element.{elementWidth}
 use Rattle.image.specs.TypeCode.{entries, entryOf, layoutOf, isUnion, integerWidth, widthOf}
 use Rattle.image.proofs.Bools.{when-true, and-true}
+use Rattle.image.proofs.CodeTable.{agree}
 use Rattle.image.proofs.Ranges.{every-below}
 use Rattle.image.proofs.Widths.{codesOf, code-passes, ownWidth, own-width}
 
@@ -39,6 +40,11 @@ pub run-end-width : (code p1 : ℕ) → 3 ≤ code → code ≤ 5 → integerWid
 run-end-width code p1 low high =
     let test = and-true (leb 3 code) (leb code 5) (le-leb 3 code low) (le-leb code 5 high) in
     eqb-true _ _ (own-width (eqb (integerWidth code)) code p1 (when-true (leb 3 code && leb code 5) _ (every-below _ 44 run-end-codes code (omega arith)) test))
+
+-- they are of fixed width
+pub run-end-layout : (code : ℕ) → 3 ≤ code → code ≤ 5 → layoutOf code ≡ FixedWidth
+unfolding layoutOf entryOf entries
+run-end-layout code low high = agree layoutOf (λ (c : ℕ). FixedWidth) 3 3 refl code low (omega arith)
 
 -- offsets of texts and of lists have 4 or 8 bytes
 either-width : (w : ℕ) → eqb w 4 || eqb w 8 ≡ true → (w ≡ 4) ⊎ (w ≡ 8)

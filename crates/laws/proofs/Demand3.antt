@@ -25,7 +25,7 @@ use Rattle.laws.proofs.OneShape.{one-shape}
 table-fits : (s : List ℕ) (i n : ℕ) → AcceptedImage s → i + n ≤ lengthOf s 0 → fitAll (tableRows s i n) (shapeOf 16 s 0) ≡ true
 unfolding tableRows
 table-fits s i n image within =
-    range-fits (rowAt 16 s 0) (shapeOf 16 s 0) i n (λ c from end. stored-fits 16 s 0 c image (omega (arith, image .some-nodes)) (omega arith))
+    range-fits (rowAt 16 s 0) (shapeOf 16 s 0) i n (λ c from end. stored-fits 16 s 0 c image (omega (arith, image .tables .some-nodes)) (omega arith))
 
 table-count : (s : List ℕ) (i n : ℕ) → count (tableRows s i n) ≡ n
 unfolding tableRows
@@ -35,7 +35,7 @@ module _ (s t : List ℕ) (i j n : ℕ) (w : WrittenRanges s t i j n) where
   root-shape : shapeOf 16 s 0 ≡ shapeOf 16 t 0
   root-shape =
       let image = accepted s (w .left) in
-      one-shape 16 s t 0 0 image (omega (arith, image .some-nodes)) (types-alike s t image (w .types))
+      one-shape 16 s t 0 0 image (omega (arith, image .tables .some-nodes)) (types-alike s t image (w .types))
 
   -- what begins with both outputs holds the same rows, and goes on in the same way
   ranges-back : (x y : List ℕ) → rangeBytes s i n ++ x ≡ rangeBytes t j n ++ y → (tableRows s i n ≡ tableRows t j n) × (x ≡ y)

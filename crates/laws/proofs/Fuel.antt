@@ -82,7 +82,7 @@ module _ (s : List ℕ) (a : AcceptedImage s) where
 -- an accepted image never runs out of depth
 pub row-deeper : (s : List ℕ) → AcceptedImage s → (m i : ℕ) → rowAt (16 + m) s 0 i ≡ rowAt 16 s 0 i
 unfolding levelEnd
-row-deeper s a m i = depth-enough s a 16 0 (omega arith) 0 (omega arith) (omega (arith, a .some-nodes)) m i
+row-deeper s a m i = depth-enough s a 16 0 (omega arith) 0 (omega arith) (omega (arith, a .tables .some-nodes)) m i
 
 pub rows-deeper : (s : List ℕ) → AcceptedImage s → (m i n : ℕ) → range (rowAt (16 + m) s 0) i n ≡ tableRows s i n
 unfolding tableRows

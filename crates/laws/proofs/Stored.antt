@@ -102,7 +102,7 @@ module _ (s : List ℕ) (image : AcceptedImage s) (k : ℕ) (node : k < nodeCoun
       cases : (b : Bool) → ltb inlineLength (viewLength s v) ≡ b → viewLength s v < 4294967296
       cases true e =
           let long : inlineLength < viewLength s v = ltb-true _ _ e in
-          omega (arith, here .buffers .inside (1 + viewBuffer s v) (view .buffer long), view .inside long, image .size)
+          omega (arith, here .buffers .inside (1 + viewBuffer s v) (view .buffer long), view .inside long, image .tables .size)
       cases false e =
           let short : viewLength s v ≤ inlineLength = ltb-false _ _ e in
           omega arith
@@ -111,7 +111,7 @@ module _ (s : List ℕ) (image : AcceptedImage s) (k : ℕ) (node : k < nodeCoun
   span-short : layoutOf (codeOf s k) ≡ VariableSize → (j : ℕ) → j < elementsOf s k → elementAt s k (suc j) - elementAt s k j < 4294967296
   span-short l j lt =
       let two : bufferCount s k ≡ 2 = here .buffers .exactly 2 (rw l) in
-      omega (arith, here .places .variable-size l .within (suc j) lt, here .buffers .inside 1 (omega arith), image .size)
+      omega (arith, here .places .variable-size l .within (suc j) lt, here .buffers .inside 1 (omega arith), image .tables .size)
 
   span-within : layoutOf (codeOf s k) ≡ Lists → (j : ℕ) → j < elementsOf s k → elementAt s k j + (elementAt s k (suc j) - elementAt s k j) ≤ lengthOf s (firstChild s k)
   span-within l j lt = omega (arith, here .places .lists l .within (suc j) lt, here .places .lists l .rise j lt)

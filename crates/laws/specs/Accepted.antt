@@ -1,5 +1,5 @@
--- What acceptance gives: the facts of a whole image, and of each of its nodes, a record for each fault number. A fact
--- of one layout is a function of the equation that the node has that layout.
+-- What the check gives, number by number: the facts of a whole image, and of each of its nodes, a record for each fault
+-- number. A fact of one layout is a function of the equation that the node has that layout.
 use mathlib.Core.Path.{_≡_}
 use mathlib.Core.Bool.{true, false}
 use mathlib.Core.List.{List}
@@ -11,7 +11,22 @@ use Rattle.image.specs.Bytes.{byteAt, numberAt}
 use Rattle.image.specs.Record.{nodeCount, bufferTotal, tablesEnd, codeOf, flagsOf, idOf, nameLength, p1Of, p2Of, lengthOf, offsetOf, namePlace, bitmapPlace, bitmapLength, firstBit, firstChild, childCount, firstBuffer, bufferCount, hasBitmap, elementsOf, childStart, bufferStart, bufferPlace, bufferLength}
 use Rattle.image.specs.TypeCode.{layoutOf, p1Fits, p2Fits, isUnion, signBit, takesBitmap, childRule, bufferRule}
 use Rattle.image.specs.Element.{valid, elementWidth, elementPlace, elementAt, sizeAt, typeIdAt, denseOffsetAt, childEnd, childWithId, inlineLength, viewLength, viewBuffer, viewOffset, viewData, runEndWidth, runEndAt, runAt}
-use Rattle.image.specs.Faults.{levelEnd, underUnion, notWhole}
+use Rattle.image.specs.Faults.{levelEnd, underUnion, notWhole, fault10, fault}
+
+-- The image has not fault 10, and none of its nodes a fault of a number below this one: what the rules of this number
+-- rest on.
+pub record NoneBelow (number : ℕ) (s : List ℕ) : Type 0 where
+  pub image : fault10 s ≡ false
+  pub nodes : (m : ℕ) → 11 ≤ m → m < number → (k : ℕ) → k < nodeCount s → fault m s k ≡ false
+
+-- 10: the tables lie inside, and there are some nodes, not too many
+pub record Tables (s : List ℕ) : Type 0 where
+  pub header : 4 ≤ length s
+  pub size : length s ≤ 16777216
+  pub some-nodes : 1 ≤ nodeCount s
+  pub few-nodes : nodeCount s ≤ 256
+  pub few-buffers : bufferTotal s ≤ 1024
+  pub inside : tablesEnd s ≤ length s
 
 -- 11: the code, the flags and the parameters are known
 pub record Known (s : List ℕ) (k : ℕ) : Type 0 where
@@ -158,12 +173,7 @@ pub record Node (s : List ℕ) (k : ℕ) : Type 0 where
 
 -- an accepted image
 pub record AcceptedImage (s : List ℕ) : Type 0 where
-  pub header : 4 ≤ length s
-  pub size : length s ≤ 16777216
-  pub some-nodes : 1 ≤ nodeCount s
-  pub few-nodes : nodeCount s ≤ 256
-  pub few-buffers : bufferTotal s ≤ 1024
-  pub tables : tablesEnd s ≤ length s
+  pub tables : Tables s
   pub child-total : childStart s (nodeCount s) ≡ nodeCount s
   pub buffer-total : bufferStart s (nodeCount s) ≡ bufferTotal s
   pub node : (k : ℕ) → k < nodeCount s → Node s k

@@ -46,7 +46,7 @@ nested-placed head width child parts start count image narrow nodes rows = recor
   narrow = narrow;
   inside = omega arith;
   parts = λ c lt. record { image = image; node = omega arith; rows = rows c lt };
-  few = omega (arith, image .few-nodes);
+  few = omega (arith, image .tables .few-nodes);
 }
 
 -- rows of one child

@@ -1,8 +1,9 @@
+pub mod Elements
 pub mod KeyRows
 pub mod Layouts
+pub mod Lower
 pub mod Padding
 pub mod Parents
-pub mod Places
 pub mod Rises
 pub mod RunEnds
 pub mod Unions

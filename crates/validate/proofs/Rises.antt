@@ -10,7 +10,7 @@ use lib.Dec.{eqb, leb, ltb}
 use borrow.Author.Tests.{leb-true, leb-false, ltb-true, ltb-false, eqb-true, eqb-false, le-leb, lt-leb, lt-ltb, le-ltb}
 use Rattle.image.specs.Ranges.{any, rises}
 use Rattle.image.proofs.Ranges.{rises-least, rises-top}
-use Rattle.validate.specs.Strides.{falls}
+use Rattle.validate.specs.Numbers.{falls}
 
 not-or : (x y : Bool) → not (x || y) ≡ not x && not y
 not-or true y = refl

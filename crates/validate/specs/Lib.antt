@@ -1,3 +1,3 @@
-pub mod Strides
+pub mod Numbers
 pub mod Views
 pub mod Walks

@@ -49,7 +49,7 @@ fn total_wrong(image: &[u8], node: u32, all: usize) -> bool
 }
 
 // A buffer of the node does not lie inside the image.
-pub fn any_outside(image: &[u8], node: u32) -> bool
+fn any_outside(image: &[u8], node: u32) -> bool
     ensures { λ r. ⌜ r ≡ any (bufferOutside (now (image .entry)) node) 0 (bufferCount (now (image .entry)) node) ⌝ }
 {
     let count = buffer_count(image, node);

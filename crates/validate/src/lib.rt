@@ -1,4 +1,5 @@
-// The image check: faults 10 to 18, the lowest number first and among nodes the lowest.
+// The image check: faults 10 to 18, the lowest number first and among nodes the lowest. The rules of a number are asked
+// only where no node has a lower one, so they may rest on what the lower ones say.
 pub mod buffers;
 pub mod children;
 pub mod codes;
@@ -14,6 +15,7 @@ use children::fault_16;
 use codes::fault_11;
 use image::answer::Checked;
 use image::answer::Fault;
+use image::record::HEADER_SIZE;
 use image::record::buffer_total;
 use image::record::node_count;
 use image::record::tables_end;
@@ -23,11 +25,11 @@ use rows::fault_18;
 use tree::Walk;
 use tree::fault_12;
 ghost use mathlib.Core.Path.{_≡_};
-ghost use Prim.Native.Nat.{_<_, _^_};
+ghost use Prim.Native.Nat.{_<_, _≤_, _^_};
+ghost use Rattle.image.specs.Record.{nodeCount};
 ghost use Rattle.image.specs.Faults.{fault10, fault, firstFaulty, checkImage};
+ghost use Rattle.laws.specs.Accepted.{NoneBelow};
 ghost use Rattle.validate.specs.Walks.{Walks};
-
-const HEADER_SIZE: usize = 4;
 
 const LONGEST_IMAGE: usize = 16777216;
 
@@ -63,9 +65,10 @@ fn fault_10(image: &[u8]) -> bool
     image.len() < tables_end(image)
 }
 
-// The node has a fault of the number.
+// The node has a fault of the number, where no node has one of a lower number.
 fn has_fault(image: &[u8], number: u8, node: u32, walk: Walk) -> bool
     requires { ⌜ Walks (now image) node walk ⌝ }
+    requires { ⌜ NoneBelow number (now image) × (11 ≤ number) × (node < nodeCount (now image)) ⌝ }
     ensures { λ r. ⌜ r ≡ fault number (now (image .entry)) node ⌝ }
 {
     match number {
@@ -80,9 +83,10 @@ fn has_fault(image: &[u8], number: u8, node: u32, walk: Walk) -> bool
     }
 }
 
-// The first node that has a fault of the number, or n where none has.
+// The first node that has a fault of the number, or n where none has; none has one of a lower number.
 fn first_faulty(image: &[u8], number: u8, start: Walk) -> u32
     requires { ⌜ Walks (now image) 0 start ⌝ }
+    requires { ⌜ NoneBelow number (now image) × (11 ≤ number) ⌝ }
     ensures { λ r. ⌜ (r ≡ firstFaulty number (now (image .entry))) × (r < 2 ^ 16) ⌝ }
 {
     let n = node_count(image);

@@ -1,34 +1,18 @@
-// Numbers that rise, as offsets, run ends and type ids must.
+// Numbers that rise, as offsets and run ends must.
 use image::bytes::nth_inside;
-use image::bytes::number;
 ghost use mathlib.Core.Path.{_≡_};
-ghost use mathlib.Core.Bool.{true};
-ghost use Prim.Native.Nat.{_+_, _*_, _<_, _≤_, _^_};
+ghost use Prim.Native.Nat.{_+_, _≤_};
 ghost use lib.ListN.{length};
 ghost use Rattle.image.specs.Ranges.{any, rises};
 ghost use Rattle.image.specs.Reads.{Packed};
-ghost use Rattle.validate.specs.Strides.{numberIn, falls, Strided};
+ghost use Rattle.validate.specs.Numbers.{numberIn, falls};
 
 const BLOCK: usize = 64;
-
-// Numbers of 4 or 8 bytes that lie side by side inside the image.
-pub fn is_packed(image: &[u8], place: usize, width: usize, count: usize) -> bool
-    requires { ⌜ (place < 2 ^ 40) × (count < 2 ^ 34) ⌝ }
-    ensures { λ r. ⌜ (r ≡ true → Packed (length (now (image .entry))) place width count) ⌝ }
-{
-    if width == 4 {
-        return place + count * 4 <= image.len();
-    }
-    if width == 8 {
-        return place + count * 8 <= image.len();
-    }
-    false
-}
 
 // Number k + 1 is less than a step above number k.
 fn falls_at(image: &[u8], place: usize, width: usize, step: usize, k: usize) -> bool
     requires { ⌜ Packed (length (now image)) place width (k + 2) × (step ≤ 1) ⌝ }
-    ensures { λ r. ⌜ r ≡ falls step (numberIn (now (image .entry)) place width width) k ⌝ }
+    ensures { λ r. ⌜ r ≡ falls step (numberIn (now (image .entry)) place width) k ⌝ }
 {
     let low = nth_inside(image, place, width, k);
     let high = nth_inside(image, place, width, k + 1);
@@ -39,7 +23,7 @@ fn falls_at(image: &[u8], place: usize, width: usize, step: usize, k: usize) -> 
 // that the compiler compares many at once.
 fn falls_in_block(image: &[u8], place: usize, width: usize, step: usize, k: usize) -> bool
     requires { ⌜ Packed (length (now image)) place width (k + 65) × (step ≤ 1) ⌝ }
-    ensures { λ r. ⌜ r ≡ any (falls step (numberIn (now (image .entry)) place width width)) k 64 ⌝ }
+    ensures { λ r. ⌜ r ≡ any (falls step (numberIn (now (image .entry)) place width)) k 64 ⌝ }
 {
     let mut found = false;
     let mut j: usize = 0;
@@ -53,7 +37,7 @@ fn falls_in_block(image: &[u8], place: usize, width: usize, step: usize, k: usiz
 // One of n numbers is followed by one less than a step above it.
 fn falls_among(image: &[u8], place: usize, width: usize, step: usize, n: usize) -> bool
     requires { ⌜ Packed (length (now image)) place width (n + 1) × (step ≤ 1) ⌝ }
-    ensures { λ r. ⌜ r ≡ any (falls step (numberIn (now (image .entry)) place width width)) 0 n ⌝ }
+    ensures { λ r. ⌜ r ≡ any (falls step (numberIn (now (image .entry)) place width)) 0 n ⌝ }
 {
     let mut k: usize = 0;
     while BLOCK <= n - k {
@@ -71,8 +55,9 @@ fn falls_among(image: &[u8], place: usize, width: usize, step: usize, n: usize) 
     false
 }
 
-// The first of the numbers is not below `least`, the last not above `top`, and none falls.
-fn rise_packed(
+// Of `count` numbers of `width` bytes from a place on none lies below `least` or above `top`, and each is at least `step`
+// above the one before it. Where none falls the first and the last speak for all.
+pub fn rise(
     image: &[u8],
     place: usize,
     width: usize,
@@ -81,9 +66,12 @@ fn rise_packed(
     least: usize,
     count: usize,
 ) -> bool
-    requires { ⌜ Packed (length (now image)) place width count × (0 < count) × (step ≤ 1) ⌝ }
-    ensures { λ r. ⌜ r ≡ rises step (numberIn (now (image .entry)) place width width) top least 0 count ⌝ }
+    requires { ⌜ Packed (length (now image)) place width count × (step ≤ 1) ⌝ }
+    ensures { λ r. ⌜ r ≡ rises step (numberIn (now (image .entry)) place width) top least 0 count ⌝ }
 {
+    if count == 0 {
+        return true;
+    }
     let last = count - 1;
     if nth_inside(image, place, width, 0) < least {
         return false;
@@ -92,59 +80,4 @@ fn rise_packed(
         return false;
     }
     !falls_among(image, place, width, step, last)
-}
-
-// The numbers one by one.
-fn rise_each(
-    image: &[u8],
-    place: usize,
-    stride: usize,
-    width: usize,
-    step: usize,
-    top: usize,
-    least: usize,
-    count: usize,
-) -> bool
-    requires { ⌜ Strided place stride width step top count ⌝ }
-    ensures { λ r. ⌜ r ≡ rises step (numberIn (now (image .entry)) place stride width) top least 0 count ⌝ }
-{
-    let mut now = least;
-    let mut k: usize = 0;
-    while k < count {
-        let x = number(image, place + k * stride, width);
-        if x < now {
-            return false;
-        }
-        if top < x {
-            return false;
-        }
-        now = x + step;
-        k += 1;
-    }
-    true
-}
-
-// Of `count` numbers of `width` bytes, `stride` bytes apart from a place on, none lies below `least` or above `top`, and
-// each is at least `step` above the one before it.
-pub fn rise(
-    image: &[u8],
-    place: usize,
-    stride: usize,
-    width: usize,
-    step: usize,
-    top: usize,
-    least: usize,
-    count: usize,
-) -> bool
-    requires { ⌜ Strided place stride width step top count ⌝ }
-    ensures { λ r. ⌜ r ≡ rises step (numberIn (now (image .entry)) place stride width) top least 0 count ⌝ }
-{
-    if stride == width {
-        if 0 < count {
-            if is_packed(image, place, width, count) {
-                return rise_packed(image, place, width, step, top, least, count);
-            }
-        }
-    }
-    rise_each(image, place, stride, width, step, top, least, count)
 }

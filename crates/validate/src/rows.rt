@@ -1,16 +1,9 @@
 // 18: in its rows a node names a child, a key, a view or a dense offset that is not there, or its run ends are wrong.
-use crate::buffers::any_outside;
-use crate::rise::is_packed;
 use crate::rise::rise;
-use image::bytes::byte;
-use image::bytes::le32;
 use image::bytes::nth_inside;
-use image::bytes::number;
 use image::bytes::octet;
 use image::bytes::quad;
-use image::bytes::wide;
 use image::element::INLINE_LENGTH;
-use image::element::Mask;
 use image::element::VIEW_SIZE;
 use image::element::children_by_id;
 use image::element::element_width;
@@ -20,7 +13,6 @@ use image::element::mask_of;
 use image::element::run_end;
 use image::record::ENTRY_SIZE;
 use image::record::buffer_count;
-use image::record::buffer_length;
 use image::record::buffer_place;
 use image::record::child_count;
 use image::record::code;
@@ -35,20 +27,22 @@ use image::type_code::Layout;
 use image::type_code::TypeCode;
 ghost use mathlib.Core.Path.{_≡_};
 ghost use mathlib.Core.Bool.{_||_, not};
-ghost use Prim.Native.Nat.{_+_, _*_, _<_, _≤_, _^_};
+ghost use Prim.Native.Nat.{_+_, _<_, _≤_};
 ghost use lib.ListN.{length};
 ghost use Rattle.image.specs.Ranges.{any};
-ghost use Rattle.image.specs.Reads.{Packed, MaskRead};
-ghost use Rattle.image.specs.Record.{lengthOf};
+ghost use Rattle.image.specs.Reads.{Packed};
+ghost use Rattle.image.specs.Record.{nodeCount, lengthOf, elementsOf};
 ghost use Rattle.image.specs.Element.{elementWidth, viewLength};
-ghost use Rattle.validate.specs.Strides.{KeyLimit, Keys, numberIn, reaches};
-ghost use Rattle.validate.specs.Views.{ViewHere, ViewsHere};
-ghost use Rattle.image.specs.Faults.{fault18, denseRowFault, sparseRowFault, keyRowFault, viewRowFault, viewFault, paddingNonzero, longViewFault, runEndsRise, lastEndBelow};
+ghost use Rattle.image.specs.Faults.{fault18, denseRowFault, sparseRowFault, keyRowFault, viewRowFault, viewFault, paddingNonzero, runEndsRise, lastEndBelow};
+ghost use Rattle.laws.specs.Accepted.{NoneBelow};
+ghost use Rattle.validate.specs.Numbers.{KeyLimit, Holds, EndsInside, numberIn, reaches};
+ghost use Rattle.validate.specs.Views.{ViewAt, ViewsInside};
 
 const BLOCK: usize = 64;
 
 // A row of a dense union has a type id without a child, or an offset outside the child that its id names.
 fn dense_fault(image: &[u8], node: u32) -> bool
+    requires { ⌜ Holds (now image) node 0 1 (elementsOf (now image) node) × Holds (now image) node 1 4 (elementsOf (now image) node) ⌝ }
     ensures { λ r. ⌜ r ≡ any (denseRowFault (now (image .entry)) node) 0 (lengthOf (now (image .entry)) node) ⌝ }
 {
     let table = children_by_id(image, node);
@@ -60,12 +54,11 @@ fn dense_fault(image: &[u8], node: u32) -> bool
     let mut i: usize = 0;
     while i < rows {
         let j = from + i;
-        let id = wide(byte(image, ids + j));
-        let child = table[id];
+        let child = table[nth_inside(image, ids, 1, j)];
         if end <= child {
             return true;
         }
-        if length(image, child) <= le32(image, offsets + j * 4) {
+        if length(image, child) <= nth_inside(image, offsets, 4, j) {
             return true;
         }
         i += 1;
@@ -75,6 +68,7 @@ fn dense_fault(image: &[u8], node: u32) -> bool
 
 // A row of a sparse union has a type id without a child.
 fn sparse_fault(image: &[u8], node: u32) -> bool
+    requires { ⌜ Holds (now image) node 0 1 (elementsOf (now image) node) ⌝ }
     ensures { λ r. ⌜ r ≡ any (sparseRowFault (now (image .entry)) node) 0 (lengthOf (now (image .entry)) node) ⌝ }
 {
     let table = children_by_id(image, node);
@@ -84,8 +78,7 @@ fn sparse_fault(image: &[u8], node: u32) -> bool
     let rows = length(image, node);
     let mut i: usize = 0;
     while i < rows {
-        let id = wide(byte(image, ids + (from + i)));
-        let child = table[id];
+        let child = table[nth_inside(image, ids, 1, from + i)];
         if end <= child {
             return true;
         }
@@ -112,7 +105,7 @@ fn key_limit(image: &[u8], node: u32, width: usize) -> usize
 // compares many at once.
 fn reach_in_block(image: &[u8], place: usize, width: usize, limit: usize, k: usize) -> bool
     requires { ⌜ Packed (length (now image)) place width (k + 64) ⌝ }
-    ensures { λ r. ⌜ r ≡ any (reaches limit (numberIn (now (image .entry)) place width width)) k 64 ⌝ }
+    ensures { λ r. ⌜ r ≡ any (reaches limit (numberIn (now (image .entry)) place width)) k 64 ⌝ }
 {
     let mut found = false;
     let mut j: usize = 0;
@@ -126,7 +119,7 @@ fn reach_in_block(image: &[u8], place: usize, width: usize, limit: usize, k: usi
 // One of n numbers is not below the limit.
 fn reach_among(image: &[u8], place: usize, width: usize, limit: usize, n: usize) -> bool
     requires { ⌜ Packed (length (now image)) place width n ⌝ }
-    ensures { λ r. ⌜ r ≡ any (reaches limit (numberIn (now (image .entry)) place width width)) 0 n ⌝ }
+    ensures { λ r. ⌜ r ≡ any (reaches limit (numberIn (now (image .entry)) place width)) 0 n ⌝ }
 {
     let mut k: usize = 0;
     while BLOCK <= n - k {
@@ -144,24 +137,23 @@ fn reach_among(image: &[u8], place: usize, width: usize, limit: usize, n: usize)
     false
 }
 
-// A row of a Dictionary that is not null has a key outside the values, row by row.
-fn keys_fault_each(
-    image: &[u8],
-    node: u32,
-    width: usize,
-    limit: usize,
-    keys: usize,
-    from: usize,
-    rows: usize,
-) -> bool
-    requires { ⌜ Keys (now image) node width limit keys from rows ⌝ }
+// A row of a Dictionary that is not null has a key outside the values. Without a bitmap it is the keys alone that tell.
+fn keys_fault(image: &[u8], node: u32) -> bool
+    requires { ⌜ Holds (now image) node 0 (elementWidth (now image) node) (elementsOf (now image) node) ⌝ }
     ensures { λ r. ⌜ r ≡ any (keyRowFault (now (image .entry)) node) 0 (lengthOf (now (image .entry)) node) ⌝ }
 {
+    let width = element_width(image, node);
+    let limit = key_limit(image, node, width);
+    let keys = buffer_place(image, node, 0) + offset(image, node) * width;
+    let rows = length(image, node);
+    if !has_bitmap(image, node) {
+        return reach_among(image, keys, width, limit, rows);
+    }
     let mask = mask_of(image, node);
     let mut i: usize = 0;
     while i < rows {
         if is_kept(image, node, mask, i) {
-            if limit <= number(image, keys + (from + i) * width, width) {
+            if limit <= nth_inside(image, keys, width, i) {
                 return true;
             }
         }
@@ -170,35 +162,29 @@ fn keys_fault_each(
     false
 }
 
-// A row of a Dictionary that is not null has a key outside the values.
-fn keys_fault(image: &[u8], node: u32) -> bool
-    requires { ⌜ elementWidth (now image) node ≤ 8 ⌝ }
-    ensures { λ r. ⌜ r ≡ any (keyRowFault (now (image .entry)) node) 0 (lengthOf (now (image .entry)) node) ⌝ }
-{
-    let width = element_width(image, node);
-    let limit = key_limit(image, node, width);
-    let keys = buffer_place(image, node, 0);
-    let from = offset(image, node);
-    let rows = length(image, node);
-    if !has_bitmap(image, node) {
-        let place = keys + from * width;
-        if is_packed(image, place, width, rows) {
-            return reach_among(image, place, width, limit, rows);
-        }
-    }
-    keys_fault_each(image, node, width, limit, keys, from, rows)
-}
-
-// Of the 12 bytes of an inline view one past its length is not zero.
+// Of the 12 bytes of an inline view one past its length is not zero. The bytes are read eight or four at a time, those in
+// the middle once more; at most three are read one by one.
 fn padding_nonzero(image: &[u8], view: usize, len: usize) -> bool
-    requires { ⌜ (view < 2 ^ 40) × (len ≡ viewLength (now image) view) × (len ≤ 12) ⌝ }
+    requires { ⌜ (view + 16 ≤ length (now image)) × (len ≡ viewLength (now image) view) × (len ≤ 12) ⌝ }
     ensures { λ r. ⌜ r ≡ paddingNonzero (now (image .entry)) view ⌝ }
 {
     let at = view + 4 + len;
+    if len <= 4 {
+        if octet(image, at) != 0 {
+            return true;
+        }
+        return octet(image, view + 8) != 0;
+    }
+    if len <= 8 {
+        if quad(image, at) != 0 {
+            return true;
+        }
+        return quad(image, view + 12) != 0;
+    }
     let count = INLINE_LENGTH - len;
     let mut k: usize = 0;
     while k < count {
-        if byte(image, at + k) != 0 {
+        if image[at + k] != 0 {
             return true;
         }
         k += 1;
@@ -206,53 +192,14 @@ fn padding_nonzero(image: &[u8], view: usize, len: usize) -> bool
     false
 }
 
-// A view of more than 12 bytes lies outside its buffers, or its stored prefix is wrong.
-fn long_view_fault(image: &[u8], node: u32, view: usize, len: usize) -> bool
-    requires { ⌜ (view < 2 ^ 40) × (len ≡ viewLength (now image) view) × (12 < len) × (len < 2 ^ 32) ⌝ }
-    ensures { λ r. ⌜ r ≡ longViewFault (now (image .entry)) node view ⌝ }
-{
-    let buffer = 1 + le32(image, view + 8);
-    if buffer_count(image, node) as usize <= buffer {
-        return true;
-    }
-    let j = buffer as u32;
-    let at = le32(image, view + 12);
-    if buffer_length(image, node, j) < at + len {
-        return true;
-    }
-    le32(image, view + 4) != le32(image, buffer_place(image, node, j) + at)
-}
-
-// Of the 12 bytes of an inline view that lies inside the image one past its length is not zero. The bytes are read
-// eight or four at a time, those in the middle once more; at most three are read one by one.
-fn padding_nonzero_inside(image: &[u8], view: usize, len: usize) -> bool
-    requires { ⌜ (view + 16 ≤ length (now image)) × (view < 2 ^ 40) × (len ≡ viewLength (now image) view) × (len ≤ 12) ⌝ }
-    ensures { λ r. ⌜ r ≡ paddingNonzero (now (image .entry)) view ⌝ }
-{
-    if len <= 4 {
-        if octet(image, view + 4 + len) != 0 {
-            return true;
-        }
-        return octet(image, view + 8) != 0;
-    }
-    if len <= 8 {
-        if quad(image, view + 4 + len) != 0 {
-            return true;
-        }
-        return quad(image, view + 12) != 0;
-    }
-    padding_nonzero(image, view, len)
-}
-
-// The view at a place breaks a rule, where the view, the node's buffers and their entries lie inside the image; `entries`
-// is where these start, `count` how many they are.
-fn view_fault_inside(image: &[u8], node: u32, view: usize, entries: usize, count: usize) -> bool
-    requires { ⌜ ViewHere (now image) node view entries count ⌝ }
+// The view at a place breaks a rule; `entries` is where those of the node's buffers start, `count` how many they are.
+fn view_fault(image: &[u8], node: u32, view: usize, entries: usize, count: usize) -> bool
+    requires { ⌜ ViewAt (now image) node view entries count ⌝ }
     ensures { λ r. ⌜ r ≡ viewFault (now (image .entry)) node view ⌝ }
 {
     let len = quad(image, view);
     if len <= INLINE_LENGTH {
-        return padding_nonzero_inside(image, view, len);
+        return padding_nonzero(image, view, len);
     }
     let buffer = 1 + quad(image, view + 8);
     if count <= buffer {
@@ -266,37 +213,21 @@ fn view_fault_inside(image: &[u8], node: u32, view: usize, entries: usize, count
     quad(image, view + 4) != quad(image, quad(image, entry) + at)
 }
 
-// The view at a place breaks a rule.
-fn view_fault(image: &[u8], node: u32, view: usize) -> bool
-    requires { ⌜ view < 2 ^ 40 ⌝ }
-    ensures { λ r. ⌜ r ≡ viewFault (now (image .entry)) node view ⌝ }
-{
-    let len = le32(image, view);
-    if len <= INLINE_LENGTH {
-        return padding_nonzero(image, view, len);
-    }
-    long_view_fault(image, node, view, len)
-}
-
-// A row of views that is not null has a view that breaks a rule; all views lie inside the image, from a place on.
-fn views_fault_inside(
-    image: &[u8],
-    node: u32,
-    mask: Mask,
-    place: usize,
-    entries: usize,
-    count: usize,
-    rows: usize,
-) -> bool
-    requires { ⌜ ViewsHere (now image) node place entries count rows ⌝ }
-    requires { ⌜ MaskRead (now image) node (mask .some) (mask .place) (mask .first) ⌝ }
+// A row of views that is not null has a view that breaks a rule.
+fn views_fault(image: &[u8], node: u32) -> bool
+    requires { ⌜ ViewsInside (now image) node ⌝ }
     ensures { λ r. ⌜ r ≡ any (viewRowFault (now (image .entry)) node) 0 (lengthOf (now (image .entry)) node) ⌝ }
 {
+    let place = buffer_place(image, node, 0) + offset(image, node) * VIEW_SIZE;
+    let entries = node_entry(image, node, 0);
+    let count = buffer_count(image, node) as usize;
+    let rows = length(image, node);
+    let mask = mask_of(image, node);
     let mut view = place;
     let mut i: usize = 0;
     while i < rows {
         if is_kept(image, node, mask, i) {
-            if view_fault_inside(image, node, view, entries, count) {
+            if view_fault(image, node, view, entries, count) {
                 return true;
             }
         }
@@ -306,43 +237,15 @@ fn views_fault_inside(
     false
 }
 
-// A row of views that is not null has a view that breaks a rule.
-fn views_fault(image: &[u8], node: u32) -> bool
-    requires { ⌜ elementWidth (now image) node ≡ 16 ⌝ }
-    ensures { λ r. ⌜ r ≡ any (viewRowFault (now (image .entry)) node) 0 (lengthOf (now (image .entry)) node) ⌝ }
-{
-    let place = buffer_place(image, node, 0) + offset(image, node) * VIEW_SIZE;
-    let entries = node_entry(image, node, 0);
-    let count = buffer_count(image, node) as usize;
-    let rows = length(image, node);
-    let mask = mask_of(image, node);
-    if place + rows * VIEW_SIZE <= image.len() {
-        if entries + count * ENTRY_SIZE <= image.len() {
-            if !any_outside(image, node) {
-                return views_fault_inside(image, node, mask, place, entries, count, rows);
-            }
-        }
-    }
-    let mut i: usize = 0;
-    while i < rows {
-        if is_kept(image, node, mask, i) {
-            if view_fault(image, node, place + i * VIEW_SIZE) {
-                return true;
-            }
-        }
-        i += 1;
-    }
-    false
-}
-
 // The run ends, over all rows of their child, are not positive and strictly rising.
 fn run_ends_fall(image: &[u8], node: u32) -> bool
+    requires { ⌜ EndsInside (now image) node ⌝ }
     ensures { λ r. ⌜ r ≡ not (runEndsRise (now (image .entry)) node) ⌝ }
 {
     let ends = ends_of(image, node);
     let top = TypeCode::sign_bit(ends.width) as usize - 1;
     let count = length(image, first_child(image, node));
-    !rise(image, ends.place, ends.width, ends.width, 1, top, 1, count)
+    !rise(image, ends.place, ends.width, 1, top, 1, count)
 }
 
 // The last run end lies below e; without run ends e is not 0.
@@ -359,6 +262,7 @@ fn last_end_below(image: &[u8], node: u32) -> bool
 
 // Runs whose run ends break a rule.
 fn runs_fault(image: &[u8], node: u32) -> bool
+    requires { ⌜ EndsInside (now image) node ⌝ }
     ensures { λ r. ⌜ r ≡ (not (runEndsRise (now (image .entry)) node) || lastEndBelow (now (image .entry)) node) ⌝ }
 {
     if run_ends_fall(image, node) {
@@ -369,6 +273,7 @@ fn runs_fault(image: &[u8], node: u32) -> bool
 
 // The node has fault 18.
 pub fn fault_18(image: &[u8], node: u32) -> bool
+    requires { ⌜ NoneBelow 18 (now image) × (node < nodeCount (now image)) ⌝ }
     ensures { λ r. ⌜ r ≡ fault18 (now (image .entry)) node ⌝ }
 {
     let layout = TypeCode::layout(code(image, node));

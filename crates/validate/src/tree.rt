@@ -1,13 +1,11 @@
 // 12: the tree is broken.
-use crate::rise::rise;
+use image::bytes::wide;
 use image::record::MAX_DEPTH;
-use image::record::RECORD_SIZE;
 use image::record::buffer_count;
 use image::record::child_count;
 use image::record::code;
 use image::record::first_child;
 use image::record::has_bitmap;
-use image::record::id_place;
 use image::record::node_count;
 use image::record::type_id;
 use image::type_code::TypeCode;
@@ -169,16 +167,36 @@ fn total_wrong(image: &[u8], node: u32, all: usize) -> bool
     all != node_count(image) as usize
 }
 
-// A union whose type ids do not rise strictly within 0 to 127.
+// The type ids of a node's children rise strictly within 0 to 127.
+fn ids_rise(image: &[u8], node: u32) -> bool
+    ensures { λ r. ⌜ r ≡ idsRise (now (image .entry)) node ⌝ }
+{
+    let first = first_child(image, node);
+    let count = child_count(image, node);
+    let mut least: usize = 0;
+    let mut k: u32 = 0;
+    while k < count {
+        let id = wide(type_id(image, first + k));
+        if id < least {
+            return false;
+        }
+        if LARGEST_ID < id {
+            return false;
+        }
+        least = id + 1;
+        k += 1;
+    }
+    true
+}
+
+// A union whose type ids do not rise.
 fn ids_fall(image: &[u8], node: u32) -> bool
     ensures { λ r. ⌜ r ≡ (isUnion (codeOf (now (image .entry)) node) && not (idsRise (now (image .entry)) node)) ⌝ }
 {
     if !TypeCode::is_union(code(image, node)) {
         return false;
     }
-    let ids = id_place(first_child(image, node));
-    let count = child_count(image, node) as usize;
-    !rise(image, ids, RECORD_SIZE, 1, 1, LARGEST_ID, 0, count)
+    !ids_rise(image, node)
 }
 
 // The node is a union's child.

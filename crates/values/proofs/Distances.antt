@@ -13,7 +13,7 @@ use borrow.Author.Tests.{eqb-true, eq-eqb}
 use Rattle.image.specs.Bytes.{numberAt}
 use Rattle.image.specs.Record.{bufferPlace}
 use Rattle.image.specs.Element.{elementWidth, elementPlace, elementAt}
-use Rattle.image.specs.Reads.{Read, Packed}
+use Rattle.image.specs.Reads.{Read, isWidth, Packed}
 use Rattle.values.specs.Pairs.{all, sameSpan, spanAt, sameDistance}
 use Rattle.values.specs.Parts.{Spans, Above}
 use Rattle.values.proofs.Steps.{all-by, all-snoc}
@@ -29,11 +29,16 @@ above-part s p w x i n h m le r =
 pub above-ahead : {s : List ℕ} {p w x i n h m : ℕ} → Above s p w x i n → h ≤ n → m ≤ n - h → Above s p w x (i + h) m
 above-ahead r le rest = above-part _ _ _ _ _ _ _ _ (omega arith) r
 
+is-width : (w : ℕ) → (w ≡ 4) ⊎ (w ≡ 8) → isWidth w ≡ true
+unfolding isWidth
+is-width w (inl e) = rw e
+is-width w (inr e) = rw e
+
 -- number i + h of them, as it is read
 pub above-packed : {s : List ℕ} {p w x i n : ℕ} (h : ℕ) → Above s p w x i n → h < n → Packed (length s) p w (i + h + 1)
 above-packed {s} {p} {w} {x} {i} {n} h r lt =
     let more : (i + h + 1) * w ≤ (i + n) * w = mul-le-mul-right w (omega arith) in
-    record { whole = r .whole; inside = omega (arith, r .inside) }
+    record { width = is-width w (r .whole); inside = omega (arith, r .inside) }
 
 pub above-read : {s : List ℕ} {p w x i n bits u : ℕ} (h : ℕ) → Above s p w x i n → h < n → Read (numberAt w s (p + (i + h) * w)) bits u → x ≤ u
 above-read {s} {p} {w} {x} {i} {n} h r lt e = omega (arith, e .value, r .above (i + h) (omega arith) (omega arith))

@@ -152,7 +152,7 @@ module _ {s : List ℕ} {k i w p : ℕ} (r : Side s k i 1) (f : Leaf s k w p) wh
     -- its offsets are read inside, and lie inside the text
     text-nth : (h : ℕ) → h ≤ i + 1 → Nth p w h
     text-nth h le = record {
-      near = omega (arith, leaf-place f i, text-offsets _ _ _ _ part text, r .image .size);
+      near = omega (arith, leaf-place f i, text-offsets _ _ _ _ part text, r .image .tables .size);
       narrow = rw (f .width) (text-narrow _ _ _ _ part text);
       few = omega (arith, side-small _ _ _ _ r);
     }

@@ -1,5 +1,5 @@
 -- The answer of the image check.
--- The loop keeps that the answer by all numbers is the answer by those from `number` on.
+-- The loop keeps that the answer by all numbers is the answer by those from `number` on, and that no node has a lower one.
 use mathlib.Core.Path.{_≡_, refl, sym, _∙_}
 use mathlib.Core.Bool.{cond}
 use mathlib.Core.List.{List}
@@ -9,6 +9,8 @@ use borrow.Author.Tests.{lt-ltb, le-ltb}
 use Rattle.image.specs.declared.answer.Checked.the-variants.{Accepted, Refused}
 use Rattle.image.specs.Record.{nodeCount}
 use Rattle.image.specs.Faults.{firstFaulty, checkFrom, checkImage}
+use Rattle.laws.specs.Accepted.{NoneBelow}
+use Rattle.laws.proofs.NoFault.{none-yet, none-more}
 use Prim.Native.Nat.{ℕ, _+_, _-_, _<_, _≤_}
 use native.Mathlib.Omega.{arith}
 use borrow.Author.Needs.{needs}
@@ -46,7 +48,7 @@ module _ {s : List ℕ} {number : ℕ} (l : Left s number) where
       sym (l .same ∙ rw e)
 
 abbrev Inv-loop : tie.InvT-loop
-Inv-loop image n start number₀ number = Left image number
+Inv-loop image n start number₀ number = Left image number × NoneBelow number image × (11 ≤ number)
 
 abbrev μ-loop : tie.MeasureT-loop
 μ-loop image n start number₀ number = 19 - number
@@ -65,17 +67,17 @@ start-requires : tie.Need-start-requires Inv-loop μ-loop
 start-requires c κs = search needs
 
 loop-holds : tie.Need-loop-holds Inv-loop μ-loop
-loop-holds c = left-all _
+loop-holds c = (left-all _, none-yet (sym (c .before .before .before .fault-10 .ensures) ∙ c .before .before .if1 .left), omega arith)
 
 first-faulty-requires : tie.Need-first-faulty-requires Inv-loop μ-loop
-first-faulty-requires c κs = c .before .before .start .ensures
+first-faulty-requires c κs = (c .before .before .start .ensures, (c .before .loop .inv .1, c .before .loop .inv .2))
 
 cast-t9 : tie.Need-cast-t9 Inv-loop μ-loop
 cast-t9 c = omega (arith, c .before .first-faulty .ensures .1)
 
 returns-2 : tie.Need-returns-2 Inv-loop μ-loop
 unfolding checkImage
-returns-2 c = rw (← c .before .before .before .before .before .before .before .fault-10 .ensures, c .before .before .before .before .before .before .if1 .left) (found (c .before .before .before .loop .inv) (c .before .before .loop-test .taken) (c .before .first-faulty .ensures .0) (c .before .before .before .before .before .node-count .ensures .value) (c .if2 .taken))
+returns-2 c = rw (← c .before .before .before .before .before .before .before .fault-10 .ensures, c .before .before .before .before .before .before .if1 .left) (found (c .before .before .before .loop .inv .0) (c .before .before .loop-test .taken) (c .before .first-faulty .ensures .0) (c .before .before .before .before .before .node-count .ensures .value) (c .if2 .taken))
 
 add-number : tie.Need-add-number Inv-loop μ-loop
 add-number c = search needs
@@ -84,11 +86,11 @@ loop-less : tie.Need-loop-less Inv-loop μ-loop
 loop-less c = search needs
 
 loop-again : tie.Need-loop-again Inv-loop μ-loop
-loop-again c = left-more (c .before .before .before .loop .inv) (c .before .before .loop-test .taken) (c .before .first-faulty .ensures .0) (c .before .before .before .before .before .node-count .ensures .value) (c .if2 .left)
+loop-again c = (left-more (c .before .before .before .loop .inv .0) (c .before .before .loop-test .taken) (c .before .first-faulty .ensures .0) (c .before .before .before .before .before .node-count .ensures .value) (c .if2 .left), none-more (c .before .before .before .loop .inv .1) (rw (← c .before .before .before .before .before .node-count .ensures .value, ← c .before .first-faulty .ensures .0) (c .if2 .left)), omega arith)
 
 returns-3 : tie.Need-returns-3 Inv-loop μ-loop
 unfolding checkImage
-returns-3 c = rw (← c .before .before .before .before .before .fault-10 .ensures, c .before .before .before .before .if1 .left) (accepted (c .before .loop .inv) (c .loop-test .left))
+returns-3 c = rw (← c .before .before .before .before .before .fault-10 .ensures, c .before .before .before .before .if1 .left) (accepted (c .before .loop .inv .0) (c .loop-test .left))
 
 pub check-spec : {M : Type 1} → statement M
 check-spec =

@@ -27,10 +27,10 @@ node-count-requires : tie.Need-node-count-requires Inv-loop μ-loop
 node-count-requires c κs = search needs
 
 loop-holds : tie.Need-loop-holds Inv-loop μ-loop
-loop-holds c = (rest-none _ _ _, c .before .before .pre)
+loop-holds c = (rest-none _ _ _, c .before .before .pre .0)
 
 has-fault-requires : tie.Need-has-fault-requires Inv-loop μ-loop
-has-fault-requires c κs = c .before .loop .inv .1
+has-fault-requires c κs = (c .before .loop .inv .1, (c .before .before .before .before .pre .1 .0, c .before .before .before .before .pre .1 .1, omega (arith, c .loop-test .taken, c .before .before .node-count .ensures .value)))
 
 returns : tie.Need-returns Inv-loop μ-loop
 unfolding firstFaulty

@@ -1,10 +1,25 @@
 -- Each number has its test.
 -- Where an arm is taken the number is the arm's, and the definition computes to the arm's test.
 use borrow.Author.Tests.{ne-eqb}
+use Prim.Native.Nat.{ℕ, suc, _≤_}
+use mathlib.Core.Path.{_≡_}
+use mathlib.Core.List.{[], _∷_}
+use native.Mathlib.Omega.{arith}
 use Rattle.image.specs.Faults.{fault}
+use Rattle.image.proofs.CodeTable.{NoneOf}
+use Rattle.laws.proofs.NoFault.{none-fewer}
 use borrow.Author.Needs.{needs}
 use Rattle.validate.proofs.has_fault.Statement.{statement}
 use Rattle.validate.proofs.has_fault.Tie as tie
+
+past : {m n : ℕ} → (n ≡ m → ⊥) → m ≤ n → suc m ≤ n
+past ne le = omega arith
+
+-- a number from 11 on that has no arm of its own
+past-17 : (n : ℕ) → 11 ≤ n → NoneOf (17 ∷ 16 ∷ 15 ∷ 14 ∷ 13 ∷ 12 ∷ 11 ∷ []) n → 18 ≤ n
+past-17 n le none =
+    past (none .1)
+    (past (none .0 .1) (past (none .0 .0 .1) (past (none .0 .0 .0 .1) (past (none .0 .0 .0 .0 .1) (past (none .0 .0 .0 .0 .0 .1) (past (none .0 .0 .0 .0 .0 .0 .1) le))))))
 
 fault-11-requires : tie.Need-fault-11-requires
 fault-11-requires c κs = search needs
@@ -25,10 +40,10 @@ fault-16-requires : tie.Need-fault-16-requires
 fault-16-requires c κs = search needs
 
 fault-17-requires : tie.Need-fault-17-requires
-fault-17-requires c κs = search needs
+fault-17-requires c κs = (none-fewer 17 (omega (arith, c .match .keys7)) (c .before .before .pre .1 .0), c .before .before .pre .1 .2)
 
 fault-18-requires : tie.Need-fault-18-requires
-fault-18-requires c κs = search needs
+fault-18-requires c κs = (none-fewer 18 (past-17 _ (c .before .before .pre .1 .1) (c .match .rest)) (c .before .before .pre .1 .0), c .before .before .pre .1 .2)
 
 returns : tie.Need-returns
 unfolding fault

@@ -25,7 +25,7 @@ buffer-place-requires : tie.Need-buffer-place-requires
 buffer-place-requires c κs = search needs
 
 add-leaf : tie.Need-add-leaf
-add-leaf c = omega (arith, text-up (c .before .before .before .before .pre .0) (c .before .before .before .before .pre .1), rw add-one at (c .before .offset-at2 .ensures), text-inside _ _ _ _ (c .before .before .before .before .pre .0) (c .before .before .before .before .pre .1), c .before .before .before .before .pre .0 .image .size)
+add-leaf c = omega (arith, text-up (c .before .before .before .before .pre .0) (c .before .before .before .before .pre .1), rw add-one at (c .before .offset-at2 .ensures), text-inside _ _ _ _ (c .before .before .before .before .pre .0) (c .before .before .before .before .pre .1), c .before .before .before .before .pre .0 .image .tables .size)
 
 leaf-requires : tie.Need-leaf-requires
 leaf-requires c κs = search needs

@@ -1,13 +1,13 @@
 -- `fault_17` tells whether the node has fault 17.
--- Each arm of the `match` answers for its layout, which also bounds the width of the offsets.
+-- Each arm of the `match` answers for its layout, whose offsets and sizes lie inside by the lower numbers.
 use mathlib.Core.Path.{refl, sym, _∙_}
 use mathlib.Core.Bool.{false}
 use mathlib.Core.List.{[], _∷_}
 use Rattle.image.specs.declared.type_code.Layout.the-variants.{VariableSize, List as Lists, ListView}
-use Rattle.image.specs.Element.{elementWidth}
 use Rattle.image.specs.Faults.{offsetFault, fault17}
-use Rattle.image.proofs.Widths.{variable-width, list-width, list-view-width}
 use Rattle.validate.proofs.Layouts.{at-code, at-place}
+use Rattle.validate.proofs.Lower.{text-offsets, list-offsets, list-views}
+use native.Mathlib.Omega.{arith}
 use borrow.Author.Needs.{needs}
 use Rattle.validate.proofs.offsets.fault_17.Statement.{statement}
 use Rattle.validate.proofs.offsets.fault_17.Tie as tie
@@ -25,8 +25,7 @@ buffer-length-requires : tie.Need-buffer-length-requires
 buffer-length-requires c κs = search needs
 
 offsets-fall-requires : tie.Need-offsets-fall-requires
-unfolding elementWidth
-offsets-fall-requires c κs = (variable-width _ _ (sym (at-place 3 VariableSize (λ l. l) refl (c .before .before .before .layout .result) (c .before .before .match .keys1) _ _ (c .before .before .before .layout .ensures) (c .before .before .before .before .code .ensures .value))), c .buffer-length .ensures .small)
+offsets-fall-requires c κs = text-offsets (c .before .before .before .before .before .before .pre .0) (omega arith) _ (c .before .before .before .before .before .before .pre .1) (sym (at-place 3 VariableSize (λ l. l) refl (c .before .before .before .layout .result) (c .before .before .match .keys1) _ _ (c .before .before .before .layout .ensures) (c .before .before .before .before .code .ensures .value)))
 
 enum-told-2 : tie.Need-enum-told-2
 enum-told-2 c = search needs
@@ -38,15 +37,13 @@ length-requires : tie.Need-length-requires
 length-requires c κs = search needs
 
 offsets-fall-requires-2 : tie.Need-offsets-fall-requires-2
-unfolding elementWidth
-offsets-fall-requires-2 c κs = (list-width _ _ (sym (at-place 5 Lists (λ l. l) refl (c .before .before .before .before .layout .result) (c .before .before .before .match .keys2) _ _ (c .before .before .before .before .layout .ensures) (c .before .before .before .before .before .code .ensures .value))), c .length .ensures .small)
+offsets-fall-requires-2 c κs = list-offsets (c .before .before .before .before .before .before .before .pre .0) (omega arith) _ (c .before .before .before .before .before .before .before .pre .1) (sym (at-place 5 Lists (λ l. l) refl (c .before .before .before .before .layout .result) (c .before .before .before .match .keys2) _ _ (c .before .before .before .before .layout .ensures) (c .before .before .before .before .before .code .ensures .value)))
 
 enum-told-3 : tie.Need-enum-told-3
 enum-told-3 c = search needs
 
 lists-outside-requires : tie.Need-lists-outside-requires
-unfolding elementWidth
-lists-outside-requires c κs = list-view-width _ _ (sym (at-place 6 ListView (λ l. l) refl (c .before .before .layout .result) (c .before .match .keys3) _ _ (c .before .before .layout .ensures) (c .before .before .before .code .ensures .value)))
+lists-outside-requires c κs = list-views (c .before .before .before .before .before .pre .0) (omega arith) _ (c .before .before .before .before .before .pre .1) (sym (at-place 6 ListView (λ l. l) refl (c .before .before .layout .result) (c .before .match .keys3) _ _ (c .before .before .layout .ensures) (c .before .before .before .code .ensures .value)))
 
 returns : tie.Need-returns
 unfolding fault17

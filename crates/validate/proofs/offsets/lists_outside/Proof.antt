@@ -11,9 +11,8 @@ use Rattle.image.specs.Record.{lengthOf, firstChild, bufferPlace}
 use Rattle.image.specs.Element.{elementWidth, elementPlace, elementAt, sizeAt}
 use Rattle.image.specs.Faults.{listOutside}
 use Rattle.image.proofs.Loops.{Rest, rest-none, any-more, any-found, any-done}
-use Rattle.validate.proofs.Places.{stride-small}
+use Rattle.validate.proofs.Elements.{element-inside}
 use Prim.Native.Nat.{ℕ, _+_, _-_, _*_}
-use lib.ListN.{length}
 use native.Mathlib.Omega.{arith}
 use borrow.Author.Needs.{needs}
 use Rattle.validate.proofs.offsets.lists_outside.Statement.{statement}
@@ -58,29 +57,17 @@ elements-requires c κs = search needs
 loop-holds : tie.Need-loop-holds Inv-loop μ-loop
 loop-holds c = (record { width = c .before .before .before .before .before .element-width .ensures; first = c .before .before .before .before .buffer-place .ensures .value; second = c .before .before .before .buffer-place2 .ensures .value; rows = c .before .length .ensures .value ∙ rw (c .before .before .first-child .ensures .value) }, rest-none _ _ _)
 
-mul-number : tie.Need-mul-number Inv-loop μ-loop
-mul-number c = omega (arith, stride-small (c .before .loop .j) (c .before .before .before .before .before .before .before .element-width .result) 8 (omega arith) (omega arith))
+nth-inside-requires : tie.Need-nth-inside-requires Inv-loop μ-loop
+nth-inside-requires c κs = element-inside _ _ 0 _ (c .before .before .before .before .before .before .before .before .before .pre .0) (c .before .before .before .before .before .before .before .element-width .ensures) (c .before .before .before .before .before .before .buffer-place .ensures .value) (omega (arith, c .before .before .elements .ensures .value))
 
-add-number : tie.Need-add-number Inv-loop μ-loop
-add-number c = omega (arith, stride-small (c .before .loop .j) (c .before .before .before .before .before .before .before .element-width .result) 8 (omega arith) (omega arith))
-
-number-requires : tie.Need-number-requires Inv-loop μ-loop
-number-requires c κs = search needs
-
-mul-number-2 : tie.Need-mul-number-2 Inv-loop μ-loop
-mul-number-2 c = omega (arith, stride-small (c .before .before .loop .j) (c .before .before .before .before .before .before .before .before .element-width .result) 8 (omega arith) (omega arith))
-
-add-number-2 : tie.Need-add-number-2 Inv-loop μ-loop
-add-number-2 c = omega (arith, stride-small (c .before .before .loop .j) (c .before .before .before .before .before .before .before .before .element-width .result) 8 (omega arith) (omega arith))
-
-number-requires-2 : tie.Need-number-requires-2 Inv-loop μ-loop
-number-requires-2 c κs = search needs
+nth-inside-requires-2 : tie.Need-nth-inside-requires-2 Inv-loop μ-loop
+nth-inside-requires-2 c κs = element-inside _ _ 1 _ (c .before .before .before .before .before .before .before .before .before .before .pre .1) (c .before .before .before .before .before .before .before .before .element-width .ensures) (c .before .before .before .before .before .before .buffer-place2 .ensures .value) (omega (arith, c .before .before .before .elements .ensures .value))
 
 returns : tie.Need-returns Inv-loop μ-loop
-returns c = rw (← c .before .before .before .before .before .elements .ensures .value) (any-found _ _ _ _ (c .before .before .before .loop-test .taken) (c .before .before .before .before .loop .inv .1) (listed _ _ _ (c .before .before .before .before .loop .inv .0) (c .before .before .number .ensures .value) (c .before .number2 .ensures .value) ∙ lt-ltb (c .before .before .before .before .before .before .length .result) (c .before .before .number .result + c .before .number2 .result) (omega arith)))
+returns c = rw (← c .before .before .before .before .before .elements .ensures .value) (any-found _ _ _ _ (c .before .before .before .loop-test .taken) (c .before .before .before .before .loop .inv .1) (listed _ _ _ (c .before .before .before .before .loop .inv .0) (c .before .before .nth-inside .ensures .value) (c .before .nth-inside2 .ensures .value) ∙ lt-ltb (c .before .before .before .before .before .before .length .result) (c .before .before .nth-inside .result + c .before .nth-inside2 .result) (omega arith)))
 
 returns-2 : tie.Need-returns-2 Inv-loop μ-loop
-returns-2 c = rw (← c .before .before .before .before .before .before .elements .ensures .value) (any-found _ _ _ _ (c .before .before .before .before .loop-test .taken) (c .before .before .before .before .before .loop .inv .1) (listed _ _ _ (c .before .before .before .before .before .loop .inv .0) (c .before .before .before .number .ensures .value) (c .before .before .number2 .ensures .value) ∙ lt-ltb (c .before .before .before .before .before .before .before .length .result) (c .before .before .before .number .result + c .before .before .number2 .result) (omega arith)))
+returns-2 c = rw (← c .before .before .before .before .before .before .elements .ensures .value) (any-found _ _ _ _ (c .before .before .before .before .loop-test .taken) (c .before .before .before .before .before .loop .inv .1) (listed _ _ _ (c .before .before .before .before .before .loop .inv .0) (c .before .before .before .nth-inside .ensures .value) (c .before .before .nth-inside2 .ensures .value) ∙ lt-ltb (c .before .before .before .before .before .before .before .length .result) (c .before .before .before .nth-inside .result + c .before .before .nth-inside2 .result) (omega arith)))
 
 add-j : tie.Need-add-j Inv-loop μ-loop
 add-j c = search needs
@@ -89,7 +76,7 @@ loop-less : tie.Need-loop-less Inv-loop μ-loop
 loop-less c = search needs
 
 loop-again : tie.Need-loop-again Inv-loop μ-loop
-loop-again c = (c .before .before .before .before .before .loop .inv .0, any-more _ _ _ _ (c .before .before .before .before .loop-test .taken) (c .before .before .before .before .before .loop .inv .1) (listed _ _ _ (c .before .before .before .before .before .loop .inv .0) (c .before .before .before .number .ensures .value) (c .before .before .number2 .ensures .value) ∙ le-ltb (c .before .before .before .before .before .before .before .length .result) (c .before .before .before .number .result + c .before .before .number2 .result) (omega arith)))
+loop-again c = (c .before .before .before .before .before .loop .inv .0, any-more _ _ _ _ (c .before .before .before .before .loop-test .taken) (c .before .before .before .before .before .loop .inv .1) (listed _ _ _ (c .before .before .before .before .before .loop .inv .0) (c .before .before .before .nth-inside .ensures .value) (c .before .before .nth-inside2 .ensures .value) ∙ le-ltb (c .before .before .before .before .before .before .before .length .result) (c .before .before .before .nth-inside .result + c .before .before .nth-inside2 .result) (omega arith)))
 
 returns-3 : tie.Need-returns-3 Inv-loop μ-loop
 returns-3 c = rw (← c .before .before .elements .ensures .value) (any-done _ _ _ _ (c .loop-test .left) (c .before .loop .inv .1))
@@ -107,12 +94,8 @@ lists-outside-spec =
     length-requires
     elements-requires
     loop-holds
-    mul-number
-    add-number
-    number-requires
-    mul-number-2
-    add-number-2
-    number-requires-2
+    nth-inside-requires
+    nth-inside-requires-2
     returns
     returns-2
     add-j

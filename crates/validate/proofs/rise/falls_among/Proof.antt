@@ -5,7 +5,7 @@ use native.Mathlib.Nat.{zero-add}
 use Rattle.image.specs.Ranges.{any}
 use Rattle.image.proofs.Loops.{Rest, rest-none, any-more, any-found, any-done, any-jump, jump-found}
 use Rattle.image.proofs.Numbers.{packed-fewer}
-use Rattle.validate.specs.Strides.{numberIn, falls}
+use Rattle.validate.specs.Numbers.{numberIn, falls}
 use Prim.Native.Nat.{_-_}
 use native.Mathlib.Omega.{arith}
 use borrow.Author.Needs.{needs}
@@ -13,13 +13,13 @@ use Rattle.validate.proofs.rise.falls_among.Statement.{statement}
 use Rattle.validate.proofs.rise.falls_among.Tie as tie
 
 abbrev Inv-loop : tie.InvT-loop
-Inv-loop image place width step n k₀ k = Rest (any (falls step (numberIn image place width width))) 0 n k
+Inv-loop image place width step n k₀ k = Rest (any (falls step (numberIn image place width))) 0 n k
 
 abbrev μ-loop : tie.MeasureT-loop
 μ-loop image place width step n k₀ k = n - k
 
 abbrev Inv-loop2 : tie.InvT-loop2
-Inv-loop2 image place width step n k₀ k = Rest (any (falls step (numberIn image place width width))) 0 n k
+Inv-loop2 image place width step n k₀ k = Rest (any (falls step (numberIn image place width))) 0 n k
 
 abbrev μ-loop2 : tie.MeasureT-loop2
 μ-loop2 image place width step n k₀ k = n - k

@@ -1,7 +1,7 @@
 -- `falls_at` tells whether a number falls against the one before it.
 -- Both are read, and the test without a sum is the definition's.
 use Rattle.image.proofs.Numbers.{packed-few, packed-fewer}
-use Rattle.validate.specs.Strides.{numberIn, falls}
+use Rattle.validate.specs.Numbers.{numberIn, falls}
 use Rattle.validate.proofs.Rises.{falls-by}
 use native.Mathlib.Omega.{arith}
 use Rattle.validate.proofs.rise.falls_at.Statement.{statement}

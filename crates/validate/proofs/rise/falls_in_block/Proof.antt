@@ -4,7 +4,7 @@ use mathlib.Core.Path.{_≡_}
 use Rattle.image.specs.Ranges.{any}
 use Rattle.image.proofs.Loops.{any-empty, any-snoc}
 use Rattle.image.proofs.Numbers.{packed-few, packed-fewer}
-use Rattle.validate.specs.Strides.{numberIn, falls}
+use Rattle.validate.specs.Numbers.{numberIn, falls}
 use Prim.Native.Nat.{_-_, _≤_}
 use native.Mathlib.Omega.{arith}
 use borrow.Author.Needs.{needs}
@@ -12,7 +12,7 @@ use Rattle.validate.proofs.rise.falls_in_block.Statement.{statement}
 use Rattle.validate.proofs.rise.falls_in_block.Tie as tie
 
 abbrev Inv-loop : tie.InvT-loop
-Inv-loop image place width step k found₀ j₀ found j = (j ≤ 64) × (found ≡ any (falls step (numberIn image place width width)) k j)
+Inv-loop image place width step k found₀ j₀ found j = (j ≤ 64) × (found ≡ any (falls step (numberIn image place width)) k j)
 
 abbrev μ-loop : tie.MeasureT-loop
 μ-loop image place width step k found₀ j₀ found j = 64 - j

@@ -1,13 +1,13 @@
 -- `fault_18` tells whether the node has fault 18.
--- Each arm of the `match` answers for its layout, which also bounds the width of keys and views.
+-- Each arm of the `match` answers for its layout, whose rows lie inside by the lower numbers.
 use mathlib.Core.Path.{refl, sym}
 use mathlib.Core.Bool.{false}
 use mathlib.Core.List.{[], _∷_}
-use Rattle.image.specs.declared.type_code.Layout.the-variants.{View, Dictionary}
-use Rattle.image.specs.Element.{elementWidth}
+use Rattle.image.specs.declared.type_code.Layout.the-variants.{View, DenseUnion, SparseUnion, Dictionary, Runs}
 use Rattle.image.specs.Faults.{rowFault, fault18}
-use Rattle.image.proofs.Widths.{view-width, key-width}
 use Rattle.validate.proofs.Layouts.{at-code, at-place}
+use Rattle.validate.proofs.Lower.{views, dense-rows, sparse-rows, keys, run-ends}
+use native.Mathlib.Omega.{arith}
 use borrow.Author.Needs.{needs}
 use Rattle.validate.proofs.rows.fault_18.Statement.{statement}
 use Rattle.validate.proofs.rows.fault_18.Tie as tie
@@ -22,33 +22,31 @@ enum-told : tie.Need-enum-told
 enum-told c = search needs
 
 views-fault-requires : tie.Need-views-fault-requires
-unfolding elementWidth
-views-fault-requires c κs = view-width _ _ (sym (at-place 4 View (λ l. l) refl (c .before .before .layout .result) (c .before .match .keys1) _ _ (c .before .before .layout .ensures) (c .before .before .before .code .ensures .value)))
+views-fault-requires c κs = views (c .before .before .before .before .before .pre .0) (omega arith) _ (c .before .before .before .before .before .pre .1) (sym (at-place 4 View (λ l. l) refl (c .before .before .layout .result) (c .before .match .keys1) _ _ (c .before .before .layout .ensures) (c .before .before .before .code .ensures .value)))
 
 enum-told-2 : tie.Need-enum-told-2
 enum-told-2 c = search needs
 
 dense-fault-requires : tie.Need-dense-fault-requires
-dense-fault-requires c κs = search needs
+dense-fault-requires c κs = dense-rows (c .before .before .before .before .before .pre .0) (omega arith) _ (c .before .before .before .before .before .pre .1) (sym (at-place 9 DenseUnion (λ l. l) refl (c .before .before .layout .result) (c .before .match .keys2) _ _ (c .before .before .layout .ensures) (c .before .before .before .code .ensures .value)))
 
 enum-told-3 : tie.Need-enum-told-3
 enum-told-3 c = search needs
 
 sparse-fault-requires : tie.Need-sparse-fault-requires
-sparse-fault-requires c κs = search needs
+sparse-fault-requires c κs = sparse-rows (c .before .before .before .before .before .pre .0) (omega arith) _ (c .before .before .before .before .before .pre .1) (sym (at-place 10 SparseUnion (λ l. l) refl (c .before .before .layout .result) (c .before .match .keys3) _ _ (c .before .before .layout .ensures) (c .before .before .before .code .ensures .value)))
 
 enum-told-4 : tie.Need-enum-told-4
 enum-told-4 c = search needs
 
 keys-fault-requires : tie.Need-keys-fault-requires
-unfolding elementWidth
-keys-fault-requires c κs = key-width _ _ (sym (at-place 11 Dictionary (λ l. l) refl (c .before .before .layout .result) (c .before .match .keys4) _ _ (c .before .before .layout .ensures) (c .before .before .before .code .ensures .value)))
+keys-fault-requires c κs = keys (c .before .before .before .before .before .pre .0) (omega arith) _ (c .before .before .before .before .before .pre .1) (sym (at-place 11 Dictionary (λ l. l) refl (c .before .before .layout .result) (c .before .match .keys4) _ _ (c .before .before .layout .ensures) (c .before .before .before .code .ensures .value)))
 
 enum-told-5 : tie.Need-enum-told-5
 enum-told-5 c = search needs
 
 runs-fault-requires : tie.Need-runs-fault-requires
-runs-fault-requires c κs = search needs
+runs-fault-requires c κs = run-ends (c .before .before .before .before .before .pre .0) (omega arith) _ (c .before .before .before .before .before .pre .1) (sym (at-place 12 Runs (λ l. l) refl (c .before .before .layout .result) (c .before .match .keys5) _ _ (c .before .before .layout .ensures) (c .before .before .before .code .ensures .value)))
 
 returns : tie.Need-returns
 unfolding fault18

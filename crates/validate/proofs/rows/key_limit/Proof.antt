@@ -10,7 +10,7 @@ use Rattle.image.specs.Record.{p1Of, lengthOf, firstChild}
 use Rattle.image.specs.TypeCode.{keySigned, signBit}
 use Rattle.image.specs.Element.{elementWidth}
 use Rattle.image.specs.Faults.{keyOutside}
-use Rattle.validate.specs.Strides.{KeyLimit}
+use Rattle.validate.specs.Numbers.{KeyLimit}
 use native.Mathlib.Omega.{arith}
 use borrow.Author.Needs.{needs}
 use Rattle.validate.proofs.rows.key_limit.Statement.{statement}

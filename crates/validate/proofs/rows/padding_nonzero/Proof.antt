@@ -1,6 +1,7 @@
--- `padding_nonzero` tells whether one of the bytes past an inline view's length is not zero.
--- The loop keeps what is left of the test.
-use mathlib.Core.Path.{_≡_}
+-- `padding_nonzero` tells whether a byte past an inline view's length is not zero.
+-- The first eight or four bytes are one number and the last another, and the two cover all; the loop keeps what is left of
+-- the test.
+use mathlib.Core.Path.{_≡_, refl}
 use mathlib.Core.Bool.{true, false}
 use mathlib.Core.List.{List}
 use borrow.Author.Tests.{eq-eqb, ne-eqb}
@@ -8,7 +9,9 @@ use Rattle.image.specs.Ranges.{any}
 use Rattle.image.specs.Bytes.{byteAt}
 use Rattle.image.specs.Faults.{nonzero, paddingNonzero}
 use Rattle.image.proofs.Loops.{Rest, rest-none, any-more, any-found, any-done}
+use Rattle.validate.proofs.Padding.{front-padded, back-padded}
 use Prim.Native.Nat.{ℕ, _-_}
+use native.Mathlib.Omega.{arith}
 use borrow.Author.Needs.{needs}
 use Rattle.validate.proofs.rows.padding_nonzero.Statement.{statement}
 use Rattle.validate.proofs.rows.padding_nonzero.Tie as tie
@@ -33,21 +36,51 @@ add-at c = search needs
 add-at-2 : tie.Need-add-at-2 Inv-loop μ-loop
 add-at-2 c = search needs
 
+octet-requires : tie.Need-octet-requires Inv-loop μ-loop
+octet-requires c κs = search needs
+
+returns : tie.Need-returns Inv-loop μ-loop
+returns c = front-padded _ _ (c .before .before .before .before .pre .1) 8 (omega arith) (c .before .octet .ensures .value) (c .if2 .taken)
+
+add-octet : tie.Need-add-octet Inv-loop μ-loop
+add-octet c = search needs
+
+octet-requires-2 : tie.Need-octet-requires-2 Inv-loop μ-loop
+octet-requires-2 c κs = search needs
+
+returns-2 : tie.Need-returns-2 Inv-loop μ-loop
+returns-2 c = back-padded _ _ (c .before .before .before .before .before .pre .1) 8 (omega arith) (c .before .before .octet .ensures .value) _ (c .before .before .before .before .before .pre .2) (omega arith) (omega arith) (c .before .if2 .left) (c .octet2 .ensures .value)
+
+quad-requires : tie.Need-quad-requires Inv-loop μ-loop
+quad-requires c κs = search needs
+
+returns-3 : tie.Need-returns-3 Inv-loop μ-loop
+returns-3 c = front-padded _ _ (c .before .before .before .before .before .pre .1) 4 (omega arith) (c .before .quad .ensures .value) (c .if4 .taken)
+
+add-quad : tie.Need-add-quad Inv-loop μ-loop
+add-quad c = search needs
+
+quad-requires-2 : tie.Need-quad-requires-2 Inv-loop μ-loop
+quad-requires-2 c κs = search needs
+
+returns-4 : tie.Need-returns-4 Inv-loop μ-loop
+returns-4 c = back-padded _ _ (c .before .before .before .before .before .before .pre .1) 4 (omega arith) (c .before .before .quad .ensures .value) _ (c .before .before .before .before .before .before .pre .2) (omega arith) (omega arith) (c .before .if4 .left) (c .quad2 .ensures .value)
+
 sub-count : tie.Need-sub-count Inv-loop μ-loop
 sub-count c = search needs
 
 loop-holds : tie.Need-loop-holds Inv-loop μ-loop
 loop-holds c = rest-none _ _ _
 
-add-byte : tie.Need-add-byte Inv-loop μ-loop
-add-byte c = search needs
+add-if5 : tie.Need-add-if5 Inv-loop μ-loop
+add-if5 c = search needs
 
-byte-requires : tie.Need-byte-requires Inv-loop μ-loop
-byte-requires c κs = search needs
+shared-slice-read-if5 : tie.Need-shared-slice-read-if5 Inv-loop μ-loop
+shared-slice-read-if5 c = search needs
 
-returns : tie.Need-returns Inv-loop μ-loop
+returns-5 : tie.Need-returns-5 Inv-loop μ-loop
 unfolding paddingNonzero
-returns c = rw (← c .before .before .before .before .before .pre .1) (any-found _ _ _ _ (c .before .before .loop-test .taken) (c .before .before .before .loop .inv) (other-byte _ _ _ (c .before .byte .ensures .value) (c .if1 .taken)))
+returns-5 c = rw (← c .before .before .before .before .before .before .before .pre .1) (any-found _ _ _ _ (c .before .before .loop-test .taken) (c .before .before .before .loop .inv) (other-byte _ _ _ refl (c .if5 .taken)))
 
 add-k : tie.Need-add-k Inv-loop μ-loop
 add-k c = search needs
@@ -56,11 +89,11 @@ loop-less : tie.Need-loop-less Inv-loop μ-loop
 loop-less c = search needs
 
 loop-again : tie.Need-loop-again Inv-loop μ-loop
-loop-again c = any-more _ _ _ _ (c .before .before .loop-test .taken) (c .before .before .before .loop .inv) (zero-byte _ _ _ (c .before .byte .ensures .value) (c .if1 .left))
+loop-again c = any-more _ _ _ _ (c .before .before .loop-test .taken) (c .before .before .before .loop .inv) (zero-byte _ _ _ refl (c .if5 .left))
 
-returns-2 : tie.Need-returns-2 Inv-loop μ-loop
+returns-6 : tie.Need-returns-6 Inv-loop μ-loop
 unfolding paddingNonzero
-returns-2 c = rw (← c .before .before .before .pre .1) (any-done _ _ _ _ (c .loop-test .left) (c .before .loop .inv))
+returns-6 c = rw (← c .before .before .before .before .before .pre .1) (any-done _ _ _ _ (c .loop-test .left) (c .before .loop .inv))
 
 pub padding-nonzero-spec : {M : Type 1} → statement M
 padding-nonzero-spec =
@@ -70,12 +103,22 @@ padding-nonzero-spec =
     μ-loop
     add-at
     add-at-2
+    octet-requires
+    returns
+    add-octet
+    octet-requires-2
+    returns-2
+    quad-requires
+    returns-3
+    add-quad
+    quad-requires-2
+    returns-4
     sub-count
     loop-holds
-    add-byte
-    byte-requires
-    returns
+    add-if5
+    shared-slice-read-if5
+    returns-5
     add-k
     loop-less
     loop-again
-    returns-2)
+    returns-6)

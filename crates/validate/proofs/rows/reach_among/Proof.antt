@@ -9,7 +9,7 @@ use Rattle.image.specs.Bytes.{numberAt}
 use Rattle.image.specs.Ranges.{any}
 use Rattle.image.proofs.Loops.{Rest, rest-none, any-more, any-found, any-done, any-jump, jump-found}
 use Rattle.image.proofs.Numbers.{packed-fewer}
-use Rattle.validate.specs.Strides.{numberIn, reaches}
+use Rattle.validate.specs.Numbers.{numberIn, reaches}
 use Prim.Native.Nat.{ℕ, _+_, _-_, _*_}
 use native.Mathlib.Omega.{arith}
 use borrow.Author.Needs.{needs}
@@ -17,19 +17,19 @@ use Rattle.validate.proofs.rows.reach_among.Statement.{statement}
 use Rattle.validate.proofs.rows.reach_among.Tie as tie
 
 abbrev Inv-loop : tie.InvT-loop
-Inv-loop image place width limit n k₀ k = Rest (any (reaches limit (numberIn image place width width))) 0 n k
+Inv-loop image place width limit n k₀ k = Rest (any (reaches limit (numberIn image place width))) 0 n k
 
 abbrev μ-loop : tie.MeasureT-loop
 μ-loop image place width limit n k₀ k = n - k
 
 abbrev Inv-loop2 : tie.InvT-loop2
-Inv-loop2 image place width limit n k₀ k = Rest (any (reaches limit (numberIn image place width width))) 0 n k
+Inv-loop2 image place width limit n k₀ k = Rest (any (reaches limit (numberIn image place width))) 0 n k
 
 abbrev μ-loop2 : tie.MeasureT-loop2
 μ-loop2 image place width limit n k₀ k = n - k
 
 -- the test of the number that was read
-at : (s : List ℕ) (place w limit k : ℕ) {x : ℕ} → x ≡ numberAt w s (place + k * w) → reaches limit (numberIn s place w w) (0 + k) ≡ leb limit x
+at : (s : List ℕ) (place w limit k : ℕ) {x : ℕ} → x ≡ numberAt w s (place + k * w) → reaches limit (numberIn s place w) (0 + k) ≡ leb limit x
 unfolding reaches numberIn
 at s place w limit k e = rw (zero-add, ← e)
 

@@ -4,7 +4,7 @@ use mathlib.Core.Path.{ap, _∙_}
 use mathlib.Core.Bool.{not}
 use native.Mathlib.Omega.{arith}
 use borrow.Author.Needs.{needs}
-use Rattle.validate.proofs.RunEnds.{sign-least, sign-most, ends-rise}
+use Rattle.validate.proofs.RunEnds.{sign-least, ends-packed, ends-rise}
 use Rattle.validate.proofs.rows.run_ends_fall.Statement.{statement}
 use Rattle.validate.proofs.rows.run_ends_fall.Tie as tie
 
@@ -24,14 +24,7 @@ length-requires : tie.Need-length-requires
 length-requires c κs = search needs
 
 rise-requires : tie.Need-rise-requires
-rise-requires c κs = record {
-  near = c .before .before .before .ends-of .ensures .near;
-  short = omega (arith, c .before .before .before .ends-of .ensures .narrow);
-  narrow = c .before .before .before .ends-of .ensures .narrow;
-  least = omega arith;
-  high = omega (arith, sign-least (c .before .before .before .ends-of .result .width) (c .before .before .before .ends-of .ensures .some) (c .before .before .before .ends-of .ensures .narrow), sign-most (c .before .before .before .ends-of .result .width) (c .before .before .before .ends-of .ensures .some) (c .before .before .before .ends-of .ensures .narrow));
-  few = omega arith;
-}
+rise-requires c κs = (ends-packed _ _ _ (c .before .before .before .before .before .pre) (c .before .before .before .ends-of .ensures) (rw (← c .before .first-child .ensures .value) (c .length .ensures .value)), omega arith)
 
 returns : tie.Need-returns
 returns c = ap not (c .rise .ensures ∙ ends-rise _ _ _ (c .before .before .before .before .ends-of .ensures) (c .before .before .before .sign-bit .ensures) (rw (← c .before .before .first-child .ensures .value) (c .before .length .ensures .value)))

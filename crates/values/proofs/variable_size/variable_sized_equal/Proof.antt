@@ -33,13 +33,13 @@ buffer-place-requires : tie.Need-buffer-place-requires
 buffer-place-requires c κs = search needs
 
 add-equal-len : tie.Need-add-equal-len
-add-equal-len c = omega (arith, c .buffer-place .ensures .value, c .before .before .before .offset-at .ensures, c .before .before .offset-at2 .ensures, c .before .offset-at3 .ensures, text-inside _ _ _ _ (c .before .before .before .before .before .before .before .before .pre .0 .left) (c .before .before .before .before .before .before .before .before .pre .1), text-up _ _ _ _ (c .before .before .before .before .before .before .before .before .pre .0 .left) (c .before .before .before .before .before .before .before .before .pre .1), c .before .before .before .before .before .before .before .before .pre .0 .left .image .size)
+add-equal-len c = omega (arith, c .buffer-place .ensures .value, c .before .before .before .offset-at .ensures, c .before .before .offset-at2 .ensures, c .before .offset-at3 .ensures, text-inside _ _ _ _ (c .before .before .before .before .before .before .before .before .pre .0 .left) (c .before .before .before .before .before .before .before .before .pre .1), text-up _ _ _ _ (c .before .before .before .before .before .before .before .before .pre .0 .left) (c .before .before .before .before .before .before .before .before .pre .1), c .before .before .before .before .before .before .before .before .pre .0 .left .image .tables .size)
 
 buffer-place-requires-2 : tie.Need-buffer-place-requires-2
 buffer-place-requires-2 c κs = search needs
 
 add-equal-len-2 : tie.Need-add-equal-len-2
-add-equal-len-2 c = omega (arith, c .buffer-place2 .ensures .value, c .before .before .before .before .offset-at .ensures, c .before .before .before .offset-at2 .ensures, c .before .before .offset-at3 .ensures, text-inside _ _ _ _ (c .before .before .before .before .before .before .before .before .before .pre .0 .right) (sym (ap layoutOf (c .before .before .before .before .before .before .before .before .before .pre .0 .alike .0 .code)) ∙ c .before .before .before .before .before .before .before .before .before .pre .1), right-end _ _ _ _ _ _ _ (text-spans (c .before .before .before .before .before .before .before .before .before .pre .0) (c .before .before .before .before .before .before .before .before .before .pre .1)) (sym (c .before .before .before .before .before .before .lengths-equal .ensures) ∙ not-false _ (c .before .before .before .before .before .if1 .left)), c .before .before .before .before .before .before .before .before .before .pre .0 .right .image .size)
+add-equal-len-2 c = omega (arith, c .buffer-place2 .ensures .value, c .before .before .before .before .offset-at .ensures, c .before .before .before .offset-at2 .ensures, c .before .before .offset-at3 .ensures, text-inside _ _ _ _ (c .before .before .before .before .before .before .before .before .before .pre .0 .right) (sym (ap layoutOf (c .before .before .before .before .before .before .before .before .before .pre .0 .alike .0 .code)) ∙ c .before .before .before .before .before .before .before .before .before .pre .1), right-end _ _ _ _ _ _ _ (text-spans (c .before .before .before .before .before .before .before .before .before .pre .0) (c .before .before .before .before .before .before .before .before .before .pre .1)) (sym (c .before .before .before .before .before .before .lengths-equal .ensures) ∙ not-false _ (c .before .before .before .before .before .if1 .left)), c .before .before .before .before .before .before .before .before .before .pre .0 .right .image .tables .size)
 
 sub-equal-len : tie.Need-sub-equal-len
 sub-equal-len c = omega (arith, c .before .before .before .before .offset-at .ensures, c .before .before .before .offset-at2 .ensures, c .before .before .offset-at3 .ensures, text-up _ _ _ _ (c .before .before .before .before .before .before .before .before .before .pre .0 .left) (c .before .before .before .before .before .before .before .before .before .pre .1))
