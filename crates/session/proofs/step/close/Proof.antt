@@ -1,13 +1,13 @@
 -- A close answers 41 for a closed side, and else what the check of its image says.
 -- By the ways of the test and the check's variants.
 use Rattle.session.proofs.Sides.{image-length, close-accepts, close-refuses}
-use Rattle.session.specs.Steps.{closeKept}
+use Rattle.session.specs.Steps.{closeSide}
 use borrow.Author.Needs.{needs}
 use Rattle.session.proofs.step.close.Statement.{statement}
 use Rattle.session.proofs.step.close.Tie as tie
 
 returns : tie.Need-returns
-unfolding closeKept
+unfolding closeSide
 returns c = rw (c .if1 .taken)
 
 filled-requires : tie.Need-filled-requires
@@ -26,10 +26,10 @@ enum-known-fault : tie.Need-enum-known-fault
 enum-known-fault c = search needs
 
 returns-2 : tie.Need-returns-2
-returns-2 c = close-accepts _ (c .before .before .before .before .before .before .before .args .held) _ (c .before .before .before .before .filled .ensures) _ (c .before .before .before .before .before .if1 .left) (c .before .before .check .ensures) (c .enum-told .given .1)
+returns-2 c = close-accepts _ (c .before .before .before .before .before .before .before .args .side-state) _ (c .before .before .before .before .filled .ensures) _ (c .before .before .before .before .before .if1 .left) (c .before .before .check .ensures) (c .enum-told .given .1)
 
 returns-3 : tie.Need-returns-3
-returns-3 c = close-refuses _ (c .before .before .before .before .before .before .before .before .args .held) _ (c .before .before .before .before .before .filled .ensures) _ _ (c .before .before .before .before .before .before .if1 .left) (c .before .before .before .check .ensures) (c .before .fault .given .1)
+returns-3 c = close-refuses _ (c .before .before .before .before .before .before .before .before .args .side-state) _ (c .before .before .before .before .before .filled .ensures) _ _ (c .before .before .before .before .before .before .if1 .left) (c .before .before .before .check .ensures) (c .before .fault .given .1)
 
 pub close-spec : {M : Type 1} → statement M
 close-spec =

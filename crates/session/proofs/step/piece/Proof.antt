@@ -18,16 +18,16 @@ abbrev μ-loop : tie.MeasureT-loop
 μ-loop store₀ bytes used n k₀ store k = n - k
 
 returns : tie.Need-returns Inv-loop μ-loop
-returns c = piece-closed _ (c .before .args .held) _ (c .if1 .taken)
+returns c = piece-closed _ (c .before .args .side-state) _ (c .if1 .taken)
 
 returns-2 : tie.Need-returns-2 Inv-loop μ-loop
-returns-2 c = piece-past _ (c .before .before .args .held) _ (c .before .if1 .left) (omega (arith, c .if2 .taken))
+returns-2 c = piece-past _ (c .before .before .args .side-state) _ (c .before .if1 .left) (omega (arith, c .if2 .taken))
 
 sub-if3 : tie.Need-sub-if3 Inv-loop μ-loop
 sub-if3 c = search needs
 
 returns-3 : tie.Need-returns-3 Inv-loop μ-loop
-returns-3 c = piece-past _ (c .before .before .before .args .held) _ (c .before .before .if1 .left) (omega (arith, c .if3 .taken))
+returns-3 c = piece-past _ (c .before .before .before .args .side-state) _ (c .before .before .if1 .left) (omega (arith, c .if3 .taken))
 
 loop-holds : tie.Need-loop-holds Inv-loop μ-loop
 loop-holds c = (search needs, pasted-none _ _ _)
@@ -60,7 +60,7 @@ returns-4 : tie.Need-returns-4 Inv-loop μ-loop
 returns-4 c =
     let bytes = c .before .before .before .before .before .args .bytes .now in
     let all : c .before .loop .k ≡ length bytes = omega arith in
-    piece-fits _ (c .before .before .before .before .before .args .held) _ _ (c .before .before .before .before .if1 .left) (omega (arith, c .before .before .if3 .left, c .before .before .before .if2 .left)) (c .before .loop .inv .1 .same ∙ ap (paste (c .before .before .before .before .before .args .store .now) (c .before .before .before .before .before .args .held .used) bytes) all)
+    piece-fits _ (c .before .before .before .before .before .args .side-state) _ _ (c .before .before .before .before .if1 .left) (omega (arith, c .before .before .if3 .left, c .before .before .before .if2 .left)) (c .before .loop .inv .1 .same ∙ ap (paste (c .before .before .before .before .before .args .store .now) (c .before .before .before .before .before .args .side-state .used) bytes) all)
 
 pub piece-spec : {M : Type 1} → statement M
 piece-spec =
