@@ -1,6 +1,6 @@
 -- What a line does to a side and to the state, from what the calls give.
 -- The part of a store that is lent is its image; the rest is by rewriting with the calls' equations.
-use mathlib.Core.Path.{_≡_, refl, _∙_}
+use mathlib.Core.Path.{_≡_, refl, ap, _∙_}
 use mathlib.Core.Bool.{Bool, true, false, cond}
 use mathlib.Core.List.{List, [], _∷_}
 use Prim.Native.Nat.{ℕ, _+_, _-_, _≤_, _<_}
@@ -79,12 +79,12 @@ module _ (store : List ℕ) (s : SideState) (bytes : List ℕ) where
       let over : ltb (length store) (s .used + length bytes) ≡ true = lt-ltb _ _ past in
       (yes _ _ _ over ∙ no (s .closed) _ _ was, yes _ _ _ over ∙ no (s .closed) _ _ was)
 
-  pub piece-fits : (after : List ℕ) → s .closed ≡ false → s .used + length bytes ≤ length store → after ≡ paste store (s .used) bytes (length bytes) →
-      (sideStepped (sideState (s .used + length bytes) false) Done ≡ pieceSide store s bytes) × (after ≡ pieceStore store s bytes)
+  pub piece-fits : (after : List ℕ) (n : ℕ) → s .closed ≡ false → n ≡ length bytes → s .used + n ≤ length store → after ≡ paste store (s .used) bytes n →
+      (sideStepped (sideState (s .used + n) false) Done ≡ pieceSide store s bytes) × (after ≡ pieceStore store s bytes)
   unfolding pieceSide pieceStore pastStore
-  piece-fits after was fits put =
-      let under : ltb (length store) (s .used + length bytes) ≡ false = le-ltb _ _ fits in
-      (no _ _ _ under ∙ no (s .closed) _ _ was, put ∙ no _ _ _ under ∙ no (s .closed) _ _ was)
+  piece-fits after n was whole fits put =
+      let under : ltb (length store) (s .used + length bytes) ≡ false = le-ltb (length store) (s .used + length bytes) (rw (← whole) fits) in
+      (ap (λ (m : ℕ). sideStepped (sideState (s .used + m) false) Done) whole ∙ no _ _ _ under ∙ no (s .closed) _ _ was, put ∙ ap (paste store (s .used) bytes) whole ∙ no _ _ _ under ∙ no (s .closed) _ _ was)
 
 -- a frame that is a piece has a first byte
 pub piece-long : (b : List ℕ) (x : Frame) (side : Side) → x ≡ frameOf b → x ≡ Piece side → 1 ≤ length b

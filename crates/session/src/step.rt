@@ -85,8 +85,9 @@ fn piece(store: &mut [u8], side_state: SideState, bytes: &[u8]) -> SideStepped
             reply: Reply::Refused(40),
         };
     }
-    let n = bytes.len();
-    if store.len() - used < n {
+    let room = store.len() - used;
+    let n = front(bytes, room);
+    if n < bytes.len() {
         return SideStepped {
             side: side_state,
             reply: Reply::Refused(40),
