@@ -127,10 +127,7 @@ fn close(store: &[u8], side_state: SideState) -> SideStepped
             reply: Reply::Done,
         },
         Checked::Refused(fault) => SideStepped {
-            side: SideState {
-                used: 0,
-                closed: false,
-            },
+            side: opened(),
             reply: Reply::Faulty(fault),
         },
     }
