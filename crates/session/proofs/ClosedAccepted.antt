@@ -13,43 +13,43 @@ use Rattle.image.specs.Faults.{checkImage}
 use Rattle.session.specs.declared.frame.Frame.{Frame}
 use Rattle.session.specs.declared.frame.Frame.the-variants.{Piece, Close, Compare, CompareRange, Write, Empty, Refused as BadFrame}
 use Rattle.session.specs.declared.reply.Reply.the-variants.{Done, Refused}
-use Rattle.session.specs.declared.step.Held.{Held}
+use Rattle.session.specs.declared.step.SideState.{SideState}
 use Rattle.session.specs.declared.step.State.{State}
 use Rattle.session.specs.Frames.{frameOf}
 use Rattle.session.specs.Lines.{bytesOf}
-use Rattle.session.specs.Steps.{held, kept, emptied, imageOf, pastStore, pieceKept, pieceStore, closedBy, closeKept, pieceStepped, closeStepped, writeStepped, emptyStepped, After, obeyed, afterFrame, afterLine}
+use Rattle.session.specs.Steps.{sideState, sideStepped, emptied, imageOf, pastStore, pieceSide, pieceStore, closedBy, closeSide, pieceStepped, closeStepped, writeStepped, emptyStepped, After, obeyed, afterFrame, afterLine}
 use Rattle.session.specs.Sessions.{started, next, afterLines, Sound, BothSound}
 
 -- an open side is sound whatever it holds
-open-sound : (h : Held) (store : List ℕ) → h .closed ≡ false → Sound h store
-open-sound h store e closed = absurd (false≢true (sym e ∙ closed))
+open-sound : (s : SideState) (store : List ℕ) → s .closed ≡ false → Sound s store
+open-sound s store e closed = absurd (false≢true (sym e ∙ closed))
 
-piece-sound : (store : List ℕ) (h : Held) (bytes : List ℕ) → Sound h store → Sound (pieceKept store h bytes .held) (pieceStore store h bytes)
-unfolding pieceKept pieceStore
-piece-sound store h bytes sound = by-closed (h .closed) refl
+piece-sound : (store : List ℕ) (s : SideState) (bytes : List ℕ) → Sound s store → Sound (pieceSide store s bytes .side) (pieceStore store s bytes)
+unfolding pieceSide pieceStore
+piece-sound store s bytes sound = by-closed (s .closed) refl
   where
-    by-past : (b : Bool) → h .closed ≡ false → Sound (cond b (kept h (Refused 40)) (kept (held (h .used + length bytes) false) Done) .held) (cond b store (paste store (h .used) bytes (length bytes)))
-    by-past true e = open-sound h store e
-    by-past false e = open-sound (held (h .used + length bytes) false) _ refl
+    by-past : (b : Bool) → s .closed ≡ false → Sound (cond b (sideStepped s (Refused 40)) (sideStepped (sideState (s .used + length bytes) false) Done) .side) (cond b store (paste store (s .used) bytes (length bytes)))
+    by-past true e = open-sound s store e
+    by-past false e = open-sound (sideState (s .used + length bytes) false) _ refl
 
-    by-closed : (b : Bool) → h .closed ≡ b →
+    by-closed : (b : Bool) → s .closed ≡ b →
         Sound
-        (cond b (kept h (Refused 41)) (cond (pastStore store h bytes) (kept h (Refused 40)) (kept (held (h .used + length bytes) false) Done)) .held)
-        (cond b store (cond (pastStore store h bytes) store (paste store (h .used) bytes (length bytes))))
+        (cond b (sideStepped s (Refused 41)) (cond (pastStore store s bytes) (sideStepped s (Refused 40)) (sideStepped (sideState (s .used + length bytes) false) Done)) .side)
+        (cond b store (cond (pastStore store s bytes) store (paste store (s .used) bytes (length bytes))))
     by-closed true e = sound
-    by-closed false e = by-past (pastStore store h bytes) e
+    by-closed false e = by-past (pastStore store s bytes) e
 
-close-sound : (store : List ℕ) (h : Held) → Sound h store → Sound (closeKept store h .held) store
-unfolding closeKept imageOf
-close-sound store h sound = by-closed (h .closed)
+close-sound : (store : List ℕ) (s : SideState) → Sound s store → Sound (closeSide store s .side) store
+unfolding closeSide imageOf
+close-sound store s sound = by-closed (s .closed)
   where
-    by-check : (x : Checked) → checkImage (imageOf h store) ≡ x → Sound (closedBy x (h .used) .held) store
+    by-check : (x : Checked) → checkImage (imageOf s store) ≡ x → Sound (closedBy x (s .used) .side) store
     by-check Accepted e = λ closed. e
     by-check (CheckRefused f) e = open-sound emptied store refl
 
-    by-closed : (b : Bool) → Sound (cond b (kept h (Refused 41)) (closedBy (checkImage (imageOf h store)) (h .used)) .held) store
+    by-closed : (b : Bool) → Sound (cond b (sideStepped s (Refused 41)) (closedBy (checkImage (imageOf s store)) (s .used)) .side) store
     by-closed true = sound
-    by-closed false = by-check (checkImage (imageOf h store)) refl
+    by-closed false = by-check (checkImage (imageOf s store)) refl
 
 frame-sound : (f : Frame) (b left right : List ℕ) (state : State) (out : List ℕ) → Sound (state .left) left → Sound (state .right) right → BothSound (obeyed f b left right state out)
 unfolding pieceStepped closeStepped writeStepped emptyStepped

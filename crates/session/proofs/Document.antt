@@ -31,7 +31,7 @@ unfolding Sessions.characters Sessions.replies Input.inFront Input.linesOf Input
     Lines.digitOf Lines.preceded Lines.scan Lines.short Lines.bytesOf
     Frames.bySide Frames.ofLength Frames.pieceFrame Frames.closeFrame Frames.compareFrame Frames.writeFrame Frames.byKind Frames.frameOf
     Replies.digitText Replies.hexText Replies.lineText Replies.replyLine
-    Steps.imageOf Steps.pastStore Steps.pieceKept Steps.pieceStore Steps.closeKept Steps.bothClosed Steps.comparesReply
+    Steps.imageOf Steps.pastStore Steps.pieceSide Steps.pieceStore Steps.closeSide Steps.bothClosed Steps.comparesReply
     Steps.writeReply Steps.writeOut Steps.pieceStepped Steps.closeStepped Steps.writeStepped Steps.writtenOut Steps.afterFrame Steps.afterLine
     Ranges.any Ranges.every Ranges.first Ranges.sumTo Ranges.rises
     Bytes.numberAt Bytes.numberBytes Bytes.bitAt Bytes.bytesAt

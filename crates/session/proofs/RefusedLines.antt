@@ -16,54 +16,54 @@ use Rattle.api.proofs.RefusedWrites.{refused-unwritten}
 use Rattle.session.specs.declared.frame.Frame.{Frame}
 use Rattle.session.specs.declared.frame.Frame.the-variants.{Piece, Close, Compare, CompareRange, Write, Empty, Refused as BadFrame}
 use Rattle.session.specs.declared.reply.Reply.the-variants.{Done, Refused}
-use Rattle.session.specs.declared.step.Held.{Held}
+use Rattle.session.specs.declared.step.SideState.{SideState}
 use Rattle.session.specs.declared.step.State.{State}
 use Rattle.session.specs.Frames.{frameOf}
 use Rattle.session.specs.Lines.{bytesOf}
 use Rattle.session.specs.Replies.{writtenReply}
-use Rattle.session.specs.Steps.{held, kept, emptied, imageOf, pastStore, pieceKept, pieceStore, closedBy, closeKept, storeOf, heldOf, writeReply, writeOut, pieceStepped, closeStepped, writeStepped, writtenOut, emptyStepped, After, obeyed, afterFrame, afterLine}
+use Rattle.session.specs.Steps.{sideState, sideStepped, emptied, imageOf, pastStore, pieceSide, pieceStore, closedBy, closeSide, storeOf, sideOf, writeReply, writeOut, pieceStepped, closeStepped, writeStepped, writtenOut, emptyStepped, After, obeyed, afterFrame, afterLine}
 use Rattle.session.specs.Sessions.{next, refusal, refusedState, Unchanged}
 
 -- a piece
-piece-refused : (store : List ℕ) (h : Held) (bytes : List ℕ) → refusal (pieceKept store h bytes .reply) ≡ true → (pieceKept store h bytes .held ≡ h) × (pieceStore store h bytes ≡ store)
-unfolding pieceKept pieceStore
-piece-refused store h bytes = by-closed (h .closed)
+piece-refused : (store : List ℕ) (s : SideState) (bytes : List ℕ) → refusal (pieceSide store s bytes .reply) ≡ true → (pieceSide store s bytes .side ≡ s) × (pieceStore store s bytes ≡ store)
+unfolding pieceSide pieceStore
+piece-refused store s bytes = by-closed (s .closed)
   where
-    fits : Held
-    fits = held (h .used + length bytes) false
+    fits : SideState
+    fits = sideState (s .used + length bytes) false
 
-    by-past : (b : Bool) → refusal (cond b (kept h (Refused 40)) (kept fits Done) .reply) ≡ true →
-        (cond b (kept h (Refused 40)) (kept fits Done) .held ≡ h) × (cond b store (paste store (h .used) bytes (length bytes)) ≡ store)
+    by-past : (b : Bool) → refusal (cond b (sideStepped s (Refused 40)) (sideStepped fits Done) .reply) ≡ true →
+        (cond b (sideStepped s (Refused 40)) (sideStepped fits Done) .side ≡ s) × (cond b store (paste store (s .used) bytes (length bytes)) ≡ store)
     by-past true e = (refl, refl)
     by-past false e = absurd (false≢true e)
 
-    by-closed : (b : Bool) → refusal (cond b (kept h (Refused 41)) (cond (pastStore store h bytes) (kept h (Refused 40)) (kept fits Done)) .reply) ≡ true →
-        (cond b (kept h (Refused 41)) (cond (pastStore store h bytes) (kept h (Refused 40)) (kept fits Done)) .held ≡ h)
-        × (cond b store (cond (pastStore store h bytes) store (paste store (h .used) bytes (length bytes))) ≡ store)
+    by-closed : (b : Bool) → refusal (cond b (sideStepped s (Refused 41)) (cond (pastStore store s bytes) (sideStepped s (Refused 40)) (sideStepped fits Done)) .reply) ≡ true →
+        (cond b (sideStepped s (Refused 41)) (cond (pastStore store s bytes) (sideStepped s (Refused 40)) (sideStepped fits Done)) .side ≡ s)
+        × (cond b store (cond (pastStore store s bytes) store (paste store (s .used) bytes (length bytes))) ≡ store)
     by-closed true e = (refl, refl)
-    by-closed false e = by-past (pastStore store h bytes) e
+    by-closed false e = by-past (pastStore store s bytes) e
 
 -- a close: of a closed side nothing is changed, an open side is emptied
-close-refused : (store : List ℕ) (h : Held) → refusal (closeKept store h .reply) ≡ true → closeKept store h .held ≡ cond (h .closed) h emptied
-unfolding closeKept
-close-refused store h = by-closed (h .closed)
+close-refused : (store : List ℕ) (s : SideState) → refusal (closeSide store s .reply) ≡ true → closeSide store s .side ≡ cond (s .closed) s emptied
+unfolding closeSide
+close-refused store s = by-closed (s .closed)
   where
-    by-check : (x : Checked) → refusal (closedBy x (h .used) .reply) ≡ true → closedBy x (h .used) .held ≡ emptied
+    by-check : (x : Checked) → refusal (closedBy x (s .used) .reply) ≡ true → closedBy x (s .used) .side ≡ emptied
     by-check Accepted e = absurd (false≢true e)
     by-check (CheckRefused f) e = refl
 
-    by-closed : (b : Bool) → refusal (cond b (kept h (Refused 41)) (closedBy (checkImage (imageOf h store)) (h .used)) .reply) ≡ true →
-        cond b (kept h (Refused 41)) (closedBy (checkImage (imageOf h store)) (h .used)) .held ≡ cond b h emptied
+    by-closed : (b : Bool) → refusal (cond b (sideStepped s (Refused 41)) (closedBy (checkImage (imageOf s store)) (s .used)) .reply) ≡ true →
+        cond b (sideStepped s (Refused 41)) (closedBy (checkImage (imageOf s store)) (s .used)) .side ≡ cond b s emptied
     by-closed true e = refl
-    by-closed false e = by-check (checkImage (imageOf h store)) e
+    by-closed false e = by-check (checkImage (imageOf s store)) e
 
 -- a write
-write-refused : (store : List ℕ) (h : Held) (side : Side) (i n : ℕ) (out : List ℕ) → refusal (writeReply store h side i n out) ≡ true → writeOut store h i n out ≡ out
+write-refused : (store : List ℕ) (s : SideState) (side : Side) (i n : ℕ) (out : List ℕ) → refusal (writeReply store s side i n out) ≡ true → writeOut store s i n out ≡ out
 unfolding writeReply writeOut
-write-refused store h side i n out = by-closed (h .closed)
+write-refused store s side i n out = by-closed (s .closed)
   where
-    by-closed : (b : Bool) → refusal (cond b (writtenReply (writeAnswer (imageOf h store) i n out) side) (Refused 42)) ≡ true → cond b (writeOutput (imageOf h store) i n out) out ≡ out
-    by-closed true e = refused-unwritten (imageOf h store) i n out (λ k wrote. false≢true (rw wrote at e))
+    by-closed : (b : Bool) → refusal (cond b (writtenReply (writeAnswer (imageOf s store) i n out) side) (Refused 42)) ≡ true → cond b (writeOutput (imageOf s store) i n out) out ≡ out
+    by-closed true e = refused-unwritten (imageOf s store) i n out (λ k wrote. false≢true (rw wrote at e))
     by-closed false e = refl
 
 frame-refused : (f : Frame) (b left right : List ℕ) (state : State) (out : List ℕ) → refusal (obeyed f b left right state out .stepped .reply) ≡ true →
@@ -88,7 +88,7 @@ frame-refused (Close Right) b left right state out e = (refl, refl, refl, rw (cl
     cases false = refl
 frame-refused Compare b left right state out e = (refl, refl, refl, refl)
 frame-refused (CompareRange i j n) b left right state out e = (refl, refl, refl, refl)
-frame-refused (Write side i n) b left right state out e = (refl, refl, write-refused (storeOf side left right) (heldOf side state) side i n out e, refl)
+frame-refused (Write side i n) b left right state out e = (refl, refl, write-refused (storeOf side left right) (sideOf side state) side i n out e, refl)
 frame-refused (Empty Left) b left right state out e = absurd (false≢true e)
 frame-refused (Empty Right) b left right state out e = absurd (false≢true e)
 frame-refused (BadFrame number) b left right state out e = (refl, refl, refl, refl)
@@ -96,5 +96,5 @@ frame-refused (BadFrame number) b left right state out e = (refl, refl, refl, re
 pub refused-keeps : (line : List ℕ) (a : After) → refusal (next line a .stepped .reply) ≡ true → Unchanged line a
 unfolding afterLine afterFrame
 refused-keeps line a e =
-    let kept′ = frame-refused (frameOf (bytesOf line)) (bytesOf line) (a .left) (a .right) (a .stepped .state) (a .out) e in
-    record { left = kept′ .0; right = kept′ .1; out = kept′ .2; state = kept′ .3 }
+    let same = frame-refused (frameOf (bytesOf line)) (bytesOf line) (a .left) (a .right) (a .stepped .state) (a .out) e in
+    record { left = same .0; right = same .1; out = same .2; state = same .3 }

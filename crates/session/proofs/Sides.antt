@@ -1,6 +1,6 @@
 -- What a line does to a side and to the state, from what the calls give.
 -- The part of a store that is lent is its image; the rest is by rewriting with the calls' equations.
-use mathlib.Core.Path.{_≡_, refl, _∙_}
+use mathlib.Core.Path.{_≡_, refl, ap, _∙_}
 use mathlib.Core.Bool.{Bool, true, false, cond}
 use mathlib.Core.List.{List, [], _∷_}
 use Prim.Native.Nat.{ℕ, _+_, _-_, _≤_, _<_}
@@ -18,10 +18,10 @@ use Rattle.session.specs.declared.frame.Frame.{Frame}
 use Rattle.session.specs.declared.frame.Frame.the-variants.{Piece}
 use Rattle.session.specs.declared.reply.Reply.{Reply}
 use Rattle.session.specs.declared.reply.Reply.the-variants.{Done, Refused, Faulty}
-use Rattle.session.specs.declared.step.Held.{Held}
+use Rattle.session.specs.declared.step.SideState.{SideState}
 use Rattle.session.specs.declared.step.State.{State}
 use Rattle.session.specs.Frames.{frameOf}
-use Rattle.session.specs.Steps.{held, kept, emptied, imageOf, pastStore, pieceKept, pieceStore, closeKept, closedBoth, bothClosed}
+use Rattle.session.specs.Steps.{sideState, sideStepped, emptied, imageOf, pastStore, pieceSide, pieceStore, closeSide, closedBoth, bothClosed}
 use Rattle.session.proofs.Fronts.{front-same, front-length}
 
 -- the arm that a test takes
@@ -33,22 +33,22 @@ no : {A : Type 0} (b : Bool) (x y : A) → b ≡ false → y ≡ cond b x y
 no true x y e = cc
 no false x y e = refl
 
-module _ (store : List ℕ) (h : Held) (n : ℕ) (fills : n ≡ length (imageOf h store)) where
-  pub front-image : take n store ≡ imageOf h store
+module _ (store : List ℕ) (s : SideState) (n : ℕ) (fills : n ≡ length (imageOf s store)) where
+  pub front-image : take n store ≡ imageOf s store
   unfolding imageOf
-  front-image = front-same n (h .used) store fills
+  front-image = front-same n (s .used) store fills
 
   pub image-length : n ≡ length (take n store)
   unfolding imageOf
-  image-length = front-length n (h .used) store fills
+  image-length = front-length n (s .used) store fills
 
   -- a close of an open side
-  pub close-accepts : (x : Checked) → h .closed ≡ false → x ≡ checkImage (take n store) → x ≡ Accepted → kept (held (h .used) true) Done ≡ closeKept store h
-  unfolding closeKept
+  pub close-accepts : (x : Checked) → s .closed ≡ false → x ≡ checkImage (take n store) → x ≡ Accepted → sideStepped (sideState (s .used) true) Done ≡ closeSide store s
+  unfolding closeSide
   close-accepts x was e is = rw (← front-image, ← e, is, was)
 
-  pub close-refuses : (x : Checked) (f : Fault) → h .closed ≡ false → x ≡ checkImage (take n store) → x ≡ CheckRefused f → kept emptied (Faulty f) ≡ closeKept store h
-  unfolding closeKept
+  pub close-refuses : (x : Checked) (f : Fault) → s .closed ≡ false → x ≡ checkImage (take n store) → x ≡ CheckRefused f → sideStepped emptied (Faulty f) ≡ closeSide store s
+  unfolding closeSide
   close-refuses x f was e is = rw (← front-image, ← e, is, was)
 
 -- both sides are closed, or one is not
@@ -68,23 +68,23 @@ unfolding bothClosed
 both-closed state reply e is = rw (← e, is)
 
 -- a piece for a side
-module _ (store : List ℕ) (h : Held) (bytes : List ℕ) where
-  pub piece-closed : h .closed ≡ true → (kept h (Refused 41) ≡ pieceKept store h bytes) × (store ≡ pieceStore store h bytes)
-  unfolding pieceKept pieceStore
-  piece-closed was = (yes (h .closed) _ _ was, yes (h .closed) _ _ was)
+module _ (store : List ℕ) (s : SideState) (bytes : List ℕ) where
+  pub piece-closed : s .closed ≡ true → (sideStepped s (Refused 41) ≡ pieceSide store s bytes) × (store ≡ pieceStore store s bytes)
+  unfolding pieceSide pieceStore
+  piece-closed was = (yes (s .closed) _ _ was, yes (s .closed) _ _ was)
 
-  pub piece-past : h .closed ≡ false → length store < h .used + length bytes → (kept h (Refused 40) ≡ pieceKept store h bytes) × (store ≡ pieceStore store h bytes)
-  unfolding pieceKept pieceStore pastStore
+  pub piece-past : s .closed ≡ false → length store < s .used + length bytes → (sideStepped s (Refused 40) ≡ pieceSide store s bytes) × (store ≡ pieceStore store s bytes)
+  unfolding pieceSide pieceStore pastStore
   piece-past was past =
-      let over : ltb (length store) (h .used + length bytes) ≡ true = lt-ltb _ _ past in
-      (yes _ _ _ over ∙ no (h .closed) _ _ was, yes _ _ _ over ∙ no (h .closed) _ _ was)
+      let over : ltb (length store) (s .used + length bytes) ≡ true = lt-ltb _ _ past in
+      (yes _ _ _ over ∙ no (s .closed) _ _ was, yes _ _ _ over ∙ no (s .closed) _ _ was)
 
-  pub piece-fits : (after : List ℕ) → h .closed ≡ false → h .used + length bytes ≤ length store → after ≡ paste store (h .used) bytes (length bytes) →
-      (kept (held (h .used + length bytes) false) Done ≡ pieceKept store h bytes) × (after ≡ pieceStore store h bytes)
-  unfolding pieceKept pieceStore pastStore
-  piece-fits after was fits put =
-      let under : ltb (length store) (h .used + length bytes) ≡ false = le-ltb _ _ fits in
-      (no _ _ _ under ∙ no (h .closed) _ _ was, put ∙ no _ _ _ under ∙ no (h .closed) _ _ was)
+  pub piece-fits : (after : List ℕ) (n : ℕ) → s .closed ≡ false → n ≡ length bytes → s .used + n ≤ length store → after ≡ paste store (s .used) bytes n →
+      (sideStepped (sideState (s .used + n) false) Done ≡ pieceSide store s bytes) × (after ≡ pieceStore store s bytes)
+  unfolding pieceSide pieceStore pastStore
+  piece-fits after n was whole fits put =
+      let under : ltb (length store) (s .used + length bytes) ≡ false = le-ltb (length store) (s .used + length bytes) (rw (← whole) fits) in
+      (ap (λ (m : ℕ). sideStepped (sideState (s .used + m) false) Done) whole ∙ no _ _ _ under ∙ no (s .closed) _ _ was, put ∙ ap (paste store (s .used) bytes) whole ∙ no _ _ _ under ∙ no (s .closed) _ _ was)
 
 -- a frame that is a piece has a first byte
 pub piece-long : (b : List ℕ) (x : Frame) (side : Side) → x ≡ frameOf b → x ≡ Piece side → 1 ≤ length b

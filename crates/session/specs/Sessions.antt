@@ -11,12 +11,12 @@ use Rattle.session.specs.declared.frame.Frame.{Frame}
 use Rattle.session.specs.declared.frame.Frame.the-variants.{Piece, Close, Compare, CompareRange, Write, Empty, Refused as BadFrame}
 use Rattle.session.specs.declared.reply.Reply.{Reply}
 use Rattle.session.specs.declared.reply.Reply.the-variants.{Done, Answer, Bytes, Refused, Faulty, OutOfRange}
-use Rattle.session.specs.declared.step.Held.{Held}
+use Rattle.session.specs.declared.step.SideState.{SideState}
 use Rattle.session.specs.declared.step.State.{State}
 use Rattle.session.specs.Frames.{frameOf}
 use Rattle.session.specs.Lines.{bytesOf}
 use Rattle.session.specs.Replies.{replyLine}
-use Rattle.session.specs.Steps.{imageOf, startState, heldOf, replied, emptyStepped, After, after, afterLine}
+use Rattle.session.specs.Steps.{imageOf, startState, sideOf, replied, emptyStepped, After, after, afterLine}
 
 -- the characters of a text
 unfoldable pub characters : String → List ℕ
@@ -53,7 +53,7 @@ refusal (OutOfRange side) = true
 -- Only an open side's image is checked.
 abbrev pub refusedState : Frame → State → State
 refusedState (Piece side) state = state
-refusedState (Close side) state = cond (heldOf side state .closed) state (emptyStepped side state .state)
+refusedState (Close side) state = cond (sideOf side state .closed) state (emptyStepped side state .state)
 refusedState Compare state = state
 refusedState (CompareRange i j n) state = state
 refusedState (Write side i n) state = state
@@ -68,8 +68,8 @@ pub record Unchanged (line : List ℕ) (a : After) : Type 0 where
   pub state : next line a .stepped .state ≡ refusedState (frameOf (bytesOf line)) (a .stepped .state)
 
 -- a side that is closed holds an accepted image
-abbrev pub Sound : Held → List ℕ → Type 0
-Sound h store = h .closed ≡ true → checkImage (imageOf h store) ≡ Accepted
+abbrev pub Sound : SideState → List ℕ → Type 0
+Sound s store = s .closed ≡ true → checkImage (imageOf s store) ≡ Accepted
 
 pub record BothSound (a : After) : Type 0 where
   pub left : Sound (a .stepped .state .left) (a .left)

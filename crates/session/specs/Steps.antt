@@ -15,53 +15,53 @@ use Rattle.session.specs.declared.frame.Frame.{Frame}
 use Rattle.session.specs.declared.frame.Frame.the-variants.{Piece, Close, Compare, CompareRange, Write, Empty, Refused as BadFrame}
 use Rattle.session.specs.declared.reply.Reply.{Reply}
 use Rattle.session.specs.declared.reply.Reply.the-variants.{Done, Refused, Faulty}
-use Rattle.session.specs.declared.step.Held.{Held}
+use Rattle.session.specs.declared.step.SideState.{SideState}
 use Rattle.session.specs.declared.step.State.{State}
-use Rattle.session.specs.declared.step.Kept.{Kept}
+use Rattle.session.specs.declared.step.SideStepped.{SideStepped}
 use Rattle.session.specs.declared.step.Stepped.{Stepped}
 use Rattle.session.specs.Lines.{bytesOf}
 use Rattle.session.specs.Frames.{frameOf}
 use Rattle.session.specs.Replies.{comparedReply, writtenReply}
 
-abbrev pub held : ℕ → Bool → Held
-held used closed = record { used = used; closed = closed }
+abbrev pub sideState : ℕ → Bool → SideState
+sideState used closed = record { used = used; closed = closed }
 
-abbrev pub kept : Held → Reply → Kept
-kept h reply = record { held = h; reply = reply }
+abbrev pub sideStepped : SideState → Reply → SideStepped
+sideStepped s reply = record { side = s; reply = reply }
 
 -- a side that is empty and open
-abbrev pub emptied : Held
-emptied = held 0 false
+abbrev pub emptied : SideState
+emptied = sideState 0 false
 
 -- "Both start empty and open"
 abbrev pub startState : State
 startState = record { left = emptied; right = emptied }
 
 -- a side's image: what was stored, and not the whole store
-unfoldable pub imageOf : Held → List ℕ → List ℕ
-imageOf h store = take (h .used) store
+unfoldable pub imageOf : SideState → List ℕ → List ℕ
+imageOf s store = take (s .used) store
 
 -- 40: "piece past its store"
-unfoldable pub pastStore : List ℕ → Held → List ℕ → Bool
-pastStore store h bytes = ltb (length store) (h .used + length bytes)
+unfoldable pub pastStore : List ℕ → SideState → List ℕ → Bool
+pastStore store s bytes = ltb (length store) (s .used + length bytes)
 
 -- a piece for a side: 41 where the side is closed, then 40
-unfoldable pub pieceKept : List ℕ → Held → List ℕ → Kept
-pieceKept store h bytes =
-    cond (h .closed) (kept h (Refused 41)) (cond (pastStore store h bytes) (kept h (Refused 40)) (kept (held (h .used + length bytes) false) Done))
+unfoldable pub pieceSide : List ℕ → SideState → List ℕ → SideStepped
+pieceSide store s bytes =
+    cond (s .closed) (sideStepped s (Refused 41)) (cond (pastStore store s bytes) (sideStepped s (Refused 40)) (sideStepped (sideState (s .used + length bytes) false) Done))
 
 -- the store after a piece: the piece stands after what was stored, or nothing is changed
-unfoldable pub pieceStore : List ℕ → Held → List ℕ → List ℕ
-pieceStore store h bytes = cond (h .closed) store (cond (pastStore store h bytes) store (paste store (h .used) bytes (length bytes)))
+unfoldable pub pieceStore : List ℕ → SideState → List ℕ → List ℕ
+pieceStore store s bytes = cond (s .closed) store (cond (pastStore store s bytes) store (paste store (s .used) bytes (length bytes)))
 
 -- "a close whose image is refused leaves its side so": empty and open
-abbrev pub closedBy : Checked → ℕ → Kept
-closedBy Accepted used = kept (held used true) Done
-closedBy (CheckRefused f) used = kept emptied (Faulty f)
+abbrev pub closedBy : Checked → ℕ → SideStepped
+closedBy Accepted used = sideStepped (sideState used true) Done
+closedBy (CheckRefused f) used = sideStepped emptied (Faulty f)
 
 -- a close: 41 where the side is closed, then what the check answers
-unfoldable pub closeKept : List ℕ → Held → Kept
-closeKept store h = cond (h .closed) (kept h (Refused 41)) (closedBy (checkImage (imageOf h store)) (h .used))
+unfoldable pub closeSide : List ℕ → SideState → SideStepped
+closeSide store s = cond (s .closed) (sideStepped s (Refused 41)) (closedBy (checkImage (imageOf s store)) (s .used))
 
 abbrev pub closedBoth : State → Bool
 closedBoth state = state .left .closed && state .right .closed
@@ -80,30 +80,30 @@ rangeReply left right state i j n =
     let reply = comparedReply (compareRangeAnswer (imageOf (state .left) left) (imageOf (state .right) right) i j n) in
     bothClosed state reply
 
-unfoldable pub writeReply : List ℕ → Held → Side → ℕ → ℕ → List ℕ → Reply
-writeReply store h side i n out =
-    let reply = writtenReply (writeAnswer (imageOf h store) i n out) side in
-    cond (h .closed) reply (Refused 42)
+unfoldable pub writeReply : List ℕ → SideState → Side → ℕ → ℕ → List ℕ → Reply
+writeReply store s side i n out =
+    let reply = writtenReply (writeAnswer (imageOf s store) i n out) side in
+    cond (s .closed) reply (Refused 42)
 
 -- the output after a write
-unfoldable pub writeOut : List ℕ → Held → ℕ → ℕ → List ℕ → List ℕ
-writeOut store h i n out =
-    let written = writeOutput (imageOf h store) i n out in
-    cond (h .closed) written out
+unfoldable pub writeOut : List ℕ → SideState → ℕ → ℕ → List ℕ → List ℕ
+writeOut store s i n out =
+    let written = writeOutput (imageOf s store) i n out in
+    cond (s .closed) written out
 
 -- one side of a state, and its store
-abbrev pub heldOf : Side → State → Held
-heldOf Left state = state .left
-heldOf Right state = state .right
+abbrev pub sideOf : Side → State → SideState
+sideOf Left state = state .left
+sideOf Right state = state .right
 
 abbrev pub storeOf : Side → List ℕ → List ℕ → List ℕ
 storeOf Left left right = left
 storeOf Right left right = right
 
 -- a reply, and the state with that side changed
-abbrev pub withSide : Side → Kept → State → Stepped
-withSide Left k state = record { state = record { left = k .held; right = state .right }; reply = k .reply }
-withSide Right k state = record { state = record { left = state .left; right = k .held }; reply = k .reply }
+abbrev pub withSide : Side → SideStepped → State → Stepped
+withSide Left changed state = record { state = record { left = changed .side; right = state .right }; reply = changed .reply }
+withSide Right changed state = record { state = record { left = state .left; right = changed .side }; reply = changed .reply }
 
 -- a reply, and the state as it was
 abbrev pub replied : Reply → State → Stepped
@@ -111,7 +111,7 @@ replied reply state = record { state = state; reply = reply }
 
 -- a piece for a side, and the two stores after it
 unfoldable pub pieceStepped : Side → List ℕ → List ℕ → List ℕ → State → Stepped
-pieceStepped side bytes left right state = withSide side (pieceKept (storeOf side left right) (heldOf side state) bytes) state
+pieceStepped side bytes left right state = withSide side (pieceSide (storeOf side left right) (sideOf side state) bytes) state
 
 abbrev pub pieceLeft : Side → List ℕ → List ℕ → State → List ℕ
 pieceLeft Left bytes left state = pieceStore left (state .left) bytes
@@ -122,18 +122,18 @@ pieceRight Left bytes right state = right
 pieceRight Right bytes right state = pieceStore right (state .right) bytes
 
 unfoldable pub closeStepped : Side → List ℕ → List ℕ → State → Stepped
-closeStepped side left right state = withSide side (closeKept (storeOf side left right) (heldOf side state)) state
+closeStepped side left right state = withSide side (closeSide (storeOf side left right) (sideOf side state)) state
 
 -- a write of rows of a side, and the output after it
 unfoldable pub writeStepped : Side → List ℕ → List ℕ → State → ℕ → ℕ → List ℕ → Stepped
-writeStepped side left right state i n out = replied (writeReply (storeOf side left right) (heldOf side state) side i n out) state
+writeStepped side left right state i n out = replied (writeReply (storeOf side left right) (sideOf side state) side i n out) state
 
 unfoldable pub writtenOut : Side → List ℕ → List ℕ → State → ℕ → ℕ → List ℕ → List ℕ
-writtenOut side left right state i n out = writeOut (storeOf side left right) (heldOf side state) i n out
+writtenOut side left right state i n out = writeOut (storeOf side left right) (sideOf side state) i n out
 
 -- "07 side, empty and open"
 unfoldable pub emptyStepped : Side → State → Stepped
-emptyStepped side state = withSide side (kept emptied Done) state
+emptyStepped side state = withSide side (sideStepped emptied Done) state
 
 -- everything that a line may change
 pub record After : Type 0 where

@@ -16,22 +16,22 @@ use image::answer::Checked;
 use image::answer::Side;
 ghost use mathlib.Core.Path.{_≡_};
 ghost use lib.ListN.{length};
-ghost use Rattle.session.specs.Steps.{emptied, startState, imageOf, pieceKept, pieceStore, closeKept, closedBoth, comparesReply, rangeReply, writeReply, writeOut, heldOf, withSide, replied, pieceStepped, pieceLeft, pieceRight, closeStepped, writeStepped, writtenOut, emptyStepped, afterFrame, afterLine};
+ghost use Rattle.session.specs.Steps.{emptied, startState, imageOf, pieceSide, pieceStore, closeSide, closedBoth, comparesReply, rangeReply, writeReply, writeOut, sideOf, withSide, replied, pieceStepped, pieceLeft, pieceRight, closeStepped, writeStepped, writtenOut, emptyStepped, afterFrame, afterLine};
 
 // One side: how much of its store is used, and whether it is closed.
-pub struct Held {
+pub struct SideState {
     pub used: usize,
     pub closed: bool,
 }
 
 pub struct State {
-    pub left: Held,
-    pub right: Held,
+    pub left: SideState,
+    pub right: SideState,
 }
 
 // A reply, and the side or the state after it.
-pub struct Kept {
-    pub held: Held,
+pub struct SideStepped {
+    pub side: SideState,
     pub reply: Reply,
 }
 
@@ -51,44 +51,45 @@ pub fn both_open() -> State
 }
 
 // A side that is empty and open.
-fn opened() -> Held
+fn opened() -> SideState
     ensures { λ r. ⌜ r ≡ emptied ⌝ }
 {
-    Held {
+    SideState {
         used: 0,
         closed: false,
     }
 }
 
 // How much of a store is its image.
-fn filled(store: &[u8], held: Held) -> usize
-    ensures { λ r. ⌜ r ≡ length (imageOf held (now (store .entry))) ⌝ }
+fn filled(store: &[u8], side_state: SideState) -> usize
+    ensures { λ r. ⌜ r ≡ length (imageOf «side_state» (now (store .entry))) ⌝ }
 {
-    front(store, held.used)
+    front(store, side_state.used)
 }
 
 // A piece for a side: 41 where it is closed, 40 where the piece does not fit into its store.
-fn piece(store: &mut [u8], held: Held, bytes: &[u8]) -> Kept
-    ensures { λ r. ⌜ r ≡ pieceKept (now (store .entry)) held (now (bytes .entry)) ⌝ }
-    ensures { λ _. ⌜ now (store .exit) ≡ pieceStore (now (store .entry)) held (now (bytes .entry)) ⌝ }
+fn piece(store: &mut [u8], side_state: SideState, bytes: &[u8]) -> SideStepped
+    ensures { λ r. ⌜ r ≡ pieceSide (now (store .entry)) «side_state» (now (bytes .entry)) ⌝ }
+    ensures { λ _. ⌜ now (store .exit) ≡ pieceStore (now (store .entry)) «side_state» (now (bytes .entry)) ⌝ }
 {
-    if held.closed {
-        return Kept {
-            held: held,
+    if side_state.closed {
+        return SideStepped {
+            side: side_state,
             reply: Reply::Refused(41),
         };
     }
-    let used = held.used;
+    let used = side_state.used;
     if store.len() < used {
-        return Kept {
-            held: held,
+        return SideStepped {
+            side: side_state,
             reply: Reply::Refused(40),
         };
     }
-    let n = bytes.len();
-    if store.len() - used < n {
-        return Kept {
-            held: held,
+    let room = store.len() - used;
+    let n = front(bytes, room);
+    if n < bytes.len() {
+        return SideStepped {
+            side: side_state,
             reply: Reply::Refused(40),
         };
     }
@@ -97,8 +98,8 @@ fn piece(store: &mut [u8], held: Held, bytes: &[u8]) -> Kept
         store[used + k] = bytes[k];
         k += 1;
     }
-    Kept {
-        held: Held {
+    SideStepped {
+        side: SideState {
             used: used + n,
             closed: false,
         },
@@ -107,29 +108,26 @@ fn piece(store: &mut [u8], held: Held, bytes: &[u8]) -> Kept
 }
 
 // A side's close: 41 where it is closed; a side whose image is refused is emptied.
-fn close(store: &[u8], held: Held) -> Kept
-    ensures { λ r. ⌜ r ≡ closeKept (now (store .entry)) held ⌝ }
+fn close(store: &[u8], side_state: SideState) -> SideStepped
+    ensures { λ r. ⌜ r ≡ closeSide (now (store .entry)) «side_state» ⌝ }
 {
-    if held.closed {
-        return Kept {
-            held: held,
+    if side_state.closed {
+        return SideStepped {
+            side: side_state,
             reply: Reply::Refused(41),
         };
     }
-    let end = filled(store, held);
+    let end = filled(store, side_state);
     match check(&store[..end]) {
-        Checked::Accepted => Kept {
-            held: Held {
-                used: held.used,
+        Checked::Accepted => SideStepped {
+            side: SideState {
+                used: side_state.used,
                 closed: true,
             },
             reply: Reply::Done,
         },
-        Checked::Refused(fault) => Kept {
-            held: Held {
-                used: 0,
-                closed: false,
-            },
+        Checked::Refused(fault) => SideStepped {
+            side: opened(),
             reply: Reply::Faulty(fault),
         },
     }
@@ -170,20 +168,27 @@ fn compare_ranges(left: &[u8], right: &[u8], state: State, i: usize, j: usize, n
 }
 
 // A write of rows of a side: 42 where it is open.
-fn write_rows(store: &[u8], held: Held, side: Side, i: usize, n: usize, out: &mut [u8]) -> Reply
-    ensures { λ r. ⌜ r ≡ writeReply (now (store .entry)) held side i n (now (out .entry)) ⌝ }
-    ensures { λ _. ⌜ now (out .exit) ≡ writeOut (now (store .entry)) held i n (now (out .entry)) ⌝ }
+fn write_rows(
+    store: &[u8],
+    side_state: SideState,
+    side: Side,
+    i: usize,
+    n: usize,
+    out: &mut [u8],
+) -> Reply
+    ensures { λ r. ⌜ r ≡ writeReply (now (store .entry)) «side_state» side i n (now (out .entry)) ⌝ }
+    ensures { λ _. ⌜ now (out .exit) ≡ writeOut (now (store .entry)) «side_state» i n (now (out .entry)) ⌝ }
 {
-    if !held.closed {
+    if !side_state.closed {
         return Reply::Refused(42);
     }
-    let end = filled(store, held);
+    let end = filled(store, side_state);
     written_reply(write(&store[..end], i, n, out), side)
 }
 
 // One side of a state.
-fn held_of(side: Side, state: State) -> Held
-    ensures { λ r. ⌜ r ≡ heldOf side state ⌝ }
+fn side_of(side: Side, state: State) -> SideState
+    ensures { λ r. ⌜ r ≡ sideOf side state ⌝ }
 {
     match side {
         Side::Left => state.left,
@@ -192,17 +197,17 @@ fn held_of(side: Side, state: State) -> Held
 }
 
 // A reply, and the state with that side changed.
-fn with_side(side: Side, kept: Kept, state: State) -> Stepped
-    ensures { λ r. ⌜ r ≡ withSide side kept state ⌝ }
+fn with_side(side: Side, changed: SideStepped, state: State) -> Stepped
+    ensures { λ r. ⌜ r ≡ withSide side changed state ⌝ }
 {
-    let held = kept.held;
-    let reply = kept.reply;
+    let side_state = changed.side;
+    let reply = changed.reply;
     match side {
         Side::Left => {
             let right = state.right;
             Stepped {
                 state: State {
-                    left: held,
+                    left: side_state,
                     right: right,
                 },
                 reply: reply,
@@ -213,7 +218,7 @@ fn with_side(side: Side, kept: Kept, state: State) -> Stepped
             Stepped {
                 state: State {
                     left: left,
-                    right: held,
+                    right: side_state,
                 },
                 reply: reply,
             }
@@ -236,20 +241,20 @@ fn obey_piece(side: Side, bytes: &[u8], left: &mut [u8], right: &mut [u8], state
     ensures { λ _. ⌜ now (left .exit) ≡ pieceLeft side (now (bytes .entry)) (now (left .entry)) state ⌝ }
     ensures { λ _. ⌜ now (right .exit) ≡ pieceRight side (now (bytes .entry)) (now (right .entry)) state ⌝ }
 {
-    let held = held_of(side, state);
+    let side_state = side_of(side, state);
     match side {
-        Side::Left => with_side(side, piece(left, held, bytes), state),
-        Side::Right => with_side(side, piece(right, held, bytes), state),
+        Side::Left => with_side(side, piece(left, side_state, bytes), state),
+        Side::Right => with_side(side, piece(right, side_state, bytes), state),
     }
 }
 
 fn obey_close(side: Side, left: &[u8], right: &[u8], state: State) -> Stepped
     ensures { λ r. ⌜ r ≡ closeStepped side (now (left .entry)) (now (right .entry)) state ⌝ }
 {
-    let held = held_of(side, state);
+    let side_state = side_of(side, state);
     match side {
-        Side::Left => with_side(side, close(left, held), state),
-        Side::Right => with_side(side, close(right, held), state),
+        Side::Left => with_side(side, close(left, side_state), state),
+        Side::Right => with_side(side, close(right, side_state), state),
     }
 }
 
@@ -265,21 +270,21 @@ fn obey_write(
     ensures { λ r. ⌜ r ≡ writeStepped side (now (left .entry)) (now (right .entry)) state i n (now (out .entry)) ⌝ }
     ensures { λ _. ⌜ now (out .exit) ≡ writtenOut side (now (left .entry)) (now (right .entry)) state i n (now (out .entry)) ⌝ }
 {
-    let held = held_of(side, state);
+    let side_state = side_of(side, state);
     match side {
-        Side::Left => unchanged(write_rows(left, held, side, i, n, out), state),
-        Side::Right => unchanged(write_rows(right, held, side, i, n, out), state),
+        Side::Left => unchanged(write_rows(left, side_state, side, i, n, out), state),
+        Side::Right => unchanged(write_rows(right, side_state, side, i, n, out), state),
     }
 }
 
 fn obey_empty(side: Side, state: State) -> Stepped
     ensures { λ r. ⌜ r ≡ emptyStepped side state ⌝ }
 {
-    let kept = Kept {
-        held: opened(),
+    let changed = SideStepped {
+        side: opened(),
         reply: Reply::Done,
     };
-    with_side(side, kept, state)
+    with_side(side, changed, state)
 }
 
 // A frame, obeyed.

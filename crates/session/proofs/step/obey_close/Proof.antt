@@ -6,8 +6,8 @@ use borrow.Author.Needs.{needs}
 use Rattle.session.proofs.step.obey_close.Statement.{statement}
 use Rattle.session.proofs.step.obey_close.Tie as tie
 
-held-of-requires : tie.Need-held-of-requires
-held-of-requires c κs = search needs
+side-of-requires : tie.Need-side-of-requires
+side-of-requires c κs = search needs
 
 enum-told : tie.Need-enum-told
 enum-told c = search needs
@@ -29,17 +29,17 @@ with-side-requires-2 c κs = search needs
 
 returns : tie.Need-returns
 unfolding closeStepped
-returns c = c .with-side .ensures ∙ rw (c .before .close .ensures, c .before .before .before .before .held-of .ensures, c .before .before .enum-told .given .1)
+returns c = c .with-side .ensures ∙ rw (c .before .close .ensures, c .before .before .before .before .side-of .ensures, c .before .before .enum-told .given .1)
 
 returns-2 : tie.Need-returns-2
 unfolding closeStepped
-returns-2 c = c .with-side2 .ensures ∙ rw (c .before .close2 .ensures, c .before .before .before .before .held-of .ensures, c .before .before .enum-told2 .given .1)
+returns-2 c = c .with-side2 .ensures ∙ rw (c .before .close2 .ensures, c .before .before .before .before .side-of .ensures, c .before .before .enum-told2 .given .1)
 
 pub obey-close-spec : {M : Type 1} → statement M
 obey-close-spec =
     tie.close
     (tie.spec
-    held-of-requires
+    side-of-requires
     enum-told
     close-requires
     with-side-requires

@@ -6,8 +6,8 @@ use borrow.Author.Needs.{needs}
 use Rattle.session.proofs.step.obey_piece.Statement.{statement}
 use Rattle.session.proofs.step.obey_piece.Tie as tie
 
-held-of-requires : tie.Need-held-of-requires
-held-of-requires c κs = search needs
+side-of-requires : tie.Need-side-of-requires
+side-of-requires c κs = search needs
 
 enum-told : tie.Need-enum-told
 enum-told c = search needs
@@ -32,20 +32,20 @@ same-length c = search needs
 
 returns : tie.Need-returns
 unfolding pieceStepped
-returns c = (c .with-side .ensures ∙ rw (c .before .before .before .piece .ensures .0, c .before .before .before .before .before .before .before .held-of .ensures, c .before .before .before .before .before .enum-told .given .1), (rw (c .before .before .before .before .before .enum-told .given .1) (c .before .before .before .piece .ensures .1 ∙ rw (c .before .before .before .before .before .before .before .held-of .ensures, c .before .before .before .before .before .enum-told .given .1)), rw (c .before .before .before .before .before .enum-told .given .1) refl))
+returns c = (c .with-side .ensures ∙ rw (c .before .before .before .piece .ensures .0, c .before .before .before .before .before .before .before .side-of .ensures, c .before .before .before .before .before .enum-told .given .1), (rw (c .before .before .before .before .before .enum-told .given .1) (c .before .before .before .piece .ensures .1 ∙ rw (c .before .before .before .before .before .before .before .side-of .ensures, c .before .before .before .before .before .enum-told .given .1)), rw (c .before .before .before .before .before .enum-told .given .1) refl))
 
 same-length-2 : tie.Need-same-length-2
 same-length-2 c = search needs
 
 returns-2 : tie.Need-returns-2
 unfolding pieceStepped
-returns-2 c = (c .with-side2 .ensures ∙ rw (c .before .before .before .piece2 .ensures .0, c .before .before .before .before .before .before .before .held-of .ensures, c .before .before .before .before .before .enum-told2 .given .1), (rw (c .before .before .before .before .before .enum-told2 .given .1) refl, rw (c .before .before .before .before .before .enum-told2 .given .1) (c .before .before .before .piece2 .ensures .1 ∙ rw (c .before .before .before .before .before .before .before .held-of .ensures, c .before .before .before .before .before .enum-told2 .given .1))))
+returns-2 c = (c .with-side2 .ensures ∙ rw (c .before .before .before .piece2 .ensures .0, c .before .before .before .before .before .before .before .side-of .ensures, c .before .before .before .before .before .enum-told2 .given .1), (rw (c .before .before .before .before .before .enum-told2 .given .1) refl, rw (c .before .before .before .before .before .enum-told2 .given .1) (c .before .before .before .piece2 .ensures .1 ∙ rw (c .before .before .before .before .before .before .before .side-of .ensures, c .before .before .before .before .before .enum-told2 .given .1))))
 
 pub obey-piece-spec : {M : Type 1} → statement M
 obey-piece-spec =
     tie.close
     (tie.spec
-    held-of-requires
+    side-of-requires
     enum-told
     piece-requires
     with-side-requires

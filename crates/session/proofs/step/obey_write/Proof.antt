@@ -6,8 +6,8 @@ use borrow.Author.Needs.{needs}
 use Rattle.session.proofs.step.obey_write.Statement.{statement}
 use Rattle.session.proofs.step.obey_write.Tie as tie
 
-held-of-requires : tie.Need-held-of-requires
-held-of-requires c κs = search needs
+side-of-requires : tie.Need-side-of-requires
+side-of-requires c κs = search needs
 
 enum-told : tie.Need-enum-told
 enum-told c = search needs
@@ -32,20 +32,20 @@ same-length c = search needs
 
 returns : tie.Need-returns
 unfolding writeStepped writtenOut
-returns c = (c .unchanged .ensures ∙ rw (c .before .before .before .write-rows .ensures .0, c .before .before .before .before .before .before .before .held-of .ensures, c .before .before .before .before .before .enum-told .given .1), c .before .before .before .write-rows .ensures .1 ∙ rw (c .before .before .before .before .before .before .before .held-of .ensures, c .before .before .before .before .before .enum-told .given .1))
+returns c = (c .unchanged .ensures ∙ rw (c .before .before .before .write-rows .ensures .0, c .before .before .before .before .before .before .before .side-of .ensures, c .before .before .before .before .before .enum-told .given .1), c .before .before .before .write-rows .ensures .1 ∙ rw (c .before .before .before .before .before .before .before .side-of .ensures, c .before .before .before .before .before .enum-told .given .1))
 
 same-length-2 : tie.Need-same-length-2
 same-length-2 c = search needs
 
 returns-2 : tie.Need-returns-2
 unfolding writeStepped writtenOut
-returns-2 c = (c .unchanged2 .ensures ∙ rw (c .before .before .before .write-rows2 .ensures .0, c .before .before .before .before .before .before .before .held-of .ensures, c .before .before .before .before .before .enum-told2 .given .1), c .before .before .before .write-rows2 .ensures .1 ∙ rw (c .before .before .before .before .before .before .before .held-of .ensures, c .before .before .before .before .before .enum-told2 .given .1))
+returns-2 c = (c .unchanged2 .ensures ∙ rw (c .before .before .before .write-rows2 .ensures .0, c .before .before .before .before .before .before .before .side-of .ensures, c .before .before .before .before .before .enum-told2 .given .1), c .before .before .before .write-rows2 .ensures .1 ∙ rw (c .before .before .before .before .before .before .before .side-of .ensures, c .before .before .before .before .before .enum-told2 .given .1))
 
 pub obey-write-spec : {M : Type 1} → statement M
 obey-write-spec =
     tie.close
     (tie.spec
-    held-of-requires
+    side-of-requires
     enum-told
     write-rows-requires
     unchanged-requires

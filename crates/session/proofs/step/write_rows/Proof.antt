@@ -10,7 +10,7 @@ use Rattle.session.proofs.step.write_rows.Tie as tie
 
 returns : tie.Need-returns
 unfolding writeReply writeOut
-returns c = rw (not-true (c .before .before .before .before .args .held .closed) (c .if1 .taken)) (refl, refl)
+returns c = rw (not-true (c .before .before .before .before .args .side-state .closed) (c .if1 .taken)) (refl, refl)
 
 filled-requires : tie.Need-filled-requires
 filled-requires c κs = search needs
@@ -30,8 +30,8 @@ same-length c = search needs
 returns-2 : tie.Need-returns-2
 unfolding writeReply writeOut
 returns-2 c =
-    let closed = not-false (c .before .before .before .before .before .before .before .before .before .before .before .args .held .closed) (c .before .before .before .before .before .before .before .if1 .left) in
-    let image = front-image _ (c .before .before .before .before .before .before .before .before .before .before .before .args .held) _ (c .before .before .before .before .before .before .filled .ensures) in
+    let closed = not-false (c .before .before .before .before .before .before .before .before .before .before .before .args .side-state .closed) (c .before .before .before .before .before .before .before .if1 .left) in
+    let image = front-image _ (c .before .before .before .before .before .before .before .before .before .before .before .args .side-state) _ (c .before .before .before .before .before .before .filled .ensures) in
     (c .written-reply .ensures ∙ rw (c .before .before .before .write .ensures .0, image, closed), c .before .before .before .write .ensures .1 ∙ rw (image, closed))
 
 pub write-rows-spec : {M : Type 1} → statement M
