@@ -22,7 +22,7 @@ use Rattle.image.proofs.Bools.{facts, or-left, or-right, and-fails}
 use Rattle.image.proofs.Ranges.{any-false, any-below, sum-next, rises-least, rises-top, rises-apart, first-from, first-at-most, first-passes}
 use Rattle.image.proofs.Widths.{variable-width, view-width, list-width, list-view-width, key-width}
 use Rattle.laws.specs.Accepted.{Known, Widths, Ids, RunEnds, Entries, Tree, Named, Buffers, Enough, Children, OffsetsRise, Places, IdKnown, ViewInside, RunsCover, NodeRows, AcceptedImage, NoneBelow, Tables}
-use Rattle.laws.proofs.NoFault.{accepted-none}
+use Rattle.laws.proofs.NoneBelow.{accepted-none}
 use Rattle.laws.proofs.Codes.{runs-code, run-end-width}
 
 -- no bitmap, no null

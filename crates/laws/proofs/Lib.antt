@@ -1,6 +1,6 @@
 pub mod Sound
 pub mod TypeLaws
-pub mod NoFault
+pub mod NoneBelow
 pub mod Codes
 pub mod Accepted
 pub mod Fuel

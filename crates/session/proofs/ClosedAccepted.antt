@@ -24,30 +24,30 @@ use Rattle.session.specs.Sessions.{started, next, afterLines, Sound, Bot
 open-sound : (s : SideState) (store : List ℕ) → s .closed ≡ false → Sound s store
 open-sound s store e closed = absurd (false≢true (sym e ∙ closed))
 
-piece-sound : (store : List ℕ) (s : SideState) (bytes : List ℕ) → Sound s store → Sound (pieceSide store s bytes .side) (pieceStore store s bytes)
+piece-sound : (store : List ℕ) (s : SideState) (bytes : List ℕ) → Sound s store → Sound (pieceSide store s bytes .state) (pieceStore store s bytes)
 unfolding pieceSide pieceStore
 piece-sound store s bytes sound = by-closed (s .closed) refl
   where
-    by-past : (b : Bool) → s .closed ≡ false → Sound (cond b (sideStepped s (Refused 40)) (sideStepped (sideState (s .used + length bytes) false) Done) .side) (cond b store (paste store (s .used) bytes (length bytes)))
+    by-past : (b : Bool) → s .closed ≡ false → Sound (cond b (sideStepped s (Refused 40)) (sideStepped (sideState (s .used + length bytes) false) Done) .state) (cond b store (paste store (s .used) bytes (length bytes)))
     by-past true e = open-sound s store e
     by-past false e = open-sound (sideState (s .used + length bytes) false) _ refl
 
     by-closed : (b : Bool) → s .closed ≡ b →
         Sound
-        (cond b (sideStepped s (Refused 41)) (cond (pastStore store s bytes) (sideStepped s (Refused 40)) (sideStepped (sideState (s .used + length bytes) false) Done)) .side)
+        (cond b (sideStepped s (Refused 41)) (cond (pastStore store s bytes) (sideStepped s (Refused 40)) (sideStepped (sideState (s .used + length bytes) false) Done)) .state)
         (cond b store (cond (pastStore store s bytes) store (paste store (s .used) bytes (length bytes))))
     by-closed true e = sound
     by-closed false e = by-past (pastStore store s bytes) e
 
-close-sound : (store : List ℕ) (s : SideState) → Sound s store → Sound (closeSide store s .side) store
+close-sound : (store : List ℕ) (s : SideState) → Sound s store → Sound (closeSide store s .state) store
 unfolding closeSide imageOf
 close-sound store s sound = by-closed (s .closed)
   where
-    by-check : (x : Checked) → checkImage (imageOf s store) ≡ x → Sound (closedBy x (s .used) .side) store
+    by-check : (x : Checked) → checkImage (imageOf s store) ≡ x → Sound (closedBy x (s .used) .state) store
     by-check Accepted e = λ closed. e
     by-check (CheckRefused f) e = open-sound emptied store refl
 
-    by-closed : (b : Bool) → Sound (cond b (sideStepped s (Refused 41)) (closedBy (checkImage (imageOf s store)) (s .used)) .side) store
+    by-closed : (b : Bool) → Sound (cond b (sideStepped s (Refused 41)) (closedBy (checkImage (imageOf s store)) (s .used)) .state) store
     by-closed true = sound
     by-closed false = by-check (checkImage (imageOf s store)) refl
 

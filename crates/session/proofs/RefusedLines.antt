@@ -25,7 +25,7 @@ use Rattle.session.specs.Steps.{sideState, sideStepped, emptied, imageOf
 use Rattle.session.specs.Sessions.{next, refusal, refusedState, Unchanged}
 
 -- a piece
-piece-refused : (store : List ℕ) (s : SideState) (bytes : List ℕ) → refusal (pieceSide store s bytes .reply) ≡ true → (pieceSide store s bytes .side ≡ s) × (pieceStore store s bytes ≡ store)
+piece-refused : (store : List ℕ) (s : SideState) (bytes : List ℕ) → refusal (pieceSide store s bytes .reply) ≡ true → (pieceSide store s bytes .state ≡ s) × (pieceStore store s bytes ≡ store)
 unfolding pieceSide pieceStore
 piece-refused store s bytes = by-closed (s .closed)
   where
@@ -33,27 +33,27 @@ piece-refused store s bytes = by-closed (s .closed)
     fits = sideState (s .used + length bytes) false
 
     by-past : (b : Bool) → refusal (cond b (sideStepped s (Refused 40)) (sideStepped fits Done) .reply) ≡ true →
-        (cond b (sideStepped s (Refused 40)) (sideStepped fits Done) .side ≡ s) × (cond b store (paste store (s .used) bytes (length bytes)) ≡ store)
+        (cond b (sideStepped s (Refused 40)) (sideStepped fits Done) .state ≡ s) × (cond b store (paste store (s .used) bytes (length bytes)) ≡ store)
     by-past true e = (refl, refl)
     by-past false e = absurd (false≢true e)
 
     by-closed : (b : Bool) → refusal (cond b (sideStepped s (Refused 41)) (cond (pastStore store s bytes) (sideStepped s (Refused 40)) (sideStepped fits Done)) .reply) ≡ true →
-        (cond b (sideStepped s (Refused 41)) (cond (pastStore store s bytes) (sideStepped s (Refused 40)) (sideStepped fits Done)) .side ≡ s)
+        (cond b (sideStepped s (Refused 41)) (cond (pastStore store s bytes) (sideStepped s (Refused 40)) (sideStepped fits Done)) .state ≡ s)
         × (cond b store (cond (pastStore store s bytes) store (paste store (s .used) bytes (length bytes))) ≡ store)
     by-closed true e = (refl, refl)
     by-closed false e = by-past (pastStore store s bytes) e
 
 -- a close: of a closed side nothing is changed, an open side is emptied
-close-refused : (store : List ℕ) (s : SideState) → refusal (closeSide store s .reply) ≡ true → closeSide store s .side ≡ cond (s .closed) s emptied
+close-refused : (store : List ℕ) (s : SideState) → refusal (closeSide store s .reply) ≡ true → closeSide store s .state ≡ cond (s .closed) s emptied
 unfolding closeSide
 close-refused store s = by-closed (s .closed)
   where
-    by-check : (x : Checked) → refusal (closedBy x (s .used) .reply) ≡ true → closedBy x (s .used) .side ≡ emptied
+    by-check : (x : Checked) → refusal (closedBy x (s .used) .reply) ≡ true → closedBy x (s .used) .state ≡ emptied
     by-check Accepted e = absurd (false≢true e)
     by-check (CheckRefused f) e = refl
 
     by-closed : (b : Bool) → refusal (cond b (sideStepped s (Refused 41)) (closedBy (checkImage (imageOf s store)) (s .used)) .reply) ≡ true →
-        cond b (sideStepped s (Refused 41)) (closedBy (checkImage (imageOf s store)) (s .used)) .side ≡ cond b s emptied
+        cond b (sideStepped s (Refused 41)) (closedBy (checkImage (imageOf s store)) (s .used)) .state ≡ cond b s emptied
     by-closed true e = refl
     by-closed false e = by-check (checkImage (imageOf s store)) e
 

@@ -27,7 +27,7 @@ abbrev pub sideState : ℕ → Bool → SideState
 sideState used closed = record { used = used; closed = closed }
 
 abbrev pub sideStepped : SideState → Reply → SideStepped
-sideStepped s reply = record { side = s; reply = reply }
+sideStepped s reply = record { state = s; reply = reply }
 
 -- a side that is empty and open
 abbrev pub emptied : SideState
@@ -102,8 +102,8 @@ storeOf Right left right = right
 
 -- a reply, and the state with that side changed
 abbrev pub withSide : Side → SideStepped → State → Stepped
-withSide Left changed state = record { state = record { left = changed .side; right = state .right }; reply = changed .reply }
-withSide Right changed state = record { state = record { left = state .left; right = changed .side }; reply = changed .reply }
+withSide Left changed state = record { state = record { left = changed .state; right = state .right }; reply = changed .reply }
+withSide Right changed state = record { state = record { left = state .left; right = changed .state }; reply = changed .reply }
 
 -- a reply, and the state as it was
 abbrev pub replied : Reply → State → Stepped

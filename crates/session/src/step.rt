@@ -31,7 +31,7 @@ pub struct State {
 
 // A reply, and the side or the state after it.
 pub struct SideStepped {
-    pub side: SideState,
+    pub state: SideState,
     pub reply: Reply,
 }
 
@@ -74,14 +74,14 @@ fn piece(store: &mut [u8], side_state: SideState, bytes: &[u8]) -> SideStepped
 {
     if side_state.closed {
         return SideStepped {
-            side: side_state,
+            state: side_state,
             reply: Reply::Refused(41),
         };
     }
     let used = side_state.used;
     if store.len() < used {
         return SideStepped {
-            side: side_state,
+            state: side_state,
             reply: Reply::Refused(40),
         };
     }
@@ -89,7 +89,7 @@ fn piece(store: &mut [u8], side_state: SideState, bytes: &[u8]) -> SideStepped
     let n = front(bytes, room);
     if n < bytes.len() {
         return SideStepped {
-            side: side_state,
+            state: side_state,
             reply: Reply::Refused(40),
         };
     }
@@ -99,7 +99,7 @@ fn piece(store: &mut [u8], side_state: SideState, bytes: &[u8]) -> SideStepped
         k += 1;
     }
     SideStepped {
-        side: SideState {
+        state: SideState {
             used: used + n,
             closed: false,
         },
@@ -113,21 +113,21 @@ fn close(store: &[u8], side_state: SideState) -> SideStepped
 {
     if side_state.closed {
         return SideStepped {
-            side: side_state,
+            state: side_state,
             reply: Reply::Refused(41),
         };
     }
     let end = filled(store, side_state);
     match check(&store[..end]) {
         Checked::Accepted => SideStepped {
-            side: SideState {
+            state: SideState {
                 used: side_state.used,
                 closed: true,
             },
             reply: Reply::Done,
         },
         Checked::Refused(fault) => SideStepped {
-            side: opened(),
+            state: opened(),
             reply: Reply::Faulty(fault),
         },
     }
@@ -200,7 +200,7 @@ fn side_of(side: Side, state: State) -> SideState
 fn with_side(side: Side, changed: SideStepped, state: State) -> Stepped
     ensures { λ r. ⌜ r ≡ withSide side changed state ⌝ }
 {
-    let side_state = changed.side;
+    let side_state = changed.state;
     let reply = changed.reply;
     match side {
         Side::Left => {
@@ -281,7 +281,7 @@ fn obey_empty(side: Side, state: State) -> Stepped
     ensures { λ r. ⌜ r ≡ emptyStepped side state ⌝ }
 {
     let changed = SideStepped {
-        side: opened(),
+        state: opened(),
         reply: Reply::Done,
     };
     with_side(side, changed, state)

@@ -10,7 +10,7 @@ use Rattle.image.specs.declared.answer.Checked.the-variants.{Accepted, Refused}
 use Rattle.image.specs.Record.{nodeCount}
 use Rattle.image.specs.Faults.{firstFaulty, checkFrom, checkImage}
 use Rattle.laws.specs.Accepted.{NoneBelow}
-use Rattle.laws.proofs.NoFault.{none-yet, none-more}
+use Rattle.laws.proofs.NoneBelow.{none-yet, none-more}
 use Prim.Native.Nat.{ℕ, _+_, _-_, _<_, _≤_}
 use native.Mathlib.Omega.{arith}
 use borrow.Author.Needs.{needs}

@@ -7,7 +7,7 @@ use mathlib.Core.List.{[], _∷_}
 use native.Mathlib.Omega.{arith}
 use Rattle.image.specs.Faults.{fault}
 use Rattle.image.proofs.CodeTable.{NoneOf}
-use Rattle.laws.proofs.NoFault.{none-fewer}
+use Rattle.laws.proofs.NoneBelow.{none-fewer}
 use borrow.Author.Needs.{needs}
 use Rattle.validate.proofs.has_fault.Statement.{statement}
 use Rattle.validate.proofs.has_fault.Tie as tie
