@@ -9,7 +9,7 @@ use lib.ListN.{length}
 use borrow.Author.Tests.{le-leb, lt-leb}
 use Rattle.image.specs.declared.type_code.Layout.the-variants.{View}
 use Rattle.image.specs.Bytes.{numberAt}
-use Rattle.image.specs.Record.{codeOf, elementsOf, firstBuffer, bufferPlace, bufferLength, bufferCount, entryPlace, tablesEnd}
+use Rattle.image.specs.Record.{entrySize, codeOf, elementsOf, firstBuffer, bufferPlace, bufferLength, bufferCount, entryPlace, tablesEnd}
 use Rattle.image.specs.TypeCode.{layoutOf}
 use Rattle.image.specs.Element.{elementPlace, viewLength, viewBuffer, viewOffset, viewData}
 use Rattle.image.specs.Reads.{Read}
@@ -30,18 +30,18 @@ module _ {s : List ℕ} {k v len : ℕ} (r : Viewed s k v len) (long : 12 < len)
   unfolding viewBuffer
   data-buffer = rw eb (r .view .buffer (rw (← r .size) long))
 
-  pub entry-inside : e + (1 + b) * 8 + 4 ≤ length s
+  pub entry-inside : e + (1 + b) * entrySize + 4 ≤ length s
   unfolding tablesEnd entryPlace
   entry-inside = omega (arith, ee, data-buffer, r .image .tables .inside, r .image .node k (r .node) .buffers .ends)
 
-  pub entry-small : e + (1 + b) * 8 < 2 ^ 64
+  pub entry-small : e + (1 + b) * entrySize < 2 ^ 64
   entry-small = omega (arith, entry-inside, r .image .tables .size)
 
-  entry : entryPlace s (firstBuffer s k + (1 + b)) ≡ e + (1 + b) * 8
+  entry : entryPlace s (firstBuffer s k + (1 + b)) ≡ e + (1 + b) * entrySize
   unfolding entryPlace
   entry = omega (arith, ee)
 
-  pub shown-long : {p o : ℕ} → p ≡ numberAt 4 s (e + (1 + b) * 8) → o ≡ numberAt 4 s (v + 12) → ViewBytes s k v len (p + o)
+  pub shown-long : {p o : ℕ} → p ≡ numberAt 4 s (e + (1 + b) * entrySize) → o ≡ numberAt 4 s (v + 12) → ViewBytes s k v len (p + o)
   unfolding viewData viewBuffer viewOffset bufferPlace
   shown-long {p} {o} ep eo =
       let place : p ≡ bufferPlace s k (1 + b) = rw entry ep in

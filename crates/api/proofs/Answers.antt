@@ -12,7 +12,7 @@ use Rattle.image.specs.declared.answer.Side.the-variants.{Left, Right}
 use Rattle.image.specs.declared.answer.Fault.{Fault}
 use Rattle.image.specs.declared.answer.Checked.{Checked}
 use Rattle.image.specs.declared.answer.Checked.the-variants.{Accepted, Refused}
-use Rattle.image.specs.Record.{lengthOf}
+use Rattle.image.specs.Record.{maxDepth, lengthOf}
 use Rattle.image.specs.Faults.{checkImage}
 use Rattle.image.specs.Row.{rowAt}
 use Rattle.image.specs.Types.{typesAgree, typesAgreeAt}
@@ -42,7 +42,7 @@ module _ (s t : List ℕ) where
   unfolding compareAnswer
   compare-both left right e = rw (left, right) e
 
-pub whole-sides : (s t : List ℕ) (n : ℕ) → (checkImage s ≡ Accepted) × (checkImage t ≡ Accepted) → typesAgree s t && eqb (lengthOf s 0) (lengthOf t 0) ≡ true → n ≡ lengthOf s 0 → Sides s t 0 0 0 0 n 16
+pub whole-sides : (s t : List ℕ) (n : ℕ) → (checkImage s ≡ Accepted) × (checkImage t ≡ Accepted) → typesAgree s t && eqb (lengthOf s 0) (lengthOf t 0) ≡ true → n ≡ lengthOf s 0 → Sides s t 0 0 0 0 n maxDepth
 whole-sides s t n b same is =
     let lengths : lengthOf s 0 ≡ lengthOf t 0 = eqb-true _ _ (and-right (typesAgree s t) _ same) in
     table-sides s t 0 0 n (accepted s (b .0)) (accepted t (b .1)) (and-left (typesAgree s t) _ same) (omega arith) (omega arith)
@@ -59,7 +59,7 @@ pub compare-no : (s t : List ℕ) → typesAgree s t && eqb (lengthOf s 0) (leng
 unfolding tablesEqual
 compare-no s t e = rw (fails (typesAgree s t) (eqb (lengthOf s 0) (lengthOf t 0)) (rangesEqual s t 0 0 (lengthOf s 0)) e)
 
-pub compare-rows : (s t : List ℕ) {n : ℕ} {r : Bool} {out : Compared} → typesAgree s t && eqb (lengthOf s 0) (lengthOf t 0) ≡ true → n ≡ lengthOf s 0 → r ≡ rangeEqual (rowAt 16 s 0) (rowAt 16 t 0) 0 0 n → out ≡ yesOrNo r → out ≡ yesOrNo (tablesEqual s t)
+pub compare-rows : (s t : List ℕ) {n : ℕ} {r : Bool} {out : Compared} → typesAgree s t && eqb (lengthOf s 0) (lengthOf t 0) ≡ true → n ≡ lengthOf s 0 → r ≡ rangeEqual (rowAt maxDepth s 0) (rowAt maxDepth t 0) 0 0 n → out ≡ yesOrNo r → out ≡ yesOrNo (tablesEqual s t)
 unfolding tablesEqual
 compare-rows s t {n} e is rows said = rw (holds (typesAgree s t) (eqb (lengthOf s 0) (lengthOf t 0)) (rangesEqual s t 0 0 (lengthOf s 0)) e, ← is, ← table-answer s t 0 0 n, ← rows) said
 
@@ -73,11 +73,11 @@ module _ (s t : List ℕ) where
   unfolding pairedOf
   paired-right left is = rw (left, is)
 
-  pub paired-unequal : checkImage s ≡ Accepted → checkImage t ≡ Accepted → typesAgreeAt 16 Root s t 0 0 ≡ false → PairUnequal ≡ pairedOf s t
+  pub paired-unequal : checkImage s ≡ Accepted → checkImage t ≡ Accepted → typesAgreeAt maxDepth Root s t 0 0 ≡ false → PairUnequal ≡ pairedOf s t
   unfolding pairedOf typesAgree
   paired-unequal left right e = rw (left, right, e)
 
-  pub paired-agreed : checkImage s ≡ Accepted → checkImage t ≡ Accepted → typesAgreeAt 16 Root s t 0 0 ≡ true → Agreed ≡ pairedOf s t
+  pub paired-agreed : checkImage s ≡ Accepted → checkImage t ≡ Accepted → typesAgreeAt maxDepth Root s t 0 0 ≡ true → Agreed ≡ pairedOf s t
   unfolding pairedOf typesAgree
   paired-agreed left right e = rw (left, right, e)
 
@@ -125,14 +125,14 @@ unfolding exceeds
 within s i n e = ltb-false _ _ e
 
 -- the rows that are compared
-pub range-sides : (s t : List ℕ) (i j n : ℕ) → pairedOf s t ≡ Agreed → boundsOf s t i j n ≡ Within → Sides s t 0 0 i j n 16
+pub range-sides : (s t : List ℕ) (i j n : ℕ) → pairedOf s t ≡ Agreed → boundsOf s t i j n ≡ Within → Sides s t 0 0 i j n maxDepth
 unfolding typesAgree
 range-sides s t i j n pair bounds =
     let a = agreed s t pair in
     let b = both-within s t i j n bounds in
     table-sides s t i j n (accepted s (a .left)) (accepted t (a .right)) (a .types) (within s i n (b .0)) (within t j n (b .1))
 
-pub range-rows : (s t : List ℕ) (i j n : ℕ) {r : Bool} {out : Compared} → r ≡ rangeEqual (rowAt 16 s 0) (rowAt 16 t 0) i j n → out ≡ yesOrNo r → out ≡ yesOrNo (rangesEqual s t i j n)
+pub range-rows : (s t : List ℕ) (i j n : ℕ) {r : Bool} {out : Compared} → r ≡ rangeEqual (rowAt maxDepth s 0) (rowAt maxDepth t 0) i j n → out ≡ yesOrNo r → out ≡ yesOrNo (rangesEqual s t i j n)
 range-rows s t i j n rows said = rw (← table-answer s t i j n, ← rows) said
 
 -- start + count exceeds the length, in two steps

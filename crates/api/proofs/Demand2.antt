@@ -12,7 +12,7 @@ use borrow.Author.Tests.{eqb-true, eq-eqb}
 use Rattle.image.specs.declared.answer.Checked.{Checked}
 use Rattle.image.specs.declared.answer.Checked.the-variants.{Accepted, Refused}
 use Rattle.answers.specs.declared.Compared.the-variants.{Yes}
-use Rattle.image.specs.Record.{lengthOf}
+use Rattle.image.specs.Record.{maxDepth, lengthOf}
 use Rattle.image.specs.Faults.{checkImage}
 use Rattle.image.specs.Types.{typesAgree}
 use Rattle.image.specs.Row.{Row, Rows, more, range, rowAt, tableRows}
@@ -41,13 +41,13 @@ same-range g h i (suc n) e k from end =
     cases (no ne) rest = rest (omega arith)
 
 -- the ranges from row 0 on are equal exactly when each row is
-rows-out : (s t : List ℕ) (n : ℕ) → rangesEqual s t 0 0 n ≡ true → (i : ℕ) → i < n → rowAt 16 s 0 i ≡ rowAt 16 t 0 i
+rows-out : (s t : List ℕ) (n : ℕ) → rangesEqual s t 0 0 n ≡ true → (i : ℕ) → i < n → rowAt maxDepth s 0 i ≡ rowAt maxDepth t 0 i
 unfolding rangesEqual tableRows
-rows-out s t n e i lt = same-range (rowAt 16 s 0) (rowAt 16 t 0) 0 n (rowsEqual-is _ _ .0 e) i (omega arith) (omega arith)
+rows-out s t n e i lt = same-range (rowAt maxDepth s 0) (rowAt maxDepth t 0) 0 n (rowsEqual-is _ _ .0 e) i (omega arith) (omega arith)
 
-rows-in : (s t : List ℕ) (n : ℕ) → ((i : ℕ) → i < n → rowAt 16 s 0 i ≡ rowAt 16 t 0 i) → rangesEqual s t 0 0 n ≡ true
+rows-in : (s t : List ℕ) (n : ℕ) → ((i : ℕ) → i < n → rowAt maxDepth s 0 i ≡ rowAt maxDepth t 0 i) → rangesEqual s t 0 0 n ≡ true
 unfolding rangesEqual tableRows
-rows-in s t n e = rowsEqual-is _ _ .1 (range-same (rowAt 16 s 0) (rowAt 16 t 0) 0 n (λ k from end. e k (omega arith)))
+rows-in s t n e = rowsEqual-is _ _ .1 (range-same (rowAt maxDepth s 0) (rowAt maxDepth t 0) 0 n (λ k from end. e k (omega arith)))
 
 -- a yes is one of both checks and of the test
 record Said (x y : Checked) (b : Bool) : Type 0 where

@@ -8,6 +8,7 @@ use native.Mathlib.Omega.{arith}
 use lib.ListN.{length, drop}
 use lib.Dec.{ltb}
 use borrow.Author.Tests.{lt-ltb, le-ltb}
+use Rattle.image.specs.Record.{maxDepth}
 use Rattle.image.specs.declared.answer.Checked.the-variants.{Accepted, Refused}
 use Rattle.image.specs.declared.answer.Fault.{Fault}
 use Rattle.answers.specs.declared.Written.the-variants.{Bytes, Refused as WriteRefused, OutOfRange, TooLong}
@@ -30,7 +31,7 @@ table-side s i n is inside =
 
 module _ (s : List ℕ) (i n : ℕ) (out : List ℕ) where
   abbrev bytes : List ℕ
-  bytes = rowsBytes (range (rowAt 16 s 0) i n)
+  bytes = rowsBytes (range (rowAt maxDepth s 0) i n)
 
   -- a refusal leaves the buffer as it was
   pub write-refused : {f : Fault} → checkImage s ≡ Refused f → (WriteRefused f ≡ writeAnswer s i n out) × (out ≡ writeOutput s i n out)

@@ -314,7 +314,7 @@ module _ {number : ℕ} {s : List ℕ} (b : NoneBelow number s) where
   buffer-sum lt = buffer-total s (b .nodes 14 (omega arith) lt 0 (omega (arith, tables b .some-nodes)))
 
   module _ (k : ℕ) (node : k < nodeCount s) where
-    pub after-11 : 11 < number → Known s k
+    after-11 : 11 < number → Known s k
     unfolding fault
     after-11 lt = known s k (b .nodes 11 (omega arith) lt k node)
 

@@ -1,4 +1,4 @@
--- Images whose types agree have roots that are alike down to depth 16, and nodes that are alike have elements of one width.
+-- Images whose types agree have roots that are alike down to the greatest depth, and nodes that are alike have elements of one width.
 -- By the levels of the agreement of types. The ids of a union's children count at every place but below the entries of a
 -- Map at the root, and those are a Struct.
 use mathlib.Core.Path.{_≡_, refl, sym, ap, _∙_}
@@ -10,7 +10,7 @@ use lib.Dec.{eqb}
 use borrow.Author.Tests.{eqb-true}
 use Rattle.image.specs.declared.place.Place.{Place}
 use Rattle.image.specs.declared.place.Place.the-variants.{Root, Entries, Deeper}
-use Rattle.image.specs.Record.{nodeCount, codeOf, p1Of, firstChild, childCount}
+use Rattle.image.specs.Record.{maxDepth, nodeCount, codeOf, p1Of, firstChild, childCount}
 use Rattle.image.specs.TypeCode.{isUnion, layoutOf, entryOf, entries}
 use Rattle.image.specs.Element.{elementWidth}
 use Rattle.image.specs.Types.{ordinaryCounts, countedFor, typesAgreeAt, typesAgree}
@@ -82,9 +82,9 @@ root-alike (suc d) a b k l image node e =
         entries-alike d a b _ _ (rw z (image .node k node .tree .entries map .struct)) e
 
 -- images whose types agree
-pub types-alike : (a b : List ℕ) → AcceptedImage a → typesAgree a b ≡ true → Alike 16 a b 0 0
+pub types-alike : (a b : List ℕ) → AcceptedImage a → typesAgree a b ≡ true → Alike maxDepth a b 0 0
 unfolding typesAgree
-types-alike a b image e = root-alike 16 a b 0 0 image (omega (arith, image .tables .some-nodes)) e
+types-alike a b image e = root-alike maxDepth a b 0 0 image (omega (arith, image .tables .some-nodes)) e
 
 -- nodes of one code and p1 have elements of one width
 pub same-width : (a b : List ℕ) (k l : ℕ) → codeOf a k ≡ codeOf b l → p1Of a k ≡ p1Of b l → elementWidth a k ≡ elementWidth b l

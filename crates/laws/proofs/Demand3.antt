@@ -6,7 +6,7 @@ use mathlib.Core.List.{List, [], _++_, append-nil}
 use mathlib.Core.Logic.{_↔_}
 use Prim.Native.Nat.{ℕ, _+_, _≤_}
 use native.Mathlib.Omega.{arith}
-use Rattle.image.specs.Record.{lengthOf}
+use Rattle.image.specs.Record.{maxDepth, lengthOf}
 use Rattle.image.specs.Row.{rowAt, tableRows}
 use Rattle.image.specs.RowBytes.{count, rowsBytes, rangeBytes}
 use Rattle.image.specs.Equality.{rangesEqual}
@@ -22,26 +22,26 @@ use Rattle.laws.proofs.Stored.{range-fits, stored-fits}
 use Rattle.laws.proofs.OneShape.{one-shape}
 
 -- the rows of a table have its root's shape
-table-fits : (s : List ℕ) (i n : ℕ) → AcceptedImage s → i + n ≤ lengthOf s 0 → fitAll (tableRows s i n) (shapeOf 16 s 0) ≡ true
+table-fits : (s : List ℕ) (i n : ℕ) → AcceptedImage s → i + n ≤ lengthOf s 0 → fitAll (tableRows s i n) (shapeOf maxDepth s 0) ≡ true
 unfolding tableRows
 table-fits s i n image within =
-    range-fits (rowAt 16 s 0) (shapeOf 16 s 0) i n (λ c from end. stored-fits 16 s 0 c image (omega (arith, image .tables .some-nodes)) (omega arith))
+    range-fits (rowAt maxDepth s 0) (shapeOf maxDepth s 0) i n (λ c from end. stored-fits maxDepth s 0 c image (omega (arith, image .tables .some-nodes)) (omega arith))
 
 table-count : (s : List ℕ) (i n : ℕ) → count (tableRows s i n) ≡ n
 unfolding tableRows
-table-count s i n = range-count (rowAt 16 s 0) i n
+table-count s i n = range-count (rowAt maxDepth s 0) i n
 
 module _ (s t : List ℕ) (i j n : ℕ) (w : WrittenRanges s t i j n) where
-  root-shape : shapeOf 16 s 0 ≡ shapeOf 16 t 0
+  root-shape : shapeOf maxDepth s 0 ≡ shapeOf maxDepth t 0
   root-shape =
       let image = accepted s (w .left) in
-      one-shape 16 s t 0 0 image (omega (arith, image .tables .some-nodes)) (types-alike s t image (w .types))
+      one-shape maxDepth s t 0 0 image (omega (arith, image .tables .some-nodes)) (types-alike s t image (w .types))
 
   -- what begins with both outputs holds the same rows, and goes on in the same way
   ranges-back : (x y : List ℕ) → rangeBytes s i n ++ x ≡ rangeBytes t j n ++ y → (tableRows s i n ≡ tableRows t j n) × (x ≡ y)
   unfolding rangeBytes
   ranges-back x y e =
-      rows-back (tableRows s i n) (tableRows t j n) (shapeOf 16 s 0) x y
+      rows-back (tableRows s i n) (tableRows t j n) (shapeOf maxDepth s 0) x y
       (table-fits s i n (accepted s (w .left)) (w .left-rows))
       (rw root-shape (table-fits t j n (accepted t (w .right)) (w .right-rows)))
       (table-count s i n ∙ sym (table-count t j n)) e

@@ -1,5 +1,5 @@
 -- The rows of an accepted image do not depend on how much depth is left over.
--- A row looks only at rows of the node's children, each a level deeper; a node with no depth left would lie below level 16.
+-- A row looks only at rows of the node's children, each a level deeper; a node with no depth left would lie below the last level.
 use mathlib.Core.Path.{_≡_, refl, ap}
 use mathlib.Core.Bool.{Bool, true, false, cond}
 use mathlib.Core.List.{List}
@@ -11,7 +11,7 @@ use Rattle.image.specs.declared.type_code.Layout.{Layout}
 use Rattle.image.specs.declared.type_code.Layout.the-variants.{Null, Boolean, FixedWidth, VariableSize, View, List as Lists, ListView, FixedList, Struct, DenseUnion, SparseUnion, Dictionary, Runs}
 use Rattle.image.specs.declared.type_code.Count.the-variants.{Exactly}
 use Rattle.image.specs.Ranges.{sumTo}
-use Rattle.image.specs.Record.{nodeCount, codeOf, firstChild, childCount, childStart, offsetOf}
+use Rattle.image.specs.Record.{maxDepth, nodeCount, codeOf, firstChild, childCount, childStart, offsetOf}
 use Rattle.image.specs.TypeCode.{layoutOf, childRule}
 use Rattle.image.specs.Element.{valid, typeIdAt, denseOffsetAt, childEnd, childWithId, hasId, runAt}
 use Rattle.image.specs.Faults.{levelEnd}
@@ -66,11 +66,11 @@ level-below s d k le =
 
 module _ (s : List ℕ) (a : AcceptedImage s) where
   -- a node at the level that the remaining depth says has the same rows with more depth
-  pub depth-enough : (f d : ℕ) → f + d ≡ 16 → (k : ℕ) → levelEnd s d ≤ k → k < nodeCount s → (m i : ℕ) → rowAt (f + m) s k i ≡ rowAt f s k i
+  pub depth-enough : (f d : ℕ) → f + d ≡ maxDepth → (k : ℕ) → levelEnd s d ≤ k → k < nodeCount s → (m i : ℕ) → rowAt (f + m) s k i ≡ rowAt f s k i
   unfolding rowAt
   depth-enough zero d e k le lt m i =
-      let last : d ≡ 16 = omega arith in
-      let past : levelEnd s 16 ≤ k = rw last at le in
+      let last : d ≡ maxDepth = omega arith in
+      let past : levelEnd s maxDepth ≤ k = rw last at le in
       absurd (omega (arith, a .node k lt .tree .shallow))
   depth-enough (suc f) d e k le lt m i =
       let t = a .node k lt .tree in
@@ -80,10 +80,10 @@ module _ (s : List ℕ) (a : AcceptedImage s) where
       rw plus (ap (masked (valid s k i)) (value-same (rowAt (f + m) s) (rowAt f s) s k below (layoutOf (codeOf s k)) (t .exactly) (offsetOf s k + i)))
 
 -- an accepted image never runs out of depth
-pub row-deeper : (s : List ℕ) → AcceptedImage s → (m i : ℕ) → rowAt (16 + m) s 0 i ≡ rowAt 16 s 0 i
+pub row-deeper : (s : List ℕ) → AcceptedImage s → (m i : ℕ) → rowAt (maxDepth + m) s 0 i ≡ rowAt maxDepth s 0 i
 unfolding levelEnd
-row-deeper s a m i = depth-enough s a 16 0 (omega arith) 0 (omega arith) (omega (arith, a .tables .some-nodes)) m i
+row-deeper s a m i = depth-enough s a maxDepth 0 (omega arith) 0 (omega arith) (omega (arith, a .tables .some-nodes)) m i
 
-pub rows-deeper : (s : List ℕ) → AcceptedImage s → (m i n : ℕ) → range (rowAt (16 + m) s 0) i n ≡ tableRows s i n
+pub rows-deeper : (s : List ℕ) → AcceptedImage s → (m i n : ℕ) → range (rowAt (maxDepth + m) s 0) i n ≡ tableRows s i n
 unfolding tableRows
-rows-deeper s a m i n = range-same (rowAt (16 + m) s 0) (rowAt 16 s 0) i n (λ j le lt. row-deeper s a m j)
+rows-deeper s a m i n = range-same (rowAt (maxDepth + m) s 0) (rowAt maxDepth s 0) i n (λ j le lt. row-deeper s a m j)

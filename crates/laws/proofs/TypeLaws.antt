@@ -6,7 +6,7 @@ use mathlib.Core.List.{List}
 use Prim.Native.Nat.{ℕ, zero, suc, _+_, _<_}
 use lib.Dec.{eqb}
 use borrow.Author.Tests.{eqb-true, eq-eqb}
-use Rattle.image.specs.Record.{codeOf, idOf, p1Of, p2Of, firstChild, childCount, nullable}
+use Rattle.image.specs.Record.{maxDepth, codeOf, idOf, p1Of, p2Of, firstChild, childCount, nullable}
 use Rattle.image.specs.declared.place.Place.{Place}
 use Rattle.image.specs.declared.place.Place.the-variants.{Root}
 use Rattle.image.specs.declared.place.Counted.{Counted}
@@ -145,12 +145,12 @@ at-trans (suc d) p s t u i j k e f =
 
 pub types-refl : (s : List ℕ) → typesAgree s s ≡ true
 unfolding typesAgree
-types-refl s = at-refl 16 Root s 0
+types-refl s = at-refl maxDepth Root s 0
 
 pub types-sym : (s t : List ℕ) → typesAgree s t ≡ true → typesAgree t s ≡ true
 unfolding typesAgree
-types-sym s t = at-sym 16 Root s t 0 0
+types-sym s t = at-sym maxDepth Root s t 0 0
 
 pub types-trans : (s t u : List ℕ) → typesAgree s t ≡ true → typesAgree t u ≡ true → typesAgree s u ≡ true
 unfolding typesAgree
-types-trans s t u = at-trans 16 Root s t u 0 0 0
+types-trans s t u = at-trans maxDepth Root s t u 0 0 0

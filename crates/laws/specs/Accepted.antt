@@ -8,7 +8,7 @@ use lib.ListN.{length}
 use Rattle.image.specs.declared.type_code.Layout.the-variants.{Boolean, FixedWidth, VariableSize, View, List as Lists, ListView, FixedList, Struct, DenseUnion, SparseUnion, Dictionary, Runs}
 use Rattle.image.specs.declared.type_code.Count.the-variants.{Exactly, AtLeast}
 use Rattle.image.specs.Bytes.{byteAt, numberAt}
-use Rattle.image.specs.Record.{nodeCount, bufferTotal, tablesEnd, codeOf, flagsOf, idOf, nameLength, p1Of, p2Of, lengthOf, offsetOf, namePlace, bitmapPlace, bitmapLength, firstBit, firstChild, childCount, firstBuffer, bufferCount, hasBitmap, elementsOf, childStart, bufferStart, bufferPlace, bufferLength}
+use Rattle.image.specs.Record.{maxDepth, nodeCount, bufferTotal, tablesEnd, codeOf, flagsOf, idOf, nameLength, p1Of, p2Of, lengthOf, offsetOf, namePlace, bitmapPlace, bitmapLength, firstBit, firstChild, childCount, firstBuffer, bufferCount, hasBitmap, elementsOf, childStart, bufferStart, bufferPlace, bufferLength}
 use Rattle.image.specs.TypeCode.{layoutOf, p1Fits, p2Fits, isUnion, signBit, takesBitmap, childRule, bufferRule}
 use Rattle.image.specs.Element.{valid, elementWidth, elementPlace, elementAt, sizeAt, typeIdAt, denseOffsetAt, childEnd, childWithId, inlineLength, viewLength, viewBuffer, viewOffset, viewData, runEndWidth, runEndAt, runAt}
 use Rattle.image.specs.Faults.{levelEnd, underUnion, notWhole, fault10, fault}
@@ -68,7 +68,7 @@ pub record Tree (s : List ℕ) (k : ℕ) : Type 0 where
   pub numbered : firstChild s k ≡ childStart s k
   pub below : k < firstChild s k
   pub ends : childEnd s k ≤ nodeCount s
-  pub shallow : k < levelEnd s 16
+  pub shallow : k < levelEnd s maxDepth
   pub ids : isUnion (codeOf s k) ≡ true → Ids s k
   pub no-id : underUnion s k ≡ false → idOf s k ≡ 0
   pub entries : codeOf s k ≡ 42 → Entries s k

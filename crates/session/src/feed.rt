@@ -1,11 +1,10 @@
 // Lines out of the chunks that the input arrives in.
 use crate::front::front;
+use crate::line::LINE_FEED;
 use crate::sizes::KEPT;
 ghost use mathlib.Core.Path.{_≡_};
 ghost use lib.ListN.{take};
 ghost use Rattle.session.specs.Feeds.{fedOf, lineAfter};
-
-const LINE_FEED: u8 = 10;
 
 pub struct Fed {
     // where the chunk goes on

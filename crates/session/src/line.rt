@@ -12,6 +12,9 @@ const NO_DIGIT: u8 = 16;
 
 const SPACE: u8 = 32;
 
+// What ends a line, of the input and of the output.
+pub const LINE_FEED: u8 = 10;
+
 // The value of a digit.
 fn digit(c: u8) -> u8
     ensures { λ r. ⌜ r ≡ digitOf c ⌝ }

@@ -1,5 +1,6 @@
 // Replies, and the line of characters that each is printed as.
 use crate::front::front;
+use crate::line::LINE_FEED;
 use crate::sizes::LONGEST_REPLY;
 use crate::sizes::OUTPUT;
 use answers::Compared;
@@ -30,8 +31,6 @@ pub enum Reply {
 
 // A reply has at most so many bytes, of which an output has all but the first.
 const LONGEST_BYTES: usize = 65;
-
-const LINE_FEED: u8 = 10;
 
 // The reply to a comparison.
 pub fn compared_reply(answer: Compared) -> Reply

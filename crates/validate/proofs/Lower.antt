@@ -1,12 +1,10 @@
 -- What the lower numbers give to 17 and 18: what their rules read lies inside the image.
 -- A buffer lies inside by 14 and holds the elements of its node by 15; their width is an integer's by the code.
-use mathlib.Core.Path.{_≡_, refl, ap, _∙_}
-use mathlib.Core.Bool.{Bool, true, false, not, _&&_, _||_}
+use mathlib.Core.Path.{_≡_, refl}
+use mathlib.Core.Bool.{true}
 use mathlib.Core.List.{List}
 use Prim.Native.Nat.{ℕ, _+_, _*_, _≤_, _<_}
 use native.Mathlib.Omega.{arith}
-use lib.Dec.{eqb, leb}
-use borrow.Author.Tests.{eqb-true, le-leb}
 use Rattle.image.specs.declared.type_code.Layout.{Layout}
 use Rattle.image.specs.declared.type_code.Layout.the-variants.{FixedWidth, VariableSize, View, List as Lists, ListView, DenseUnion, SparseUnion, Dictionary, Runs}
 use Rattle.image.specs.Ranges.{every}
@@ -14,8 +12,6 @@ use Rattle.image.specs.Reads.{isWidth}
 use Rattle.image.specs.Record.{nodeCount, codeOf, p1Of, firstChild, childCount, bufferCount, bufferLength, elementsOf, entryPlace, tablesEnd}
 use Rattle.image.specs.TypeCode.{layoutOf, entryOf, entries, widthOf}
 use Rattle.image.specs.Element.{elementWidth, childEnd, runEndWidth}
-use Rattle.image.proofs.Bools.{when-true, and-true}
-use Rattle.image.proofs.Ranges.{every-below}
 use Rattle.image.proofs.Widths.{codesOf, code-passes, ownWidth, own-width, dictionary-code, integer-is-width, view-width}
 use Rattle.laws.specs.Accepted.{NoneBelow, RunEnds, Buffers, Enough}
 use Rattle.laws.proofs.Accepted.{tables, after-12, after-14, after-15}

@@ -1,9 +1,9 @@
--- Run ends rise where numbers a width apart do, and their sign bit fits a word.
+-- Run ends lie inside, and rise where the numbers that stand there do.
 -- Each run end is the number that stands as many widths behind the first.
 use mathlib.Core.Path.{_≡_, refl}
-use mathlib.Core.Bool.{true, _&&_}
+use mathlib.Core.Bool.{true}
 use mathlib.Core.List.{List}
-use Prim.Native.Nat.{ℕ, _+_, _-_, _≤_, _^_}
+use Prim.Native.Nat.{ℕ, _+_, _-_, _≤_}
 use native.Mathlib.Omega.{arith}
 use lib.Dec.{leb}
 use lib.ListN.{length}
@@ -12,7 +12,6 @@ use Rattle.image.specs.Ranges.{rises}
 use Rattle.image.specs.Record.{lengthOf, firstChild}
 use Rattle.image.specs.TypeCode.{signBit}
 use Rattle.image.specs.Faults.{runEndsRise}
-use Rattle.image.proofs.Bools.{and-left, and-right}
 use Rattle.image.proofs.CodeTable.{agree}
 use Rattle.image.specs.declared.element.EndsAt.{EndsAt}
 use Rattle.image.specs.Reads.{Packed, Ends}
@@ -21,16 +20,10 @@ use Rattle.image.proofs.RunEnds.{run-end-is}
 use Rattle.validate.specs.Numbers.{EndsInside, numberIn}
 use Rattle.validate.proofs.Elements.{rows-inside}
 
--- the sign bit of 1 to 8 bytes
-signs : (w : ℕ) → 1 ≤ w → w ≤ 8 → leb 1 (signBit w) && leb (signBit w) (2 ^ 63) ≡ true
-unfolding signBit
-signs w low high = agree (λ (w : ℕ). leb 1 (signBit w) && leb (signBit w) (2 ^ 63)) (λ (w : ℕ). true) 1 8 refl w low (omega arith)
-
+-- the sign bit of 1 to 8 bytes is not 0
 pub sign-least : (w : ℕ) → 1 ≤ w → w ≤ 8 → 1 ≤ signBit w
-sign-least w low high = leb-true 1 (signBit w) (and-left _ _ (signs w low high))
-
-pub sign-most : (w : ℕ) → 1 ≤ w → w ≤ 8 → signBit w ≤ 2 ^ 63
-sign-most w low high = leb-true (signBit w) (2 ^ 63) (and-right (leb 1 (signBit w)) _ (signs w low high))
+unfolding signBit
+sign-least w low high = leb-true 1 (signBit w) (agree (λ (w : ℕ). leb 1 (signBit w)) (λ (w : ℕ). true) 1 8 refl w low (omega arith))
 
 -- the run ends of all rows of their child lie inside
 pub ends-packed : (s : List ℕ) (k : ℕ) (v : EndsAt) {count : ℕ} → EndsInside s k → Ends s k v → count ≡ lengthOf s (firstChild s k) → Packed (length s) (v .place) (v .width) count

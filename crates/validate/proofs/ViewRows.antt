@@ -1,6 +1,6 @@
 -- Which rows of views break a rule, and where the entries of their node's buffers stand.
 -- A null row breaks none; any other does where its view does. Views and entries stand a fixed number of bytes apart.
-use mathlib.Core.Path.{_≡_, sym, _∙_}
+use mathlib.Core.Path.{_≡_, sym}
 use mathlib.Core.Bool.{Bool, true, false}
 use mathlib.Core.List.{List}
 use Prim.Native.Nat.{ℕ, _+_, _*_, _<_, _≤_}
@@ -9,7 +9,7 @@ use native.Mathlib.Omega.{arith}
 use lib.ListN.{length}
 use Rattle.image.specs.Bytes.{numberAt}
 use Rattle.image.specs.Reads.{Read}
-use Rattle.image.specs.Record.{nodeCount, recordPlace, entryPlace, firstBuffer, bufferCount, lengthOf, offsetOf, elementsOf, bufferPlace, bufferLength}
+use Rattle.image.specs.Record.{entrySize, nodeCount, recordPlace, entryPlace, firstBuffer, bufferCount, lengthOf, offsetOf, elementsOf, bufferPlace, bufferLength}
 use Rattle.image.specs.Element.{valid, elementPlace}
 use Rattle.image.specs.Faults.{viewFault, viewRowFault}
 use Rattle.validate.specs.Views.{ViewsInside, Entries, ViewAt}
@@ -21,24 +21,24 @@ entries-read r p q = record { inside = r; start = rw add-zero at p; number = q }
 
 -- where the place and the length of buffer j stand in the entries
 module _ {s : List ℕ} {k entries count : ℕ} (r : Entries s k entries count) (j : ℕ) where
-  entry-at : entryPlace s (firstBuffer s k + j) ≡ entries + j * 8
+  entry-at : entryPlace s (firstBuffer s k + j) ≡ entries + j * entrySize
   unfolding entryPlace
-  entry-at = rw (r .start .value) (sym (shift (recordPlace (nodeCount s)) (firstBuffer s k) j 8))
+  entry-at = rw (r .start .value) (sym (shift (recordPlace (nodeCount s)) (firstBuffer s k) j entrySize))
 
-  pub place-at : bufferPlace s k j ≡ numberAt 4 s (entries + j * 8)
+  pub place-at : bufferPlace s k j ≡ numberAt 4 s (entries + j * entrySize)
   unfolding bufferPlace
   place-at = rw entry-at
 
-  pub length-at : bufferLength s k j ≡ numberAt 4 s (entries + j * 8 + 4)
+  pub length-at : bufferLength s k j ≡ numberAt 4 s (entries + j * entrySize + 4)
   unfolding bufferLength
   length-at = rw entry-at
 
   -- they lie inside
-  pub entry-inside : j < count → entries + j * 8 + 8 ≤ length s
+  pub entry-inside : j < count → entries + j * entrySize + entrySize ≤ length s
   entry-inside lt = omega (arith, r .inside .entries, r .start .value, r .number .value)
 
   -- the first bytes of a long view's data lie inside
-  pub data-inside : (at len : ℕ) {place size : ℕ} → j < count → 12 < len → place ≡ numberAt 4 s (entries + j * 8) → size ≡ numberAt 4 s (entries + j * 8 + 4) → at + len ≤ size → place + at + 4 ≤ length s
+  pub data-inside : (at len : ℕ) {place size : ℕ} → j < count → 12 < len → place ≡ numberAt 4 s (entries + j * entrySize) → size ≡ numberAt 4 s (entries + j * entrySize + 4) → at + len ≤ size → place + at + 4 ≤ length s
   data-inside at len {place} {size} lt long ep es le =
       let p : place ≡ bufferPlace s k j = rw place-at ep in
       let z : size ≡ bufferLength s k j = rw length-at es in

@@ -7,7 +7,8 @@ ghost use Rattle.image.specs.Ranges.{any, rises};
 ghost use Rattle.image.specs.Reads.{Packed};
 ghost use Rattle.validate.specs.Numbers.{numberIn, falls};
 
-const BLOCK: usize = 64;
+// So many numbers are tested at once.
+pub const BLOCK: usize = 64;
 
 // Number k + 1 is less than a step above number k.
 fn falls_at(image: &[u8], place: usize, width: usize, step: usize, k: usize) -> bool

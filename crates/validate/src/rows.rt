@@ -1,4 +1,5 @@
 // 18: in its rows a node names a child, a key, a view or a dense offset that is not there, or its run ends are wrong.
+use crate::rise::BLOCK;
 use crate::rise::rise;
 use image::bytes::nth_inside;
 use image::bytes::octet;
@@ -37,8 +38,6 @@ ghost use Rattle.image.specs.Faults.{fault18, denseRowFault, sparseRowFault, ke
 ghost use Rattle.laws.specs.Accepted.{NoneBelow};
 ghost use Rattle.validate.specs.Numbers.{KeyLimit, Holds, EndsInside, numberIn, reaches};
 ghost use Rattle.validate.specs.Views.{ViewAt, ViewsInside};
-
-const BLOCK: usize = 64;
 
 // A row of a dense union has a type id without a child, or an offset outside the child that its id names.
 fn dense_fault(image: &[u8], node: u32) -> bool
