@@ -14,6 +14,9 @@ ghost use lib.ListN.{take, drop};
 ghost use Rattle.session.specs.Steps.{afterLine};
 ghost use Rattle.session.specs.Turns.{startProgress, lent, heldIn, answered, turnOf, endOf, Told, Turned};
 
+// How many characters are kept where no line has begun.
+const NO_LINE: usize = 0;
+
 // How far an input was taken.
 pub struct Progress {
     // how many characters of a line are kept: none where no line has begun, and 195 where there would be more
@@ -40,7 +43,7 @@ pub fn start() -> Progress
     ensures { λ r. ⌜ r ≡ startProgress ⌝ }
 {
     Progress {
-        kept: 0,
+        kept: NO_LINE,
         state: both_open(),
     }
 }
@@ -101,7 +104,7 @@ pub fn turn(
     Taken {
         next: next,
         progress: Progress {
-            kept: 0,
+            kept: NO_LINE,
             state: after,
         },
         printed: answered.printed,
