@@ -28,7 +28,7 @@ pub document-session :
     "01 01000100 02020000 00000000 00000000 03000000 00000000 00000000 3b000000 01000000 00000000 01000000 00000100 38000000 03000000 05000705\n02 01000100 02020000 00000000 00000000 03000000 00000000 00000000 3b000000 01000000 00000000 01000000 00000100 38000000 03000000 05090705\n03 00\n03 01\n04\n06 00 00000000 03000000\n")
     ≡ characters "00\n00\n00\n00\n0001\n000105000107\n"
 unfolding Sessions.characters Sessions.replies Input.inFront Input.linesOf Input.printedFrom List.flatten
-    Lines.digitOf Lines.preceded Lines.scan Lines.short Lines.bytesOf
+    Lines.digitOf Lines.preceded Lines.scan Lines.notTooLong Lines.bytesOf
     Frames.bySide Frames.ofLength Frames.pieceFrame Frames.closeFrame Frames.compareFrame Frames.writeFrame Frames.byKind Frames.frameOf
     Replies.digitText Replies.hexText Replies.lineText Replies.replyLine
     Steps.imageOf Steps.pastStore Steps.pieceSide Steps.pieceStore Steps.closeSide Steps.bothClosed Steps.comparesReply

@@ -25,7 +25,7 @@ pub edges-printed :
     map (λ (s : List ℕ). printed s) (map characters ("" ∷ "\n" ∷ "04" ∷ "04\n" ∷ "04\n\n04" ∷ []))
     ≡ map characters ("" ∷ "01\n" ∷ "2a\n" ∷ "2a\n" ∷ "2a\n01\n2a\n" ∷ [])
 unfolding Sessions.characters Sessions.replies Input.inFront Input.linesOf Input.printedFrom List.flatten
-    Lines.digitOf Lines.preceded Lines.scan Lines.short Lines.bytesOf
+    Lines.digitOf Lines.preceded Lines.scan Lines.notTooLong Lines.bytesOf
     Frames.compareFrame Frames.ofLength Frames.byKind Frames.frameOf
     Replies.digitText Replies.hexText Replies.lineText Replies.replyLine
     Steps.bothClosed Steps.comparesReply Steps.afterFrame Steps.afterLine

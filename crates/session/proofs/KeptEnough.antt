@@ -10,7 +10,7 @@ use lib.Seq.{take-all, length-take-le}
 use lib.Dec.{eqb, ltb}
 use borrow.Author.Tests.{lt-ltb, ltb-true, ltb-false}
 use Rattle.session.specs.declared.step.State.{State}
-use Rattle.session.specs.Lines.{digitOf, Stand, begin, half, between, Found, bad, good, preceded, scan, short, bytesOf}
+use Rattle.session.specs.Lines.{digitOf, Stand, begin, half, between, Found, bad, good, preceded, scan, notTooLong, bytesOf}
 use Rattle.session.specs.Steps.{afterLine}
 
 -- how many characters of the next byte are behind a reader, its space with them
@@ -60,10 +60,10 @@ three-each (c ∷ cs) between =
     (either n (ltb d 16) (scan cs (half d)) bad (fewer n (length cs + 2) (scan cs (half d)) (omega arith) (three-each cs (half d))) tt)
 
 long-refused : (line : List ℕ) → 195 ≤ length line → bytesOf line ≡ []
-unfolding bytesOf short AtMost behind
+unfolding bytesOf notTooLong AtMost behind
 long-refused line h = refused (scan line begin) (three-each line begin)
   where
-    refused : (f : Found) → AtMost (length line + behind begin) f → short f ≡ []
+    refused : (f : Found) → AtMost (length line + behind begin) f → notTooLong f ≡ []
     refused bad p = refl
     refused (good xs) p = let over : 65 < length xs = omega arith in rw (lt-ltb _ _ over)
 

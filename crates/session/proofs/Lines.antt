@@ -10,7 +10,7 @@ use lib.ListN.{length, getD, take, drop, set, length-append, length-set, length-
 use lib.Seq.{drop-cons, take-suc-set, length-take-le, append-snoc}
 use lib.Dec.{eqb, ltb}
 use borrow.Author.Tests.{ltb-true, ltb-false, lt-ltb, le-ltb, eq-eqb, ne-eqb}
-use Rattle.session.specs.Lines.{digitOf, between, Found, bad, good, preceded, scan, short, bytesOf, rest, NextByte}
+use Rattle.session.specs.Lines.{digitOf, between, Found, bad, good, preceded, scan, notTooLong, bytesOf, rest, NextByte}
 
 same-arms : {A : Type 0} (b : Bool) (x : A) → cond b x x ≡ x
 same-arms true x = refl
@@ -147,27 +147,27 @@ pub record Decoded (line frame : List ℕ) (at n : ℕ) : Type 0 where
   pub within : at ≤ length line
   pub few : n ≤ 65
   pub sized : length frame ≡ 65
-  pub same : bytesOf line ≡ short (joined (take n frame) (rest (drop at line)))
+  pub same : bytesOf line ≡ notTooLong (joined (take n frame) (rest (drop at line)))
 
 -- the empty line has no bytes either way
-from-none : (line : List ℕ) → bytesOf line ≡ short (joined [] (rest line))
-unfolding bytesOf rest short scan joined
+from-none : (line : List ℕ) → bytesOf line ≡ notTooLong (joined [] (rest line))
+unfolding bytesOf rest notTooLong scan joined
 from-none [] = refl
-from-none (c ∷ cs) = ap short (sym (joined-none (rest (c ∷ cs))))
+from-none (c ∷ cs) = ap notTooLong (sym (joined-none (rest (c ∷ cs))))
 
 pub decoded-none : (line frame : List ℕ) → length frame ≡ 65 → Decoded line frame 0 0
 decoded-none line frame e = record { within = omega arith; few = omega arith; sized = e; same = from-none line }
 
 module _ (line frame : List ℕ) (at n : ℕ) (d : Decoded line frame at n) where
   pub decoded-bad : rest (drop at line) ≡ bad → (0 ≡ length (bytesOf line)) × (take 0 frame ≡ bytesOf line)
-  unfolding short joined
+  unfolding notTooLong joined
   decoded-bad e =
       let none : bytesOf line ≡ [] = d .same ∙ rw e in
       (rw none refl, rw none refl)
 
   -- a byte more than a frame has
-  too-long : (xs : List ℕ) (x : ℕ) (f : Found) → length xs ≡ 65 → short (joined xs (preceded x f)) ≡ []
-  unfolding short preceded joined
+  too-long : (xs : List ℕ) (x : ℕ) (f : Found) → length xs ≡ 65 → notTooLong (joined xs (preceded x f)) ≡ []
+  unfolding notTooLong preceded joined
   too-long xs x bad e = refl
   too-long xs x (good ys) e = let h : 65 < length (xs ++ x ∷ ys) = simp length-append (omega arith) in rw (lt-ltb _ _ h)
 
@@ -186,11 +186,11 @@ module _ (line frame : List ℕ) (at n : ℕ) (d : Decoded line frame at n) wher
         within = next .within;
         few = omega (arith, d .few);
         sized = length-set frame n x ∙ d .sized;
-        same = d .same ∙ ap short (ap (joined (take n frame)) (rest-byte line at high low p ∙ ap (preceded x) (next .found)) ∙ joined-more (take n frame) x (rest (drop r line)) ∙ rw put);
+        same = d .same ∙ ap notTooLong (ap (joined (take n frame)) (rest-byte line at high low p ∙ ap (preceded x) (next .found)) ∙ joined-more (take n frame) x (rest (drop r line)) ∙ rw put);
       }
 
-  ends-short : (xs : List ℕ) → length xs ≤ 65 → short (joined xs (rest [])) ≡ xs
-  unfolding short rest joined
+  ends-short : (xs : List ℕ) → length xs ≤ 65 → notTooLong (joined xs (rest [])) ≡ xs
+  unfolding notTooLong rest joined
   ends-short xs h = rw (append-nil xs, le-ltb _ _ h)
 
   pub decoded-done : length line ≤ at → (n ≡ length (bytesOf line)) × (take n frame ≡ bytesOf line)

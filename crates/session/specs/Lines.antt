@@ -35,13 +35,13 @@ scan (c ∷ cs) (half h) = cond (ltb (digitOf c) 16) (preceded (16 * h + digitOf
 scan (c ∷ cs) between = cond (eqb c 32) (scan cs begin) (cond (ltb (digitOf c) 16) (scan cs (half (digitOf c))) bad)
 
 -- at most 65 bytes, or none
-unfoldable pub short : Found → List ℕ
-short bad = []
-short (good xs) = cond (ltb 65 (length xs)) [] xs
+unfoldable pub notTooLong : Found → List ℕ
+notTooLong bad = []
+notTooLong (good xs) = cond (ltb 65 (length xs)) [] xs
 
 -- the bytes that a line stands for; none where it is not 1 to 65 bytes of hexadecimal
 unfoldable pub bytesOf : List ℕ → List ℕ
-bytesOf line = short (scan line begin)
+bytesOf line = notTooLong (scan line begin)
 
 -- what is found where the next byte has to begin, if there is one more
 unfoldable pub rest : List ℕ → Found
