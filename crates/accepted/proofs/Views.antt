@@ -13,6 +13,7 @@ use Rattle.image.specs.Record.{entrySize, codeOf, elementsOf, firstBuffer, buff
 use Rattle.image.specs.TypeCode.{layoutOf}
 use Rattle.image.specs.Element.{elementPlace, viewLength, viewBuffer, viewOffset, viewData}
 use Rattle.image.specs.Reads.{Read}
+use Rattle.image.proofs.Entries.{entry-from}
 use Rattle.laws.specs.Accepted.{ViewInside}
 use Rattle.accepted.specs.Parts.{Part, Viewed, ViewBytes}
 use Rattle.accepted.proofs.Nodes.{part-node, part-row}
@@ -37,14 +38,10 @@ module _ {s : List ℕ} {k v len : ℕ} (r : Viewed s k v len) (long : 12 < len)
   pub entry-small : e + (1 + b) * entrySize < 2 ^ 64
   entry-small = omega (arith, entry-inside, r .image .tables .size)
 
-  entry : entryPlace s (firstBuffer s k + (1 + b)) ≡ e + (1 + b) * entrySize
-  unfolding entryPlace
-  entry = omega (arith, ee)
-
   pub shown-long : {p o : ℕ} → p ≡ numberAt 4 s (e + (1 + b) * entrySize) → o ≡ numberAt 4 s (v + 12) → ViewBytes s k v len (p + o)
   unfolding viewData viewBuffer viewOffset bufferPlace
   shown-long {p} {o} ep eo =
-      let place : p ≡ bufferPlace s k (1 + b) = rw entry ep in
+      let place : p ≡ bufferPlace s k (1 + b) = rw (entry-from s k (1 + b) ee) ep in
       let stored : o + len ≤ bufferLength s k (1 + b) = rw (eo, eb, r .size) (r .view .inside (rw (← r .size) long)) in
       let buffer : bufferPlace s k (1 + b) + bufferLength s k (1 + b) ≤ length s = r .image .node k (r .node) .buffers .inside (1 + b) data-buffer in
       record { place = rw (← r .size, lt-leb len 12 long, place, eo, eb); inside = omega arith }

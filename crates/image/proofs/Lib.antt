@@ -2,6 +2,7 @@ pub mod Bools
 pub mod ById
 pub mod CodeTable
 pub mod Compare
+pub mod Entries
 pub mod Loops
 pub mod Numbers
 pub mod Ranges

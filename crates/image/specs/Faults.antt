@@ -11,14 +11,14 @@ use Rattle.image.specs.declared.type_code.Layout.{Layout}
 use Rattle.image.specs.declared.type_code.Layout.the-variants.{Null, Boolean, FixedWidth, VariableSize, View, List as Lists, ListView, FixedList, Struct, DenseUnion, SparseUnion, Dictionary, Runs}
 use Rattle.image.specs.Ranges.{any, first, rises}
 use Rattle.image.specs.Bytes.{byteAt, numberAt}
-use Rattle.image.specs.Record.{maxDepth, nodeCount, bufferTotal, tablesEnd, codeOf, flagsOf, idOf, nameLength, p1Of, p2Of, lengthOf, offsetOf, namePlace, bitmapPlace, bitmapLength, firstBit, firstChild, childCount, firstBuffer, bufferCount, hasBitmap, elementsOf, childStart, bufferStart, bufferPlace, bufferLength}
+use Rattle.image.specs.Record.{headerSize, maxDepth, nodeCount, bufferTotal, tablesEnd, codeOf, flagsOf, idOf, nameLength, p1Of, p2Of, lengthOf, offsetOf, namePlace, bitmapPlace, bitmapLength, firstBit, firstChild, childCount, firstBuffer, bufferCount, hasBitmap, elementsOf, childStart, bufferStart, bufferPlace, bufferLength}
 use Rattle.image.specs.TypeCode.{layoutOf, p1Fits, p2Fits, isUnion, keySigned, signBit, takesBitmap, childRule, bufferRule, counts}
 use Rattle.image.specs.Element.{valid, elementWidth, elementPlace, elementAt, sizeAt, typeIdAt, denseOffsetAt, childEnd, childWithId, inlineLength, viewLength, viewBuffer, viewOffset, viewData, runEndWidth, runEndAt}
 
 -- 10: "image shorter than header and tables, longer than the maximum, or n or m out of range"
 unfoldable pub fault10 : List ℕ → Bool
 fault10 s =
-    ltb (length s) 4
+    ltb (length s) headerSize
     || ltb 16777216 (length s)
     || eqb (nodeCount s) 0
     || ltb 256 (nodeCount s)

@@ -8,7 +8,7 @@ use lib.ListN.{length}
 use Rattle.image.specs.declared.type_code.Layout.the-variants.{Boolean, FixedWidth, VariableSize, View, List as Lists, ListView, FixedList, Struct, DenseUnion, SparseUnion, Dictionary, Runs}
 use Rattle.image.specs.declared.type_code.Count.the-variants.{Exactly, AtLeast}
 use Rattle.image.specs.Bytes.{byteAt, numberAt}
-use Rattle.image.specs.Record.{maxDepth, nodeCount, bufferTotal, tablesEnd, codeOf, flagsOf, idOf, nameLength, p1Of, p2Of, lengthOf, offsetOf, namePlace, bitmapPlace, bitmapLength, firstBit, firstChild, childCount, firstBuffer, bufferCount, hasBitmap, elementsOf, childStart, bufferStart, bufferPlace, bufferLength}
+use Rattle.image.specs.Record.{headerSize, maxDepth, nodeCount, bufferTotal, tablesEnd, codeOf, flagsOf, idOf, nameLength, p1Of, p2Of, lengthOf, offsetOf, namePlace, bitmapPlace, bitmapLength, firstBit, firstChild, childCount, firstBuffer, bufferCount, hasBitmap, elementsOf, childStart, bufferStart, bufferPlace, bufferLength}
 use Rattle.image.specs.TypeCode.{layoutOf, p1Fits, p2Fits, isUnion, signBit, takesBitmap, childRule, bufferRule}
 use Rattle.image.specs.Element.{valid, elementWidth, elementPlace, elementAt, sizeAt, typeIdAt, denseOffsetAt, childEnd, childWithId, inlineLength, viewLength, viewBuffer, viewOffset, viewData, runEndWidth, runEndAt, runAt}
 use Rattle.image.specs.Faults.{levelEnd, underUnion, notWhole, fault10, fault}
@@ -21,7 +21,7 @@ pub record NoneBelow (number : ℕ) (s : List ℕ) : Type 0 where
 
 -- 10: the tables lie inside, and there are some nodes, not too many
 pub record Tables (s : List ℕ) : Type 0 where
-  pub header : 4 ≤ length s
+  pub header : headerSize ≤ length s
   pub size : length s ≤ 16777216
   pub some-nodes : 1 ≤ nodeCount s
   pub few-nodes : nodeCount s ≤ 256

@@ -9,11 +9,11 @@ use native.Mathlib.Omega.{arith}
 use lib.ListN.{length}
 use Rattle.image.specs.Bytes.{numberAt}
 use Rattle.image.specs.Reads.{Read}
-use Rattle.image.specs.Record.{entrySize, nodeCount, recordPlace, entryPlace, firstBuffer, bufferCount, lengthOf, offsetOf, elementsOf, bufferPlace, bufferLength}
+use Rattle.image.specs.Record.{entrySize, entryPlace, firstBuffer, bufferCount, lengthOf, offsetOf, elementsOf, bufferPlace, bufferLength}
 use Rattle.image.specs.Element.{valid, elementPlace}
 use Rattle.image.specs.Faults.{viewFault, viewRowFault}
+use Rattle.image.proofs.Entries.{entry-from}
 use Rattle.validate.specs.Views.{ViewsInside, Entries, ViewAt}
-use Rattle.validate.proofs.Elements.{shift}
 
 -- the entries and their number, as they are read
 pub entries-read : {s : List ℕ} {k entries count : ℕ} → ViewsInside s k → Read (entryPlace s (firstBuffer s k + 0)) 40 entries → Read (bufferCount s k) 16 count → Entries s k entries count
@@ -21,17 +21,13 @@ entries-read r p q = record { inside = r; start = rw add-zero at p; number = q }
 
 -- where the place and the length of buffer j stand in the entries
 module _ {s : List ℕ} {k entries count : ℕ} (r : Entries s k entries count) (j : ℕ) where
-  entry-at : entryPlace s (firstBuffer s k + j) ≡ entries + j * entrySize
-  unfolding entryPlace
-  entry-at = rw (r .start .value) (sym (shift (recordPlace (nodeCount s)) (firstBuffer s k) j entrySize))
-
   pub place-at : bufferPlace s k j ≡ numberAt 4 s (entries + j * entrySize)
   unfolding bufferPlace
-  place-at = rw entry-at
+  place-at = rw (entry-from s k j (r .start .value))
 
   pub length-at : bufferLength s k j ≡ numberAt 4 s (entries + j * entrySize + 4)
   unfolding bufferLength
-  length-at = rw entry-at
+  length-at = rw (entry-from s k j (r .start .value))
 
   -- they lie inside
   pub entry-inside : j < count → entries + j * entrySize + entrySize ≤ length s
