@@ -5,8 +5,8 @@ use mathlib.Core.Bool.{Bool, true, false, _&&_}
 use Prim.Native.Nat.{ℕ, zero, suc, _+_, _-_, _<_, _≤_}
 use Rattle.image.specs.Row.{Row, range}
 use Rattle.image.specs.Equality.{rowEqual, rowsEqual}
-use Rattle.values.specs.Pairs.{rangeEqual}
-use Rattle.values.proofs.Steps.{Left, left-none, left-more, left-fails, left-done, left-jump, jump-fails, sameRow, by-rows}
+use Rattle.values.specs.Pairs.{sameRow, rangeEqual}
+use Rattle.values.proofs.Steps.{Left, left-none, left-more, left-fails, left-done, left-jump, jump-fails, by-rows}
 
 -- one row
 pub one-row : (g h : ℕ → Row) (i j : ℕ) → rangeEqual g h i j 1 ≡ sameRow g h i j

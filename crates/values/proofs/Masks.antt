@@ -16,9 +16,9 @@ use Rattle.image.specs.Row.{booleanRow}
 use Rattle.image.specs.Equality.{rowEqual}
 use Rattle.image.proofs.Ranges.{every-by}
 use Rattle.values.specs.Bits.{Leading}
-use Rattle.values.specs.Pairs.{all, rangeEqual, sameBit, sameMask}
+use Rattle.values.specs.Pairs.{all, sameRow, rangeEqual, sameBit, sameMask}
 use Rattle.values.specs.Parts.{Parts}
-use Rattle.values.proofs.Steps.{sameRow, by-rows, all-same, all-moved}
+use Rattle.values.proofs.Steps.{by-rows, all-same, all-moved}
 use Rattle.values.proofs.Leads.{leading-moved, leading-every}
 
 pub valid-none : (s : List ℕ) (k : ℕ) → hasBitmap s k ≡ false → (i : ℕ) → valid s k i ≡ true

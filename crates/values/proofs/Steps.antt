@@ -13,7 +13,7 @@ use Rattle.image.specs.Types.{sameBytes}
 use Rattle.image.specs.Row.{Row, range}
 use Rattle.image.specs.Equality.{rowEqual}
 use Rattle.image.proofs.Bools.{and-left}
-use Rattle.values.specs.Pairs.{all, rangeEqual, sameByte}
+use Rattle.values.specs.Pairs.{all, sameRow, rangeEqual, sameByte}
 
 -- the test of n pairs from i and j on is that of those from pair k on
 pub record Left (p : ℕ → ℕ → Bool) (i j n k : ℕ) : Type 0 where
@@ -127,9 +127,6 @@ module _ (p : ℕ → ℕ → Bool) (i j n : ℕ) where
       sym (rw (e, f) at (all-split p i j (n - w) w))
 
 -- a range of rows is equal where all its pairs are
-unfoldable pub sameRow : (ℕ → Row) → (ℕ → Row) → ℕ → ℕ → Bool
-sameRow g h i j = rowEqual (g i) (h j)
-
 pub by-rows : (g h : ℕ → Row) (i j n : ℕ) → all (sameRow g h) i j n ≡ rangeEqual g h i j n
 unfolding all range rowEqual sameRow
 by-rows g h i j zero = refl
