@@ -10,7 +10,6 @@ use borrow.Author.Tests.{eqb-false}
 use Rattle.image.specs.Record.{maxDepth}
 use Rattle.image.specs.Row.{rowAt, tableRows}
 use Rattle.image.specs.Equality.{rowsDiffer, rangesEqual, firstDifference}
-use Rattle.image.proofs.Bools.{and-right}
 use Rattle.values.specs.Pairs.{all, pairDiffers, firstUnequal, sameRow, rangeEqual}
 use Rattle.values.specs.Parts.{Sides}
 use Rattle.values.proofs.Steps.{Passed, all-split, all-snoc, by-rows}

@@ -6,8 +6,7 @@ use borrow.Author.Tests.{not-true, not-false}
 use Rattle.equal.proofs.Nulls.{sides-left, sides-right}
 use Rattle.values.proofs.Steps.{Passed, passed-none, passed-more}
 use Rattle.difference.proofs.Search.{sameRows, all-rows, rows-said, rows-nowhere, row-inside, row-found, sides-inside}
-use Prim.Native.Nat.{ℕ, _+_, _-_, _*_, _<_, _≤_}
-use lib.ListN.{length, getD}
+use Prim.Native.Nat.{_-_}
 use native.Mathlib.Omega.{arith}
 use Rattle.difference.proofs.first_difference.Statement.{statement}
 use Rattle.difference.proofs.first_difference.Tie as tie

@@ -4,8 +4,7 @@ use mathlib.Core.Path.{_∙_}
 use Prim.Native.Nat.{_-_}
 use Rattle.equal.proofs.Nulls.{sides-left, sides-right}
 use Rattle.difference.proofs.Search.{Between, between-up, between-down, between-none, sameRows, first-row, rows-said, rows-between, sides-inside}
-use Prim.Native.Nat.{ℕ, _+_, _-_, _*_, _<_, _≤_}
-use lib.ListN.{length, getD}
+use Prim.Native.Nat.{_-_}
 use native.Mathlib.Omega.{arith}
 use Rattle.difference.proofs.first_unequal_row.Statement.{statement}
 use Rattle.difference.proofs.first_unequal_row.Tie as tie
