@@ -14,7 +14,7 @@ use Rattle.values.proofs.Steps.{all-split, all-snoc, all-by, front-fail
 use Rattle.values.proofs.Blocks.{all-at}
 
 -- a test does not both pass and fail
-apart : (x : Bool) → x ≡ true → x ≡ false → ⊥
+pub apart : (x : Bool) → x ≡ true → x ≡ false → ⊥
 apart x e f =
     let z : _≡_ {A = ℕ} 0 1 = cc in
     omega arith
