@@ -5,15 +5,14 @@ use mathlib.Core.Bool.{Bool, true, false, _&&_}
 use mathlib.Core.List.{List}
 use Prim.Native.Nat.{ℕ, zero, suc, _+_, _-_, _<_, _≤_}
 use native.Mathlib.Omega.{arith}
-use lib.Dec.{eqb}
-use borrow.Author.Tests.{eqb-false}
 use Rattle.image.specs.Record.{maxDepth}
 use Rattle.image.specs.Row.{rowAt, tableRows}
 use Rattle.image.specs.Equality.{rowsDiffer, rangesEqual, firstDifference}
-use Rattle.values.specs.Pairs.{all, pairDiffers, firstUnequal, sameRow, rangeEqual}
+use Rattle.values.specs.Pairs.{all, pairDiffers, firstUnequal, sameRow, rangeEqual, sameMask}
 use Rattle.values.specs.Parts.{Sides}
 use Rattle.values.proofs.Steps.{Passed, all-split, all-snoc, by-rows}
-use Rattle.values.proofs.FirstUnequal.{apart, unequal-within, unequal-before, unequal-fails, unequal-is, unequal-none, unequal-whole}
+use Rattle.values.proofs.FirstUnequal.{apart, unequal-fails, unequal-is, unequal-some, unequal-end, unequal-among}
+use Rattle.equal.proofs.Nulls.{range-masks}
 
 -- the first `low` pairs pass, the first `high` do not all
 pub record Between (p : ℕ → ℕ → Bool) (i j n low high : ℕ) : Type 0 where
@@ -48,25 +47,6 @@ module _ (p : ℕ → ℕ → Bool) (i j : ℕ) where
         let f : all p i j low && p (i + low) (j + low) ≡ false = sym (all-snoc p i j low) ∙ (rw e at (b .fails)) in
         unequal-is p i j n low (omega (arith, b .below, b .within)) (b .passes) (λ lt. rw (b .passes) at f)
 
--- a block of m pairs after k that pass, not all of which pass: the first that fails is in it
-module _ (p : ℕ → ℕ → Bool) (i j n k m : ℕ) (le : m ≤ n - k) (r : Passed p i j n k) (fails : all p (i + k) (j + k) m ≡ false) where
-  inside : firstUnequal p (i + k) (j + k) m < m
-  inside = cases (eqb (firstUnequal p (i + k) (j + k) m) m) refl
-    where
-      cases : (x : Bool) → eqb (firstUnequal p (i + k) (j + k) m) m ≡ x → firstUnequal p (i + k) (j + k) m < m
-      cases true e = absurd (apart _ (sym (unequal-whole p (i + k) (j + k) m) ∙ e) fails)
-      cases false e =
-          let h = eqb-false (firstUnequal p (i + k) (j + k) m) m e in
-          omega (arith, h, unequal-within p (i + k) (j + k) m)
-
-  block-found : k + firstUnequal p (i + k) (j + k) m ≡ firstUnequal p i j n
-  block-found =
-      let f : ℕ = firstUnequal p (i + k) (j + k) m in
-      let x : i + (k + f) ≡ i + k + f = omega arith in
-      let y : j + (k + f) ≡ j + k + f = omega arith in
-      unequal-is p i j n (k + f) (omega (arith, inside, r .within)) (all-split p i j k f ∙ rw (r .passes) (unequal-before p (i + k) (j + k) m))
-      (λ lt. rw (x, y) (unequal-fails p (i + k) (j + k) m inside))
-
 -- the pairs are the rows of two tables
 abbrev pub sameRows : List ℕ → List ℕ → ℕ → ℕ → Bool
 sameRows a b = sameRow (rowAt maxDepth a 0) (rowAt maxDepth b 0)
@@ -98,17 +78,18 @@ module _ (a b : List ℕ) (i j n : ℕ) where
 
   -- all rows are equal
   pub rows-nowhere : (k : ℕ) → n ≤ k → Passed (sameRows a b) i j n k → n ≡ firstDifference a b i j n
-  rows-nowhere k le r =
-      let e : k ≡ n = omega (arith, r .within) in
-      unequal-none (sameRows a b) i j n (rw e at (r .passes)) ∙ first-row a b i j n
+  rows-nowhere k le kept = unequal-end (sameRows a b) i j n k kept le ∙ first-row a b i j n
 
   -- m rows after k that are equal are not, and r is the first of them that is not
   module _ {k m r : ℕ} (le : m ≤ n - k) (kept : Passed (sameRows a b) i j n k) (fails : all (sameRows a b) (i + k) (j + k) m ≡ false) (e : r ≡ firstDifference a b (i + k) (j + k) m) where
+    is-first : r ≡ firstUnequal (sameRows a b) (i + k) (j + k) m
+    is-first = e ∙ sym (first-row a b (i + k) (j + k) m)
+
     pub row-inside : r < m
-    row-inside = rw (e, ← first-row a b (i + k) (j + k) m) (inside (sameRows a b) i j n k m le kept fails)
+    row-inside = rw is-first (unequal-some (sameRows a b) (i + k) (j + k) m fails)
 
     pub row-found : k + r ≡ firstDifference a b i j n
-    row-found = rw (e, ← first-row a b (i + k) (j + k) m) (block-found (sameRows a b) i j n k m le kept fails ∙ first-row a b i j n)
+    row-found = unequal-among (sameRows a b) i j n k kept m le is-first row-inside ∙ first-row a b i j n
 
 -- rows inside a range
 pub sides-inside : {a b : List ℕ} {k l i j n d : ℕ} → Sides a b k l i j n d → (x m : ℕ) → x + m ≤ n → Sides a b k l (i + x) (j + x) m d
@@ -117,3 +98,18 @@ sides-inside r x m le = record {
   right = record { image = r .right .image; node = r .right .node; rows = omega (arith, r .right .rows) };
   alike = r .alike;
 }
+
+-- a row of which one side is null and the other is not is unequal
+pub nulls-between : {a b : List ℕ} {i j n r : ℕ} → Sides a b 0 0 i j n maxDepth → r ≡ firstUnequal (sameMask a 0 b 0) i j n → r < n
+    → Between (sameRows a b) i j n 0 (r + 1)
+nulls-between {a} {b} {i} {j} {n} {r} sides e lt =
+    let zi : i + 0 ≡ i = omega arith in
+    let zj : j + 0 ≡ j = omega arith in
+    let some : Sides a b 0 0 i j (r + 1) maxDepth = rw (zi, zj) at (sides-inside sides 0 (r + 1) (omega arith)) in
+    let here : sameMask a 0 b 0 (i + r) (j + r) ≡ false = rw e (unequal-fails (sameMask a 0 b 0) i j n (omega arith)) in
+    let masks : all (sameMask a 0 b 0) i j (r + 1) ≡ false = all-snoc (sameMask a 0 b 0) i j r ∙ rw here (and-false (all (sameMask a 0 b 0) i j r)) in
+    between-first (sameRows a b) i j n (omega arith) (omega arith) (by-rows (rowAt maxDepth a 0) (rowAt maxDepth b 0) i j (r + 1) ∙ sym (range-masks some (λ z. omega arith) masks))
+  where
+    and-false : (x : Bool) → x && false ≡ false
+    and-false true = refl
+    and-false false = refl
