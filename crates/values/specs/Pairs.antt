@@ -39,6 +39,10 @@ sameByte a b i j = eqb (byteAt a i) (byteAt b j)
 unfoldable pub bitOf : ℕ → ℕ → Bool
 bitOf v i = eqb (v / 2 ^ i % 2) 1
 
+-- bits i and j of two numbers
+unfoldable pub sameBitOf : ℕ → ℕ → ℕ → ℕ → Bool
+sameBitOf v w i j = Bool·beq (bitOf v i) (bitOf w j)
+
 -- elements i and j of those of w bytes that stand side by side from two places on are the same, or bit i of a number is 0
 unfoldable pub validSame : ℕ → List ℕ → List ℕ → ℕ → ℕ → ℕ → ℕ → ℕ → Bool
 validSame bits a b w x y i j = not (bitOf bits i) || all (sameByte a b) (x + i * w) (y + j * w) w
