@@ -19,14 +19,10 @@ pub extern "C" fn editions_compare_range(
 ) -> u64
     ensures { λ r. ⌜ r ≡ packed (comparedNumbers (compareRangeAnswer (now (left .entry)) (now (right .entry)) «left_start» «right_start» count)) ⌝ }
 {
-    let compared = compare_range(
-        left,
-        right,
-        left_start as usize,
-        right_start as usize,
-        count as usize,
-    );
-    pack(compared_numbers(compared))
+    let i = left_start as usize;
+    let j = right_start as usize;
+    let n = count as usize;
+    pack(compared_numbers(compare_range(left, right, i, j, n)))
 }
 
 // The first of these rows that is not equal.
@@ -40,12 +36,8 @@ pub extern "C" fn editions_first_difference(
 ) -> u64
     ensures { λ r. ⌜ r ≡ packed (differenceNumbers (differenceAnswer (now (left .entry)) (now (right .entry)) «left_start» «right_start» count)) ⌝ }
 {
-    let difference = first_difference(
-        left,
-        right,
-        left_start as usize,
-        right_start as usize,
-        count as usize,
-    );
-    pack(difference_numbers(difference))
+    let i = left_start as usize;
+    let j = right_start as usize;
+    let n = count as usize;
+    pack(difference_numbers(first_difference(left, right, i, j, n)))
 }

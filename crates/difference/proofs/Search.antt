@@ -29,7 +29,7 @@ module _ (p : ℕ → ℕ → Bool) (i j : ℕ) where
       (rw m at (all-split p i j low (middle - low))) ∙ rw e
 
   module _ (n : ℕ) where
-    pub between-first : {high : ℕ} → 0 < high → high ≤ n → all p i j high ≡ false → Between p i j n 0 high
+    between-first : {high : ℕ} → 0 < high → high ≤ n → all p i j high ≡ false → Between p i j n 0 high
     unfolding all
     between-first some le e = record { below = some; within = le; passes = refl; fails = e }
 

@@ -72,7 +72,7 @@ module _ (p : ℕ → ℕ → Bool) (i j n : ℕ) where
       omega (arith, h, unequal-within)
 
 -- after k pairs that pass it is the first of the others that fails
-pub unequal-later : (p : ℕ → ℕ → Bool) (i j n k : ℕ) → k ≤ n → all p i j k ≡ true → k + firstUnequal p (i + k) (j + k) (n - k) ≡ firstUnequal p i j n
+unequal-later : (p : ℕ → ℕ → Bool) (i j n k : ℕ) → k ≤ n → all p i j k ≡ true → k + firstUnequal p (i + k) (j + k) (n - k) ≡ firstUnequal p i j n
 unequal-later p i j n k le passes =
     let f : ℕ = firstUnequal p (i + k) (j + k) (n - k) in
     let high : f ≤ n - k = unequal-within p (i + k) (j + k) (n - k) in
