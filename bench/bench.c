@@ -504,37 +504,37 @@ static struct change change_to(struct image b, struct image c)
     return d;
 }
 
-/* Changes an image, and back the next time. */
+/* Changes an image, and back the next time. Without a change the image stays. */
 static void turn(struct image b, struct change *d)
 {
-    for (uint32_t i = 0; i < d->count; i++) {
+    for (uint32_t i = 0; d != NULL && i < d->count; i++) {
         uint8_t was = b.bytes[d->at[i]];
         b.bytes[d->at[i]] = d->bytes[i];
         d->bytes[i] = was;
     }
 }
 
-/* The search on a pair whose right image is changed, beside the comparison of the pair: the medians, taken in turn. */
+/* The search on a pair whose right image is changed, or stays, beside the comparison of the pair: the medians, taken in turn. */
 struct turns {
     double compare, search;
 };
 
-static struct turns in_turn(const char *name, struct image a, struct image b, struct change d, uint32_t rows)
+static struct turns in_turn(const char *name, struct image a, struct image b, struct change *d, uint32_t rows)
 {
     double compare[TIMES], search[TIMES];
     volatile uint64_t same = 0;
-    turn(b, &d);
-    hold(name, a, b, rows, d.count == 0);
-    turn(b, &d);
+    turn(b, d);
+    hold(name, a, b, rows, d == NULL);
+    turn(b, d);
     for (int i = 0; i < TIMES; i++) {
         double t0 = now();
         same += ask(editions_compare_range, a, b, rows);
         double t1 = now();
-        turn(b, &d);
+        turn(b, d);
         double t2 = now();
         same += ask(editions_first_difference, a, b, rows);
         double t3 = now();
-        turn(b, &d);
+        turn(b, d);
         compare[i] = t1 - t0;
         search[i] = t3 - t2;
     }
@@ -577,20 +577,20 @@ static void measure_search(const struct layout *l)
     masked.bitmap = 1;
     struct side turned = masked;
     turned.turned = rows - 1;
-    struct turns none = in_turn(l->name, a, b, change_to(b, l->lay(y)), rows);
-    struct turns value = in_turn(l->name, a, b, change_to(b, l->lay(last)), rows);
+    struct change to_last = change_to(b, l->lay(last)), to_first = change_to(b, l->lay(first));
+    struct turns none = in_turn(l->name, a, b, NULL, rows), value = in_turn(l->name, a, b, &to_last, rows);
     printf("| %s | %s | %.0f | %.0f | %.2f | %.0f | %.2f |", l->name, l->otherwise, none.compare / 1000, none.search / 1000,
            none.search / none.compare, value.search / 1000, value.search / value.compare);
     struct image c = l->lay(masked);
     /* a union's and a run's rows are never null */
     if (c.bytes[image_record(0) + RECORD_FLAGS] & FLAG_BITMAP) {
-        struct turns nullness = in_turn(l->name, a, c, change_to(c, l->lay(turned)), rows);
+        struct change to_turned = change_to(c, l->lay(turned));
+        struct turns nullness = in_turn(l->name, a, c, &to_turned, rows);
         printf(" %.0f | %.2f |", nullness.search / 1000, nullness.search / nullness.compare);
     } else {
         printf(" - | - |");
     }
-    struct change zero = change_to(b, l->lay(first));
-    turn(b, &zero);
+    turn(b, &to_first);
     search_alone(l->name, a, b, rows);
     free(a.bytes);
     free(b.bytes);
