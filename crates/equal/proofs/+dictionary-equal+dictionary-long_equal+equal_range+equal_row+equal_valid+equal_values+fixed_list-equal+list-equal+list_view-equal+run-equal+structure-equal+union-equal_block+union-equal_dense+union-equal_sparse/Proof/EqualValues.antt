@@ -9,7 +9,7 @@ use Rattle.image.specs.declared.type_code.Layout.the-variants.{Null, Boolean, F
 use Rattle.image.proofs.CodeTable.{at-layouts}
 use Rattle.accepted.proofs.Nodes.{layout-is}
 use Rattle.equal.proofs.Values.{parts-shallow, by-layout, null-values}
-use Rattle.equal.proofs.+dictionary-equal+dictionary-long_equal+equal_range+equal_row+equal_valid+equal_values+fixed_list-equal+list-equal+list_view-equal+run-equal+structure-equal+union-equal_dense+union-equal_sparse.Proof.Measures.{equal-values-at, dictionary·equal-below, fixed-list·equal-below, list-view·equal-below, list·equal-below, run·equal-below, structure·equal-below, union·equal-dense-below, union·equal-sparse-below}
+use Rattle.equal.proofs.+dictionary-equal+dictionary-long_equal+equal_range+equal_row+equal_valid+equal_values+fixed_list-equal+list-equal+list_view-equal+run-equal+structure-equal+union-equal_block+union-equal_dense+union-equal_sparse.Proof.Measures.{equal-values-at, dictionary·equal-below, fixed-list·equal-below, list-view·equal-below, list·equal-below, run·equal-below, structure·equal-below, union·equal-dense-below, union·equal-sparse-below}
 use Rattle.equal.proofs.dictionary.equal.Reads as dictionary·equal
 use Rattle.equal.proofs.equal_values.Reads as equal-values
 use Rattle.equal.proofs.fixed_list.equal.Reads as fixed-list·equal
@@ -26,7 +26,7 @@ use Rattle.values.proofs.byte_view.byte_view_equal.Reads as byte-view-equal-rea
 use Rattle.values.proofs.null.null_equal.Reads as null-equal-reads
 use Rattle.values.proofs.primitive.primitive_equal.Reads as primitive-equal-reads
 use Rattle.values.proofs.variable_size.variable_sized_equal.Reads as variable-sized-equal-reads
-use Rattle.equal.proofs.+dictionary-equal+dictionary-long_equal+equal_range+equal_row+equal_valid+equal_values+fixed_list-equal+list-equal+list_view-equal+run-equal+structure-equal+union-equal_dense+union-equal_sparse.Lts-equal_values as lts
+use Rattle.equal.proofs.+dictionary-equal+dictionary-long_equal+equal_range+equal_row+equal_valid+equal_values+fixed_list-equal+list-equal+list_view-equal+run-equal+structure-equal+union-equal_block+union-equal_dense+union-equal_sparse.Lts-equal_values as lts
 
 abbrev calls : ℕ → lts.Claims
 calls t = (code-reads.Asked, code-reads.Learnt, layout-reads.Asked, layout-reads.Learnt, null-equal-reads.Asked, null-equal-reads.Learnt, boolean-equal-reads.Asked, boolean-equal-reads.Learnt, primitive-equal-reads.Asked, primitive-equal-reads.Learnt, variable-sized-equal-reads.Asked, variable-sized-equal-reads.Learnt, byte-view-equal-reads.Asked, byte-view-equal-reads.Learnt, list·equal-below t, list·equal.Post, list-view·equal-below t, list-view·equal.Post, fixed-list·equal-below t, fixed-list·equal.Post, structure·equal-below t, structure·equal.Post, union·equal-dense-below t, union·equal-dense.Post, union·equal-sparse-below t, union·equal-sparse.Post, dictionary·equal-below t, dictionary·equal.Post, run·equal-below t, run·equal.Post)

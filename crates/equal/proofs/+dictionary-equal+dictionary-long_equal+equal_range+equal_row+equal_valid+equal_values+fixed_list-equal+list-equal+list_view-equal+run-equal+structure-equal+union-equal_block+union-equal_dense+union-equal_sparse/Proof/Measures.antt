@@ -1,5 +1,5 @@
--- The measures of the cycle, six for each depth.
--- Rows with nulls ask for values, values for the rule of their layout, dictionaries for that of long ranges, a rule for single rows, and those for ranges, all at one depth; a range asks for the others one depth less.
+-- The measures of the cycle, seven for each depth.
+-- Rows with nulls ask for values, values for the rule of their layout, dictionaries for that of long ranges, sparse unions for that of a block, a rule for single rows, and those for ranges, all at one depth; a range asks for the others one depth less.
 use Prim.Native.Nat.{ℕ, _+_, _*_, _<_}
 use borrow.Fn.Kinds.{In}
 use borrow.Fn.PlainCycle.{Measures, is, falls, and}
@@ -25,49 +25,54 @@ use Rattle.equal.proofs.run.equal.Reads as run·equal
 use Rattle.equal.proofs.run.equal.Kinds as run·equal-kinds
 use Rattle.equal.proofs.structure.equal.Reads as structure·equal
 use Rattle.equal.proofs.structure.equal.Kinds as structure·equal-kinds
+use Rattle.equal.proofs.union.equal_block.Reads as union·equal-block
+use Rattle.equal.proofs.union.equal_block.Kinds as union·equal-block-kinds
 use Rattle.equal.proofs.union.equal_dense.Reads as union·equal-dense
 use Rattle.equal.proofs.union.equal_dense.Kinds as union·equal-dense-kinds
 use Rattle.equal.proofs.union.equal_sparse.Reads as union·equal-sparse
 use Rattle.equal.proofs.union.equal_sparse.Kinds as union·equal-sparse-kinds
 
 abbrev pub μ-dictionary·equal : Measures 2 dictionary·equal-kinds.ps ℕ
-μ-dictionary·equal κs a = 6 * a .1 .1 .1 .1 .1 .1 .1 .0 + 3
+μ-dictionary·equal κs a = 7 * a .1 .1 .1 .1 .1 .1 .1 .0 + 3
 
 abbrev pub μ-dictionary·long-equal : Measures 2 dictionary·long-equal-kinds.ps ℕ
-μ-dictionary·long-equal κs a = 6 * a .1 .1 .1 .1 .1 .1 .1 .0 + 2
+μ-dictionary·long-equal κs a = 7 * a .1 .1 .1 .1 .1 .1 .1 .0 + 2
 
 abbrev pub μ-equal-range : Measures 2 equal-range-kinds.ps ℕ
-μ-equal-range κs a = 6 * a .1 .1 .1 .1 .1 .1 .1 .0
+μ-equal-range κs a = 7 * a .1 .1 .1 .1 .1 .1 .1 .0
 
 abbrev pub μ-equal-row : Measures 2 equal-row-kinds.ps ℕ
-μ-equal-row κs a = 6 * a .1 .1 .1 .1 .1 .1 .1 .0 + 1
+μ-equal-row κs a = 7 * a .1 .1 .1 .1 .1 .1 .1 .0 + 1
 
 abbrev pub μ-equal-valid : Measures 2 equal-valid-kinds.ps ℕ
-μ-equal-valid κs a = 6 * a .1 .1 .1 .1 .1 .1 .1 .0 + 5
+μ-equal-valid κs a = 7 * a .1 .1 .1 .1 .1 .1 .1 .0 + 6
 
 abbrev pub μ-equal-values : Measures 2 equal-values-kinds.ps ℕ
-μ-equal-values κs a = 6 * a .1 .1 .1 .1 .1 .1 .1 .0 + 4
+μ-equal-values κs a = 7 * a .1 .1 .1 .1 .1 .1 .1 .0 + 5
 
 abbrev pub μ-fixed-list·equal : Measures 2 fixed-list·equal-kinds.ps ℕ
-μ-fixed-list·equal κs a = 6 * a .1 .1 .1 .1 .1 .1 .1 .0 + 2
+μ-fixed-list·equal κs a = 7 * a .1 .1 .1 .1 .1 .1 .1 .0 + 2
 
 abbrev pub μ-list·equal : Measures 2 list·equal-kinds.ps ℕ
-μ-list·equal κs a = 6 * a .1 .1 .1 .1 .1 .1 .1 .0 + 2
+μ-list·equal κs a = 7 * a .1 .1 .1 .1 .1 .1 .1 .0 + 2
 
 abbrev pub μ-list-view·equal : Measures 2 list-view·equal-kinds.ps ℕ
-μ-list-view·equal κs a = 6 * a .1 .1 .1 .1 .1 .1 .1 .0 + 2
+μ-list-view·equal κs a = 7 * a .1 .1 .1 .1 .1 .1 .1 .0 + 2
 
 abbrev pub μ-run·equal : Measures 2 run·equal-kinds.ps ℕ
-μ-run·equal κs a = 6 * a .1 .1 .1 .1 .1 .1 .1 .0 + 2
+μ-run·equal κs a = 7 * a .1 .1 .1 .1 .1 .1 .1 .0 + 2
 
 abbrev pub μ-structure·equal : Measures 2 structure·equal-kinds.ps ℕ
-μ-structure·equal κs a = 6 * a .1 .1 .1 .1 .1 .1 .1 .0 + 2
+μ-structure·equal κs a = 7 * a .1 .1 .1 .1 .1 .1 .1 .0 + 2
+
+abbrev pub μ-union·equal-block : Measures 2 union·equal-block-kinds.ps ℕ
+μ-union·equal-block κs a = 7 * a .1 .1 .1 .1 .1 .1 .1 .0 + 3
 
 abbrev pub μ-union·equal-dense : Measures 2 union·equal-dense-kinds.ps ℕ
-μ-union·equal-dense κs a = 6 * a .1 .1 .1 .1 .1 .1 .1 .0 + 2
+μ-union·equal-dense κs a = 7 * a .1 .1 .1 .1 .1 .1 .1 .0 + 2
 
 abbrev pub μ-union·equal-sparse : Measures 2 union·equal-sparse-kinds.ps ℕ
-μ-union·equal-sparse κs a = 6 * a .1 .1 .1 .1 .1 .1 .1 .0 + 3
+μ-union·equal-sparse κs a = 7 * a .1 .1 .1 .1 .1 .1 .1 .0 + 4
 
 abbrev pub dictionary·equal-at : ℕ → In 2 dictionary·equal-kinds.ps
 dictionary·equal-at t = and 2 dictionary·equal-kinds.ps (is 2 dictionary·equal-kinds.ps μ-dictionary·equal t) dictionary·equal.Pre
@@ -134,6 +139,12 @@ structure·equal-at t = and 2 structure·equal-kinds.ps (is 2 structure·equal-k
 
 abbrev pub structure·equal-below : ℕ → In 2 structure·equal-kinds.ps
 structure·equal-below t = and 2 structure·equal-kinds.ps (falls 2 structure·equal-kinds.ps _<_ μ-structure·equal t) structure·equal.Pre
+
+abbrev pub union·equal-block-at : ℕ → In 2 union·equal-block-kinds.ps
+union·equal-block-at t = and 2 union·equal-block-kinds.ps (is 2 union·equal-block-kinds.ps μ-union·equal-block t) union·equal-block.Pre
+
+abbrev pub union·equal-block-below : ℕ → In 2 union·equal-block-kinds.ps
+union·equal-block-below t = and 2 union·equal-block-kinds.ps (falls 2 union·equal-block-kinds.ps _<_ μ-union·equal-block t) union·equal-block.Pre
 
 abbrev pub union·equal-dense-at : ℕ → In 2 union·equal-dense-kinds.ps
 union·equal-dense-at t = and 2 union·equal-dense-kinds.ps (is 2 union·equal-dense-kinds.ps μ-union·equal-dense t) union·equal-dense.Pre

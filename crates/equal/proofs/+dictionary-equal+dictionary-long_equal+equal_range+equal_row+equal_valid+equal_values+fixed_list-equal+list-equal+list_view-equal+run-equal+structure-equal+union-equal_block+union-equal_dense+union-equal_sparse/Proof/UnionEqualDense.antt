@@ -9,7 +9,7 @@ use Rattle.image.specs.Row.{denseRow, rowAt}
 use Rattle.accepted.proofs.Nodes.{id-read, dense-offset-read, part-small, part-nth}
 use Rattle.equal.proofs.Rows.{RowsLeft, rows-none, rows-more, rows-fail, rows-done}
 use Rattle.equal.proofs.Unions.{dense-differs, dense-low, dense-requires, dense-answer}
-use Rattle.equal.proofs.+dictionary-equal+dictionary-long_equal+equal_range+equal_row+equal_valid+equal_values+fixed_list-equal+list-equal+list_view-equal+run-equal+structure-equal+union-equal_dense+union-equal_sparse.Proof.Measures.{union·equal-dense-at, equal-range-below}
+use Rattle.equal.proofs.+dictionary-equal+dictionary-long_equal+equal_range+equal_row+equal_valid+equal_values+fixed_list-equal+list-equal+list_view-equal+run-equal+structure-equal+union-equal_block+union-equal_dense+union-equal_sparse.Proof.Measures.{union·equal-dense-at, equal-range-below}
 use Rattle.equal.proofs.equal_range.Reads as equal-range
 use Rattle.equal.proofs.union.equal_dense.Reads as union·equal-dense
 use Rattle.image.proofs.bytes.byte.Reads as byte-reads
@@ -17,7 +17,7 @@ use Rattle.image.proofs.bytes.nth.Reads as nth-reads
 use Rattle.image.proofs.element.child_with_id.Reads as child-with-id-reads
 use Rattle.image.proofs.record.buffer_place.Reads as buffer-place-reads
 use Rattle.image.proofs.record.first_child.Reads as first-child-reads
-use Rattle.equal.proofs.+dictionary-equal+dictionary-long_equal+equal_range+equal_row+equal_valid+equal_values+fixed_list-equal+list-equal+list_view-equal+run-equal+structure-equal+union-equal_dense+union-equal_sparse.Lts-union-equal_dense as lts
+use Rattle.equal.proofs.+dictionary-equal+dictionary-long_equal+equal_range+equal_row+equal_valid+equal_values+fixed_list-equal+list-equal+list_view-equal+run-equal+structure-equal+union-equal_block+union-equal_dense+union-equal_sparse.Lts-union-equal_dense as lts
 
 abbrev calls : ℕ → lts.Claims
 calls t = (buffer-place-reads.Asked, buffer-place-reads.Learnt, first-child-reads.Asked, first-child-reads.Learnt, byte-reads.Asked, byte-reads.Learnt, child-with-id-reads.Asked, child-with-id-reads.Learnt, nth-reads.Asked, nth-reads.Learnt, equal-range-below t, equal-range.Post)
