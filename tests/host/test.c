@@ -9,7 +9,7 @@
 #define MOST 65536u
 
 /* The type codes that are laid out here. */
-enum { NULLS = 0, BOOLEAN = 1, INT8 = 2, INT32 = 4, INT64 = 5, FIXED_SIZE_BINARY = 30, LIST_VIEW = 35, RUN_END_ENCODED = 43 };
+enum { NULLS = 0, BOOLEAN = 1, INT8 = 2, INT32 = 4, INT64 = 5, FIXED_SIZE_BINARY = 30, LIST_VIEW = 35, SPARSE_UNION = 40, RUN_END_ENCODED = 43 };
 
 static unsigned long failures, calls;
 
@@ -409,6 +409,56 @@ static void places(void)
         }
 }
 
+/* A sparse union of two Int8 columns, of more rows than two blocks that the library compares at once. Its ids, and the values
+ * of each child, stand one after the other; a row of the child that the id does not name has the value `unnamed`. Returns the
+ * place of the ids. */
+enum { UNION_BLOCK = 4096, UNION_ROWS = 2 * UNION_BLOCK + 700, UNION_LENGTH = IMAGE_TABLES(3, 3) + 3 * UNION_ROWS };
+
+static uint32_t union_image(uint8_t *bytes, uint8_t unnamed)
+{
+    struct image m = image_in(bytes, UNION_LENGTH, 3, 3);
+    image_node(&m, SPARSE_UNION, 0, UNION_ROWS, 2, 1);
+    uint32_t ids = image_buffer(&m, UNION_ROWS);
+    for (uint32_t k = 0; k < UNION_ROWS; k++)
+        bytes[ids + k] = (uint8_t)(k * 2654435761u >> 31);
+    for (uint32_t c = 0; c < 2; c++) {
+        uint32_t child = image_node(&m, INT8, 0, UNION_ROWS, 0, 1), values = image_buffer(&m, UNION_ROWS);
+        bytes[child + RECORD_TYPE_ID] = (uint8_t)c;
+        for (uint32_t k = 0; k < UNION_ROWS; k++)
+            bytes[values + k] = bytes[ids + k] == c ? (uint8_t)(k * 31 + (k >> 8)) : unnamed;
+    }
+    return ids;
+}
+
+/* A row that differs, at the ends of the blocks and at some places inside: the row that the id names, the other child's row,
+ * the id. The rows that no id names are the same on both sides, and then others. */
+static void unions(void)
+{
+    for (uint8_t unnamed = 1; unnamed < 3; unnamed++) {
+        uint8_t *left = lent_bytes(memory[0], UNION_LENGTH, 1), *right = lent_bytes(memory[1], UNION_LENGTH, 1);
+        uint32_t ids = union_image(left, 1);
+        union_image(right, unnamed);
+        const struct two t = {left, right, UNION_LENGTH, UNION_LENGTH};
+        expect_value("unions", 0, &t, 0, UNION_ROWS, 0);
+        for (uint32_t k = 0; k < UNION_ROWS; k++) {
+            if (k % 43 != 0 && (k + 2) % UNION_BLOCK > 3 && k + 3 < UNION_ROWS)
+                continue;
+            uint8_t *id = right + ids + k, *named = id + (1 + *id) * UNION_ROWS, *other = id + (2 - *id) * UNION_ROWS;
+            *named ^= 128;
+            expect_value("the unions with row", k, &t, 0, UNION_ROWS, k + 1);
+            expect_value("the unions before row", k, &t, 0, k, 0);
+            expect_value("the unions from row", k, &t, k, UNION_ROWS - k, 1);
+            *named ^= 128;
+            *other ^= 128;
+            expect_value("a row that no id names, of the unions", k, &t, 0, UNION_ROWS, 0);
+            *other ^= 128;
+            *id ^= 1;
+            expect_value("the unions with the id of row", k, &t, 0, UNION_ROWS, k + 1);
+            *id ^= 1;
+        }
+    }
+}
+
 /* Every number has a sentence of its own; all those that no call answers share one. */
 static void texts(void)
 {
@@ -444,6 +494,7 @@ int main(int argc, char **argv)
     nested_views();
     most_rows();
     places();
+    unions();
     texts();
     printf("host: %lu calls, %lu failed\n", calls, failures);
     return failures != 0;
