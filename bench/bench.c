@@ -1,11 +1,19 @@
-/* Times the comparison of tables of about a million values, in one process, beside the Rust.
+/* Times the comparison of tables of about a million values, in one process, beside the Rust; then the search for the first
+ * unequal row.
  *
  * For each layout there are two pairs of images with equal rows: one whose two sides are laid out alike, and one whose
  * right side is laid out otherwise, as the line says. `editions_compare` checks both images and compares all rows;
  * `editions_check` is the check of the right image alone; the Rust is `equal` of arrow-data on the same buffers, loaded
  * before and checked by nobody; memcmp is of the left image and a copy of it: what reading two images takes. Each figure is
- * the median of 31 calls, the four taken in turn. Without -DRUST the Rust is left out. */
-#include "../host/editions.h"
+ * the median of 31 calls, the four taken in turn. Without -DRUST the Rust is left out.
+ *
+ * The second table has the layouts whose right side is laid out otherwise, over all rows: `editions_compare_range` on the
+ * pair with equal rows; `editions_first_difference` on that pair, and where the last row that is not null has another value,
+ * where the last row is null on one side alone, and where row 0 has another value. Each ratio is to the comparison of equal
+ * rows, of medians of 31, the two calls taken in turn on the same memory; for the row that is null on one side alone the equal
+ * rows have a bitmap too. Where row 0 differs, the figures are the least of 301: the call, `editions_check` of both images, the
+ * call on no rows, which checks both images and compares their types, and the first less the last, which is the search. */
+#include "../host/editions_calls.h"
 #include "../tests/image.h"
 
 #include <stdio.h>
@@ -25,20 +33,35 @@ static void rust_free(void *array) { (void)array; }
 /* what a comparison that says yes answers */
 #define YES ((uint64_t)1 << 8)
 
-enum { ROWS = 1000000, TIMES = 31 };
+enum { ROWS = 1000000, TIMES = 31, SHORT_TIMES = 301 };
+
+/* no row */
+#define NONE UINT32_MAX
 
 /* How one side is laid out: elements before the first row; whether every tenth row is null; whether it is laid out
- * otherwise where the layout leaves a choice (bytes under nulls, order of keys and of what is stored, cuts of runs). */
+ * otherwise where the layout leaves a choice (bytes under nulls, order of keys and of what is stored, cuts of runs); whether
+ * it has a bitmap, as where rows are null; a row that has another value, or none; a row that the bitmap has null where it would
+ * not be, or the other way round, or none. */
 struct side {
     uint32_t before;
-    int nulls, other;
+    int nulls, other, bitmap;
+    uint32_t changed, turned;
 };
 
-static const struct side PLAIN = {0, 0, 0}, OTHER = {3, 0, 1}, NULLS = {0, 1, 0}, OTHER_NULLS = {3, 1, 1};
+static const struct side PLAIN = {0, 0, 0, 0, NONE, NONE};
+
+static struct side side(int nulls, int other)
+{
+    struct side x = {other ? 3 : 0, nulls, other, nulls, NONE, NONE};
+    return x;
+}
 
 static uint64_t mix(uint64_t i) { return (i + 1) * 0x9e3779b97f4a7c15u; }
 
 static int is_null(struct side x, uint32_t i) { return x.nulls && i % 10 == 9; }
+
+/* The value of a row: this one, or another. */
+static uint64_t value(struct side x, uint32_t row, uint64_t v) { return row == x.changed ? ~v : v; }
 
 static struct image begin(uint32_t nodes, uint32_t buffers) { return image_begin(nodes, buffers, IMAGE_LONGEST); }
 
@@ -47,11 +70,11 @@ static uint64_t unread(struct side x, uint32_t i) { return x.other ? ~mix(i) : m
 
 static void nulls(struct image *m, uint32_t record, struct side x, uint32_t rows)
 {
-    if (!x.nulls)
+    if (!x.bitmap)
         return;
     uint32_t first = x.other ? 5 : 0, at = image_bitmap(m, record, rows, first);
     for (uint32_t i = 0; i < rows; i++)
-        if (!is_null(x, i))
+        if (is_null(x, i) == (i == x.turned))
             image_set(m, at, first + i);
 }
 
@@ -62,7 +85,7 @@ static void elements(struct image *m, uint32_t record, struct side x, uint32_t w
     image_put(m, record + RECORD_OFFSET, x.before, 4);
     for (uint32_t i = 0; i < x.before + rows; i++) {
         uint32_t row = i - x.before;
-        uint64_t v = i < x.before || is_null(x, row) ? unread(x, i + seed) : mix(row + seed);
+        uint64_t v = i < x.before || is_null(x, row) ? unread(x, i + seed) : value(x, row, mix(row + seed));
         for (uint32_t k = 0; k < width; k += 8, v = mix(v))
             image_put(m, at + width * i + k, v, width - k < 8 ? (int)(width - k) : 8);
     }
@@ -89,7 +112,7 @@ static struct image booleans(struct side x)
     struct image m = begin(1, 1);
     uint32_t offset = x.other ? 5 : 3, r = image_node(&m, 1, 0, ROWS, 0, 1), b = image_buffer(&m, (offset + ROWS + 7) / 8);
     for (uint32_t i = 0; i < ROWS; i++)
-        if ((is_null(x, i) ? unread(x, i) : mix(i)) >> 40 & 1)
+        if ((is_null(x, i) ? unread(x, i) : value(x, i, mix(i))) >> 40 & 1)
             image_set(&m, b, offset + i);
     image_put(&m, r + RECORD_OFFSET, offset, 4);
     nulls(&m, r, x, ROWS);
@@ -97,7 +120,7 @@ static struct image booleans(struct side x)
 }
 
 /* Texts of 4 to 11 bytes, beginning with the one of that number, the offsets of so many bytes each; before the first row
- * and under nulls other texts, and other lengths, on the other side. */
+ * and under nulls other texts, and other lengths, on the other side. A row that is changed has another text as long. */
 static void texts(struct image *m, uint32_t record, struct side x, uint32_t width, uint32_t rows, uint32_t first)
 {
     uint32_t all = x.before + rows, offsets = image_buffer(m, width * (all + 1)), size = 0, at = 0;
@@ -107,14 +130,14 @@ static void texts(struct image *m, uint32_t record, struct side x, uint32_t widt
         for (uint32_t i = 0; i < all; i++) {
             uint32_t row = i - x.before;
             uint64_t v = i < x.before || is_null(x, row) ? unread(x, i) : mix((first + row) % rows);
-            uint32_t len = 4 + (uint32_t)(v % 8);
+            uint32_t len = 4 + (uint32_t)(v % 8), turn = i >= x.before && row == x.changed;
             if (!write) {
                 image_put(m, offsets + width * i, size, (int)width);
                 size += len;
                 continue;
             }
             for (uint32_t k = 0; k < len; k++)
-                m->bytes[text + at + k] = (uint8_t)('a' + (v >> (8 + 3 * k)) % 26);
+                m->bytes[text + at + k] = (uint8_t)('a' + ((v >> (8 + 3 * k)) + turn) % 26);
             at += len;
         }
     }
@@ -147,11 +170,11 @@ static struct image views(struct side x)
     for (uint32_t i = 0; i < 20 * 1000; i++)
         m.bytes[pool + i] = (uint8_t)('a' + mix(i) % 26);
     for (uint32_t i = 0; i < rows; i++) {
-        uint64_t value = is_null(x, i) ? unread(x, i) : mix(i);
-        uint32_t at = v + 16 * (x.before + i), offset = 20 * (uint32_t)(value % 1000);
+        uint64_t text = is_null(x, i) ? unread(x, i) : value(x, i, mix(i));
+        uint32_t at = v + 16 * (x.before + i), offset = 20 * (uint32_t)(text % 1000);
         image_put(&m, at, i % 2 ? 20 : 4, 4);
         for (int k = 0; k < 4; k++)
-            m.bytes[at + 4 + k] = i % 2 ? m.bytes[pool + offset + k] : (uint8_t)('a' + (value >> (8 * k)) % 26);
+            m.bytes[at + 4 + k] = i % 2 ? m.bytes[pool + offset + k] : (uint8_t)('a' + (text >> (8 * k)) % 26);
         if (i % 2) {
             image_put(&m, at + 8, x.other ? 1 : 0, 4);
             image_put(&m, at + 12, start + offset, 4);
@@ -169,8 +192,8 @@ static struct image dictionaries(uint32_t values, struct side x)
     uint32_t c = image_node(&m, 26, 0, values, 0, 2);
     image_put(&m, r + RECORD_OFFSET, x.before, 4);
     for (uint32_t i = 0; i < ROWS; i++) {
-        uint32_t value = (uint32_t)((is_null(x, i) ? unread(x, i) : mix(i)) % values);
-        image_put(&m, k + 4 * (x.before + i), x.other ? (value + 7) % values : value, 4);
+        uint32_t key = (uint32_t)((is_null(x, i) ? unread(x, i) : value(x, i, mix(i))) % values);
+        image_put(&m, k + 4 * (x.before + i), x.other ? (key + 7) % values : key, 4);
     }
     texts(&m, c, PLAIN, 4, values, x.other ? values - 7 : 0);
     nulls(&m, r, x, ROWS);
@@ -199,7 +222,7 @@ static struct image lists(struct side x)
     for (uint32_t i = 0; i < rows; i++) {
         uint32_t count = is_null(x, i) && x.other ? 6 : 4;
         for (uint32_t k = 0; k < count; k++, put++)
-            image_put(&m, v + 4 * put, is_null(x, i) ? unread(x, put) : mix(4 * i + k), 4);
+            image_put(&m, v + 4 * put, is_null(x, i) ? unread(x, put) : value(x, i, mix(4 * i + k)), 4);
     }
     nulls(&m, r, x, rows);
     return m;
@@ -219,7 +242,7 @@ static struct image list_views(struct side x)
         image_put(&m, o + 4 * (x.before + i), at, 4);
         image_put(&m, s + 4 * (x.before + i), 4, 4);
         for (uint32_t k = 0; k < 4; k++)
-            image_put(&m, v + 4 * (at + k), is_null(x, i) ? unread(x, at + k) : mix(4 * i + k), 4);
+            image_put(&m, v + 4 * (at + k), is_null(x, i) ? unread(x, at + k) : value(x, i, mix(4 * i + k)), 4);
     }
     nulls(&m, r, x, rows);
     return m;
@@ -236,12 +259,14 @@ static struct image fixed_lists(struct side x)
     image_put(&m, c + RECORD_OFFSET, shift, 4);
     for (uint32_t i = 0; i < rows; i++)
         for (uint32_t k = 0; k < 4; k++)
-            image_put(&m, v + 4 * (shift + 4 * (x.before + i) + k), is_null(x, i) ? unread(x, i) : mix(4 * i + k), 4);
+            image_put(&m, v + 4 * (shift + 4 * (x.before + i) + k),
+                      is_null(x, i) ? unread(x, i) : value(x, i, mix(4 * i + k)), 4);
     nulls(&m, r, x, rows);
     return m;
 }
 
-/* An Int32, an Int64 and an Int16 in each Struct; the children of a sliced Struct have the rows before its first too. */
+/* An Int32, an Int64 and an Int16 in each Struct; the children of a sliced Struct have the rows before its first too. A row
+ * that is changed has another Int64. */
 static struct image structs(struct side x)
 {
     struct image m = begin(4, 3);
@@ -251,24 +276,25 @@ static struct image structs(struct side x)
     for (uint32_t c = 0; c < 3; c++) {
         image_node(&m, codes[c], 0, x.before + rows, 0, 1);
         uint32_t b = image_buffer(&m, widths[c] * (x.before + rows));
-        for (uint32_t i = 0; i < rows; i++)
-            image_put(&m, b + widths[c] * (x.before + i), is_null(x, i) ? unread(x, i) : mix(i + c), (int)widths[c]);
+        for (uint32_t i = 0; i < rows; i++) {
+            uint64_t v = is_null(x, i) ? unread(x, i) : mix(i + c);
+            image_put(&m, b + widths[c] * (x.before + i), c == 1 ? value(x, i, v) : v, (int)widths[c]);
+        }
     }
     nulls(&m, r, x, rows);
     return m;
 }
 
-/* Two texts in each Struct; on the other side both children are sliced. */
+/* Two texts in each Struct; on the other side both children are sliced. A row that is changed has another second text. */
 static struct image pairs_of_texts(struct side x)
 {
     struct image m = begin(3, 4);
-    uint32_t rows = ROWS / 2;
-    image_node(&m, 38, 0, rows, 2, 0);
+    uint32_t rows = ROWS / 2, r = image_node(&m, 38, 0, rows, 2, 0);
     for (uint32_t c = 0; c < 2; c++) {
-        struct side child = {x.before, 0, x.other};
-        uint32_t r = image_node(&m, 26, 0, rows, 0, 2);
-        texts(&m, r, child, 4, rows, c);
+        struct side child = {x.before, 0, x.other, 0, c == 1 ? x.changed : NONE, NONE};
+        texts(&m, image_node(&m, 26, 0, rows, 0, 2), child, 4, rows, c);
     }
+    nulls(&m, r, x, rows);
     return m;
 }
 
@@ -298,7 +324,8 @@ static struct image unions(int dense, int unnamed, struct side x)
                 image_put(&m, offsets + 4 * (x.before + i), row, 4);
                 at++;
             }
-            image_put(&m, b + widths[c] * row, named || !unnamed ? mix(i + c) : unread(x, i + c), (int)widths[c]);
+            uint64_t v = named || !unnamed ? mix(i + c) : unread(x, i + c);
+            image_put(&m, b + widths[c] * row, named ? value(x, i, v) : v, (int)widths[c]);
         }
     }
     for (uint32_t i = 0; i < rows; i++)
@@ -310,7 +337,8 @@ static struct image dense_unions(struct side x) { return unions(1, 0, x); }
 static struct image sparse_unions(struct side x) { return unions(0, 0, x); }
 static struct image other_sparse_unions(struct side x) { return unions(0, 1, x); }
 
-/* A million rows whose values change every 10; runs of 10, on the other side of 5. */
+/* A million rows whose values change every 10; runs of 10, on the other side of 5. A row that is changed is changed with its
+ * run. */
 static struct image runs(struct side x)
 {
     struct image m = begin(3, 2);
@@ -322,7 +350,8 @@ static struct image runs(struct side x)
     uint32_t v = image_buffer(&m, 8 * count);
     for (uint32_t i = 0; i < count; i++) {
         image_put(&m, e + 4 * i, length * (i + 1), 4);
-        image_put(&m, v + 8 * i, mix(length * i / 10), 8);
+        uint64_t of = mix(length * i / 10);
+        image_put(&m, v + 8 * i, x.changed != NONE && x.changed / length == i ? ~of : of, 8);
     }
     return m;
 }
@@ -388,47 +417,198 @@ static void measure(const char *name, const char *laid, struct image a, struct i
     free(b.bytes);
 }
 
-/* One layout, laid out alike and otherwise. */
-static void both(const char *name, const char *otherwise, struct image (*lay)(struct side), struct side x, struct side y)
+/* What is measured: a layout, how the right side is laid out otherwise, and whether every tenth row is null. */
+static const struct layout {
+    const char *name, *otherwise;
+    struct image (*lay)(struct side);
+    int nulls;
+} LAYOUTS[] = {
+    {"Int64", "sliced by 3", int64s, 0},
+    {"Int64, every tenth null", "sliced, other bytes under nulls", int64s, 1},
+    {"Int32, every tenth null", "sliced, other bytes under nulls", int32s, 1},
+    {"Int16, every tenth null", "sliced, other bytes under nulls", int16s, 1},
+    {"Int8, every tenth null", "sliced, other bytes under nulls", int8s, 1},
+    {"Decimal128, every tenth null", "sliced, other bytes under nulls", decimal128s, 1},
+    {"FixedSizeBinary of 5, every tenth null", "sliced, other bytes under nulls", binaries, 1},
+    {"Boolean", "offsets 3 and 5", booleans, 0},
+    {"Boolean, every tenth null", "offsets 3 and 5, other bits under nulls", booleans, 1},
+    {"Utf8", "sliced by 3", utf8s, 0},
+    {"Utf8, every tenth null", "sliced, other texts under nulls", utf8s, 1},
+    {"LargeUtf8", "sliced by 3", large_utf8s, 0},
+    {"LargeUtf8, every tenth null", "sliced, other texts under nulls", large_utf8s, 1},
+    {"Utf8View, half of them longer than 12 bytes", "sliced, another buffer", views, 0},
+    {"Utf8View, the same, every tenth null", "sliced, another buffer, other views under nulls", views, 1},
+    {"Dictionary<Int32, Utf8>, 1,000 values", "sliced, values in another order", few_values, 0},
+    {"Dictionary<Int32, Utf8>, 1,000 values, every tenth null", "sliced, values in another order", few_values, 1},
+    {"Dictionary<Int32, Utf8>, 300,000 values", "sliced, values in another order", many_values, 0},
+    {"List<Int32>, 250,000 lists of 4", "sliced, child rows start elsewhere", lists, 0},
+    {"List<Int32>, the same, every tenth null", "sliced, longer lists under nulls", lists, 1},
+    {"ListView<Int32>, 250,000 lists of 4", "sliced, child rows in another order", list_views, 0},
+    {"ListView<Int32>, the same, every tenth null", "sliced, child rows in another order", list_views, 1},
+    {"FixedSizeList<Int32>, 250,000 lists of 4", "list and child sliced", fixed_lists, 0},
+    {"FixedSizeList<Int32>, the same, every tenth null", "list and child sliced, other bytes under nulls", fixed_lists, 1},
+    {"Struct of three", "sliced", structs, 0},
+    {"Struct of three, every tenth null", "sliced, other bytes under nulls", structs, 1},
+    {"Struct of two texts", "both children sliced", pairs_of_texts, 0},
+    {"dense Union of two", "sliced, children in another order", dense_unions, 0},
+    {"sparse Union of two", "sliced", sparse_unions, 0},
+    {"sparse Union of two, rows that no id names", "sliced, other bytes in these rows", other_sparse_unions, 0},
+    {"RunEndEncoded<Int32, Int64>, runs of 10", "against runs of 5", runs, 0},
+};
+
+enum { COUNT = sizeof LAYOUTS / sizeof LAYOUTS[0] };
+
+/* A call on ranges of two images, over the first so many rows of both. */
+typedef uint64_t range_call(const uint8_t *, size_t, const uint8_t *, size_t, uint32_t, uint32_t, uint32_t);
+
+static uint64_t ask(range_call *call, struct image a, struct image b, uint32_t rows)
 {
-    measure(name, "alike", lay(x), lay(x));
-    measure(name, otherwise, lay(x), lay(y));
+    return call(a.bytes, a.length, b.bytes, b.length, 0, 0, rows);
+}
+
+/* Ends where the search on a pair does not find a row that is unequal after rows that are equal, or finds one in spite of
+ * `none`. */
+static void hold(const char *name, struct image a, struct image b, uint32_t rows, int none)
+{
+    uint64_t found = ask(editions_first_difference, a, b, rows);
+    uint32_t row = editions_row(found);
+    int right = none ? found == 0
+                     : editions_refusal(found) == 0 && editions_differs(found) && row < rows &&
+                           ask(editions_compare_range, a, b, row) == YES &&
+                           editions_compare_range(a.bytes, a.length, b.bytes, b.length, row, row, 1) == 0;
+    if (!right) {
+        printf("%s: the first unequal row of %u is %llx\n", name, rows, (unsigned long long)found);
+        exit(1);
+    }
+}
+
+/* The bytes in which another image of the same layout differs. */
+struct change {
+    uint32_t count, at[64];
+    uint8_t bytes[64];
+};
+
+static struct change change_to(struct image b, struct image c)
+{
+    struct change d = {0, {0}, {0}};
+    if (b.length != c.length)
+        abort();
+    for (uint32_t i = 0; i < b.length; i++)
+        if (b.bytes[i] != c.bytes[i]) {
+            if (d.count == 64)
+                abort();
+            d.at[d.count] = i;
+            d.bytes[d.count++] = c.bytes[i];
+        }
+    free(c.bytes);
+    return d;
+}
+
+/* Changes an image, and back the next time. Without a change the image stays. */
+static void turn(struct image b, struct change *d)
+{
+    for (uint32_t i = 0; d != NULL && i < d->count; i++) {
+        uint8_t was = b.bytes[d->at[i]];
+        b.bytes[d->at[i]] = d->bytes[i];
+        d->bytes[i] = was;
+    }
+}
+
+/* The search on a pair whose right image is changed, or stays, beside the comparison of the pair: the medians, taken in turn. */
+struct turns {
+    double compare, search;
+};
+
+static struct turns in_turn(const char *name, struct image a, struct image b, struct change *d, uint32_t rows)
+{
+    double compare[TIMES], search[TIMES];
+    volatile uint64_t same = 0;
+    turn(b, d);
+    hold(name, a, b, rows, d == NULL);
+    turn(b, d);
+    for (int i = 0; i < TIMES; i++) {
+        double t0 = now();
+        same += ask(editions_compare_range, a, b, rows);
+        double t1 = now();
+        turn(b, d);
+        double t2 = now();
+        same += ask(editions_first_difference, a, b, rows);
+        double t3 = now();
+        turn(b, d);
+        compare[i] = t1 - t0;
+        search[i] = t3 - t2;
+    }
+    struct turns t = {median(compare), median(search)};
+    return t;
+}
+
+static double least(double x, double y) { return x < y ? x : y; }
+
+/* The search on a pair whose row 0 differs: the call, the check of both images, the call on no rows, and the search. */
+static void search_alone(const char *name, struct image a, struct image b, uint32_t rows)
+{
+    double call = 1e12, checks = 1e12, empty = 1e12;
+    volatile uint64_t same = 0;
+    hold(name, a, b, rows, 0);
+    for (int i = 0; i < SHORT_TIMES; i++) {
+        double t0 = now();
+        same += editions_check(a.bytes, a.length);
+        same += editions_check(b.bytes, b.length);
+        double t1 = now();
+        same += ask(editions_first_difference, a, b, 0);
+        double t2 = now();
+        same += ask(editions_first_difference, a, b, rows);
+        double t3 = now();
+        checks = least(checks, t1 - t0);
+        empty = least(empty, t2 - t1);
+        call = least(call, t3 - t2);
+    }
+    printf(" %.1f | %.1f | %.1f | %.1f |\n", call / 1000, checks / 1000, empty / 1000, (call - empty) / 1000);
+}
+
+/* The search for the first unequal row of one layout, the right side laid out otherwise. */
+static void measure_search(const struct layout *l)
+{
+    struct side y = side(l->nulls, 1), first = y, last = y, masked = y;
+    struct image a = l->lay(side(l->nulls, 0)), b = l->lay(y);
+    uint32_t rows = (uint32_t)image_get(a.bytes, image_record(0) + RECORD_LENGTH, 4);
+    first.changed = 0;
+    last.changed = is_null(y, rows - 1) ? rows - 2 : rows - 1;
+    masked.bitmap = 1;
+    struct side turned = masked;
+    turned.turned = rows - 1;
+    struct change to_last = change_to(b, l->lay(last)), to_first = change_to(b, l->lay(first));
+    struct turns none = in_turn(l->name, a, b, NULL, rows), value = in_turn(l->name, a, b, &to_last, rows);
+    printf("| %s | %s | %.0f | %.0f | %.2f | %.0f | %.2f |", l->name, l->otherwise, none.compare / 1000, none.search / 1000,
+           none.search / none.compare, value.search / 1000, value.search / value.compare);
+    struct image c = l->lay(masked);
+    /* a union's and a run's rows are never null */
+    if (c.bytes[image_record(0) + RECORD_FLAGS] & FLAG_BITMAP) {
+        struct change to_turned = change_to(c, l->lay(turned));
+        struct turns nullness = in_turn(l->name, a, c, &to_turned, rows);
+        printf(" %.0f | %.2f |", nullness.search / 1000, nullness.search / nullness.compare);
+    } else {
+        printf(" - | - |");
+    }
+    turn(b, &to_first);
+    search_alone(l->name, a, b, rows);
+    free(a.bytes);
+    free(b.bytes);
+    free(c.bytes);
 }
 
 int main(void)
 {
     printf("| layout, about a million values | the two sides | check and compare, us | check alone, us | the Rust, us | to the Rust | memcmp, us |\n");
     printf("|---|---|---|---|---|---|---|\n");
-    both("Int64", "sliced by 3", int64s, PLAIN, OTHER);
-    both("Int64, every tenth null", "sliced, other bytes under nulls", int64s, NULLS, OTHER_NULLS);
-    both("Int32, every tenth null", "sliced, other bytes under nulls", int32s, NULLS, OTHER_NULLS);
-    both("Int16, every tenth null", "sliced, other bytes under nulls", int16s, NULLS, OTHER_NULLS);
-    both("Int8, every tenth null", "sliced, other bytes under nulls", int8s, NULLS, OTHER_NULLS);
-    both("Decimal128, every tenth null", "sliced, other bytes under nulls", decimal128s, NULLS, OTHER_NULLS);
-    both("FixedSizeBinary of 5, every tenth null", "sliced, other bytes under nulls", binaries, NULLS, OTHER_NULLS);
-    both("Boolean", "offsets 3 and 5", booleans, PLAIN, OTHER);
-    both("Boolean, every tenth null", "offsets 3 and 5, other bits under nulls", booleans, NULLS, OTHER_NULLS);
-    both("Utf8", "sliced by 3", utf8s, PLAIN, OTHER);
-    both("Utf8, every tenth null", "sliced, other texts under nulls", utf8s, NULLS, OTHER_NULLS);
-    both("LargeUtf8", "sliced by 3", large_utf8s, PLAIN, OTHER);
-    both("LargeUtf8, every tenth null", "sliced, other texts under nulls", large_utf8s, NULLS, OTHER_NULLS);
-    both("Utf8View, half of them longer than 12 bytes", "sliced, another buffer", views, PLAIN, OTHER);
-    both("Utf8View, the same, every tenth null", "sliced, another buffer, other views under nulls", views, NULLS, OTHER_NULLS);
-    both("Dictionary<Int32, Utf8>, 1,000 values", "sliced, values in another order", few_values, PLAIN, OTHER);
-    both("Dictionary<Int32, Utf8>, 1,000 values, every tenth null", "sliced, values in another order", few_values, NULLS, OTHER_NULLS);
-    both("Dictionary<Int32, Utf8>, 300,000 values", "sliced, values in another order", many_values, PLAIN, OTHER);
-    both("List<Int32>, 250,000 lists of 4", "sliced, child rows start elsewhere", lists, PLAIN, OTHER);
-    both("List<Int32>, the same, every tenth null", "sliced, longer lists under nulls", lists, NULLS, OTHER_NULLS);
-    both("ListView<Int32>, 250,000 lists of 4", "sliced, child rows in another order", list_views, PLAIN, OTHER);
-    both("ListView<Int32>, the same, every tenth null", "sliced, child rows in another order", list_views, NULLS, OTHER_NULLS);
-    both("FixedSizeList<Int32>, 250,000 lists of 4", "list and child sliced", fixed_lists, PLAIN, OTHER);
-    both("FixedSizeList<Int32>, the same, every tenth null", "list and child sliced, other bytes under nulls", fixed_lists, NULLS, OTHER_NULLS);
-    both("Struct of three", "sliced", structs, PLAIN, OTHER);
-    both("Struct of three, every tenth null", "sliced, other bytes under nulls", structs, NULLS, OTHER_NULLS);
-    both("Struct of two texts", "both children sliced", pairs_of_texts, PLAIN, OTHER);
-    both("dense Union of two", "sliced, children in another order", dense_unions, PLAIN, OTHER);
-    both("sparse Union of two", "sliced", sparse_unions, PLAIN, OTHER);
-    both("sparse Union of two, rows that no id names", "sliced, other bytes in these rows", other_sparse_unions, PLAIN, OTHER);
-    both("RunEndEncoded<Int32, Int64>, runs of 10", "against runs of 5", runs, PLAIN, OTHER);
+    for (int i = 0; i < COUNT; i++) {
+        const struct layout *l = &LAYOUTS[i];
+        measure(l->name, "alike", l->lay(side(l->nulls, 0)), l->lay(side(l->nulls, 0)));
+        measure(l->name, l->otherwise, l->lay(side(l->nulls, 0)), l->lay(side(l->nulls, 1)));
+    }
+    printf("\n| layout, about a million values | the two sides | range compared, us | no row differs, us | to the comparison | the last differs, us | to the comparison | the last in nullness, us | to the comparison | row 0 differs, us | both checked, us | no rows asked for, us | the search, us |\n");
+    printf("|---|---|---|---|---|---|---|---|---|---|---|---|---|\n");
+    for (int i = 0; i < COUNT; i++)
+        measure_search(&LAYOUTS[i]);
     return 0;
 }

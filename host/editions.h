@@ -1,7 +1,8 @@
 /* editions.h: which rows of two Arrow tables are equal, whatever layout each table has.
  *
  * A table is an image: one block of bytes, little-endian, with a header, node records, buffer entries and then the buffers;
- * the library's docs/FORMAT.md says how to write one. Link with libeditions_c.a; it needs no other library.
+ * the library's docs/FORMAT.md says how to write one. Link with libeditions_c.a; it needs no other library. Ranges of rows
+ * are compared by the calls of editions_calls.h.
  *
  * The calls read only the bytes that they are lent, keep nothing between calls, allocate nothing and may run in any number
  * of threads. Any bytes may be lent as an image; one that breaks the rules is refused by number. A pointer may be NULL where
@@ -36,7 +37,7 @@ uint64_t editions_write(const uint8_t *image, size_t image_length, uint32_t star
 }
 #endif
 
-/* The refusals; editions_refusal_text says what each is. The three calls never answer EDITIONS_TYPES. */
+/* The refusals; editions_refusal_text says what each is. The three calls above never answer EDITIONS_TYPES. */
 enum {
     EDITIONS_SIZE = 10, EDITIONS_CODE = 11, EDITIONS_TREE = 12, EDITIONS_NAME = 13, EDITIONS_BUFFER = 14,
     EDITIONS_TOO_FEW = 15, EDITIONS_CHILD = 16, EDITIONS_OFFSETS = 17, EDITIONS_ROWS = 18, EDITIONS_TYPES = 20,
@@ -48,13 +49,13 @@ enum { EDITIONS_LEFT = 0, EDITIONS_RIGHT = 1 };
 /* The refusal's number, or 0. */
 static inline unsigned editions_refusal(uint64_t answer) { return (unsigned)(answer & 255u); }
 
-/* The side of a refused image: EDITIONS_LEFT or EDITIONS_RIGHT. A call on one image takes it as left. */
+/* The side of a refused image or range: EDITIONS_LEFT or EDITIONS_RIGHT. A call on one image takes it as left. */
 static inline unsigned editions_side(uint64_t answer) { return (unsigned)(answer >> 8 & 255u); }
 
 /* The node of a refusal by 10 to 18. */
 static inline unsigned editions_node(uint64_t answer) { return (unsigned)(answer >> 16 & 65535u); }
 
-/* Of a call that is not refused: 1 or 0 for a comparison, the number of bytes for a write. */
+/* The value of a call that is not refused: 1 or 0 for a comparison, the number of bytes for a write. */
 static inline uint64_t editions_value(uint64_t answer) { return answer >> 8; }
 
 /* What a refusal's number says, as a sentence; 0 has one too, and so has a number that is no refusal. Never NULL. */

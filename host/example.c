@@ -1,6 +1,8 @@
-/* A small host: two tables of three Int8 rows, the middle one null, with other bytes under the null. It checks both,
- * compares them, writes their rows, and prints what it found. */
+/* A small host: two tables of three Int8 rows, the middle one null, with other bytes under the null, and a third table that
+ * differs in its last row. It checks the two, compares them, finds where the third parts from them, writes their rows, and
+ * prints what it found. */
 #include "editions.h"
+#include "editions_calls.h"
 
 #include <stdio.h>
 #include <string.h>
@@ -64,19 +66,38 @@ static void report(const char *what, uint64_t answer)
         printf("%s: %llu\n", what, (unsigned long long)editions_value(answer));
 }
 
+static void report_difference(const char *what, uint64_t answer)
+{
+    if (editions_refusal(answer) != 0)
+        report(what, answer);
+    else if (editions_differs(answer))
+        printf("%s: row %u\n", what, (unsigned)editions_row(answer));
+    else
+        printf("%s: nowhere\n", what);
+}
+
 int main(void)
 {
     const uint8_t january[ROWS] = {5, 0, 7};
     const uint8_t june[ROWS] = {5, 9, 7};
+    const uint8_t july[ROWS] = {5, 0, 8};
     const uint8_t bitmap = 5; /* rows 0 and 2 are not null */
-    struct image left, right;
+    struct image left, right, third;
     uint8_t rows[16];
 
     int8_table(&left, january, ROWS, bitmap);
     int8_table(&right, june, ROWS, bitmap);
+    int8_table(&third, july, ROWS, bitmap);
     report("check the left table", editions_check(left.bytes, left.length));
     report("check the right table", editions_check(right.bytes, right.length));
     report("compare", editions_compare(left.bytes, left.length, right.bytes, right.length));
+
+    report("compare two rows with the third table's",
+           editions_compare_range(left.bytes, left.length, third.bytes, third.length, 0, 0, 2));
+    report_difference("where the left and the right table part",
+                      editions_first_difference(left.bytes, left.length, right.bytes, right.length, 0, 0, ROWS));
+    report_difference("where the left and the third table part",
+                      editions_first_difference(left.bytes, left.length, third.bytes, third.length, 0, 0, ROWS));
 
     uint64_t answer = editions_write(left.bytes, left.length, 0, ROWS, rows, sizeof rows);
     report("write the left rows", answer);

@@ -1,4 +1,5 @@
-"""A model of document 01, written from its sentences: the image check, types, rows, row bytes, and the session.
+"""A model of document 01, written from its sentences: the image check, types, rows, row bytes, and the session; and of the
+first unequal row of two ranges, which is document 02's.
 
 It is the second opinion that the proved program is held to, so it shares nothing with it: numbers are Python's, rows are
 tuples, and speed is no aim.
@@ -479,17 +480,37 @@ def compare(left, right):
     return (0, 0, 0, int(same))
 
 
-def compare_range(left, right, i, j, n):
+def ranges(left, right, i, j, n):
+    """Both images, where n rows of the one from row i on may be compared with n rows of the other from row j on."""
     images, refused = both(left, right)
+    if refused:
+        return None, refused
+    if not types_agree(*images):
+        return None, (20, 0, 0, 0)
+    for side, (image, start) in enumerate(zip(images, (i, j))):
+        if start + n > image.nodes[0].length:
+            return None, (21, side, 0, 0)
+    return images, None
+
+
+def compare_range(left, right, i, j, n):
+    images, refused = ranges(left, right, i, j, n)
     if refused:
         return refused
     a, b = images
-    if not types_agree(a, b):
-        return (20, 0, 0, 0)
-    for side, (image, start) in enumerate(((a, i), (b, j))):
-        if start + n > image.nodes[0].length:
-            return (21, side, 0, 0)
     return (0, 0, 0, int(a.rows(0, i, i + n) == b.rows(0, j, j + n)))
+
+
+def first_difference(left, right, i, j, n):
+    """The value is 0 where no row differs, else one more than the first that does, counted from 0 at the start of the range."""
+    images, refused = ranges(left, right, i, j, n)
+    if refused:
+        return refused
+    a, b = images
+    for k in range(n):
+        if a.row(0, i + k) != b.row(0, j + k):
+            return (0, 0, 0, k + 1)
+    return (0, 0, 0, 0)
 
 
 def write(data, i, n, room):

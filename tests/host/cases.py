@@ -4,11 +4,14 @@ damaged, with what the model says of them.
 
     python3 tests/host/cases.py FILE COUNT SEED [CORPUS]
 
-FILE gets one record for each call: the call's number (0 check, 1 compare, 2 write), the images (u32 length, bytes), for a
-write u32 start, count and room, then the answer as u64 and, for a write, the bytes written (u32 length, bytes). CORPUS, a
-directory, gets some of the images as files, to start a fuzzer from.
+FILE gets records. A record of one call has its number (0 check, 1 compare, 2 write), the images (u32 length, bytes), for a
+write u32 start, count and room, then the answer as u64 and, for a write, the bytes written (u32 length, bytes). A record
+of ranges has the number 3, two images and the number of ranges as u32; then for each range left start, right start and count
+as u32, and as u64 the answers of the range comparison and of the first difference. CORPUS, a directory, gets inputs of
+tests/host/fuzz.c, to start a fuzzer from.
 """
 
+import functools
 import os
 import random
 import sys
@@ -19,6 +22,15 @@ import columns
 import model
 import pairs
 from image import CODES, number
+
+# the largest start and count
+LARGEST = 0xFFFFFFFF
+
+# the longest input that a fuzzer starts from
+LONGEST_INPUT = 4096
+
+# an image that is asked about several times is checked once
+model.checked = functools.lru_cache(maxsize=8)(model.checked)
 
 
 def sized(data):
@@ -35,16 +47,32 @@ def table(rng, seed):
     return kind, [columns.random_row(rng, kind) for _ in range(rng.choice([0, 1, 3, 9, 40, 70, 150]))]
 
 
+class NoLayout(Exception):
+    """A Dictionary has more values than its keys of one byte can name."""
+
+
 def laid(rng, kind, rows):
-    return columns.image(rng, columns.lay(rng, kind, rows))
+    try:
+        return columns.image(rng, columns.lay(rng, kind, rows))
+    except IndexError as fault:
+        raise NoLayout from fault
 
 
 def write_call(image, start, count, room, answer, written):
     return b"\x02" + sized(image) + number(4, start) + number(4, count) + number(4, room) + packed(answer) + sized(written)
 
 
+def ranges_call(left, right, ranges):
+    """Both calls on ranges, with the model's answers."""
+    record = b"\x03" + sized(left) + sized(right) + number(4, len(ranges))
+    for asked in ranges:
+        record += b"".join(number(4, x) for x in asked)
+        record += packed(model.compare_range(left, right, *asked)) + packed(model.first_difference(left, right, *asked))
+    return record
+
+
 def document_calls():
-    """Document 01's pairs. Ranges have no call for C."""
+    """Document 01's pairs, with its answers. A pair of ranges is asked for its first difference too, which is the model's."""
     for _, (call, images, rest), answer in pairs.PAIRS:
         lent = [b"".join(parts) for _, parts in images]
         if call == "check":
@@ -53,6 +81,9 @@ def document_calls():
             yield b"\x01" + sized(lent[0]) + sized(lent[1]) + packed(answer)
         elif call == "write":
             yield write_call(lent[0], *rest, answer, model.write(lent[0], *rest)[1])
+        else:
+            assert model.compare_range(*lent, *rest) == answer
+            yield ranges_call(*lent, [rest])
 
 
 def calls(rng, seed):
@@ -80,19 +111,98 @@ def calls(rng, seed):
             yield write_call(image, start, count, room, answer, written)
 
 
+def changed(rng, kind, row):
+    """A row that differs from this one, where there is such a row: null and not null, or in one value."""
+    if columns.has_bitmap(kind) and rng.random() < 0.3:
+        return columns.random_row(rng, kind, 0.0) if row is None else None
+    return columns.change_row(rng, kind, row)
+
+
+def around(rng, k, count, shift):
+    """Ranges about row k of `count` rows, of which the right table has `shift` before them: all rows; up to row k and with it;
+    from row k on and behind it; and from a row before it on."""
+    i = rng.randint(0, k)
+    for start, end in ((0, count), (0, k), (0, k + 1), (k, count), (k + 1, count), (i, rng.randint(i, count))):
+        yield (start, start + shift, end - start)
+
+
+def anywhere(rng, left, right):
+    """Ranges of two tables of so many rows: inside, at the ends, and past them."""
+    i, j = rng.randint(0, left), rng.randint(0, right)
+    most = min(left - i, right - j)
+    yield from ((i, j, rng.randint(0, most)), (i, j, most), (i, j, most + 1))
+    odd = [(left, right, 0), (left + 1, right, 0), (left, right + 1, 0), (left + 1, right + 1, 0), (left, right, 1)]
+    odd += [(i, j, LARGEST), (LARGEST, j, most), (i, LARGEST, most), (LARGEST, LARGEST, LARGEST), (0, LARGEST, 0)]
+    yield from rng.sample(odd, 3)
+
+
+def range_calls(rng, seed):
+    """Ranges of a table and of one with nearly the same rows, as left and right and the other way round."""
+    kind, rows = table(rng, seed)
+    shift = rng.choice([0, 0, 1, 3, 8, 67])
+    before, after = ([columns.random_row(rng, kind) for _ in range(n)] for n in (shift, rng.choice([0, 2])))
+    whole = before + rows + after
+    left, right = laid(rng, kind, rows), laid(rng, kind, whole)
+    # the same rows in two layouts, and the others against each other
+    asked = [(left, right, [(0, shift, len(rows)), *anywhere(rng, len(rows), len(whole))])]
+    # one row changed, in some tables a second one behind it
+    for k in {0, len(rows) - 1, rng.randrange(len(rows))} if rows else ():
+        other = list(whole)
+        for row in (k, rng.randrange(k, len(rows)))[: rng.choice([1, 1, 2])]:
+            other[shift + row] = changed(rng, kind, rows[row])
+        asked.append((left, laid(rng, kind, other), list(around(rng, k, len(rows), shift))))
+    # another type; damaged images, of which some are still accepted
+    retyped = columns.change_type(rng, kind)
+    typed = laid(rng, retyped, [columns.relabelled(kind, retyped, row) for row in whole])
+    damaged = [columns.damage(rng, image) for image in (left, right, typed)]
+    for one, other in ((left, typed), (left, damaged[1]), (left, damaged[2]), (damaged[0], damaged[1])):
+        asked.append((one, other, list(anywhere(rng, len(rows), len(whole)))))
+    for one, other, ranges in asked:
+        yield ranges_call(one, other, ranges)
+        yield ranges_call(other, one, [(j, i, n) for i, j, n in ranges])
+
+
+def fuzz_input(rng, seed):
+    """Two layouts of a table, in half of them with one row changed, and any starts and count, as tests/host/fuzz.c reads them."""
+    kind, rows = table(rng, seed)
+    other = list(rows)
+    if rows and rng.random() < 0.5:
+        k = rng.randrange(len(rows))
+        other[k] = changed(rng, kind, rows[k])
+    left, right = laid(rng, kind, rows), laid(rng, kind, other)
+    return b"".join(number(2, x) for x in (len(left), *(rng.randrange(1 << 16) for _ in range(3)))) + left + right
+
+
+def records(rng, seed):
+    yield from calls(rng, seed)
+    # every code has its turn, since 44 is no multiple of 3
+    if seed % 3 == 0:
+        yield from range_calls(rng, seed)
+
+
+def write_corpus(corpus, seeds):
+    for seed in seeds:
+        try:
+            data = fuzz_input(random.Random(seed), seed)
+        except NoLayout:
+            continue
+        if len(data) <= LONGEST_INPUT:
+            with open(os.path.join(corpus, f"{seed}"), "wb") as file:
+                file.write(data)
+
+
 def main():
     path, count, first = sys.argv[1], int(sys.argv[2]), int(sys.argv[3])
-    corpus = sys.argv[4] if len(sys.argv) > 4 else None
+    seeds = range(first, first + count)
     with open(path, "wb") as file:
-        for record in document_calls():
-            file.write(record)
-        for seed in range(first, first + count):
-            rng = random.Random(seed)
-            for record in calls(rng, seed):
-                file.write(record)
-            if corpus and seed < first + 400:
-                with open(os.path.join(corpus, f"{seed}"), "wb") as image:
-                    image.write(laid(rng, *table(rng, seed)))
+        file.write(b"".join(document_calls()))
+        for seed in seeds:
+            try:
+                file.write(b"".join(records(random.Random(seed), seed)))
+            except NoLayout:
+                continue
+    if len(sys.argv) > 4:
+        write_corpus(sys.argv[4], seeds[:400])
 
 
 main()

@@ -1,11 +1,16 @@
-/* Mutated images through all three calls. What must hold of any bytes is asked: an accepted image equals itself, a
+/* Mutated images through the calls of both headers. What must hold of any bytes is asked: an accepted image equals itself, a
  * comparison is symmetric, equal tables write the same bytes, a refused write changes nothing, and an output that fits
- * exactly does not fit into one byte less.
+ * exactly does not fit into one byte less. Both calls on ranges are refused alike and in the right order; a first difference
+ * is none exactly when the ranges are equal, the rows before it are equal, and its row is not.
  *
- * With LIBFUZZER defined this is a target of libFuzzer; else a program that mutates the images of a directory for some
+ * An input is four numbers of two bytes, the left image and the right one. The numbers: how long the left image is; then, of
+ * ranges, the left start, the right start and the count, as `ranged` takes them.
+ *
+ * With LIBFUZZER defined this is a target of libFuzzer; else a program that mutates the inputs of a directory for some
  * seconds: fuzz CORPUS SECONDS SEED. */
 #define _DEFAULT_SOURCE
 #include "../../host/editions.h"
+#include "../../host/editions_calls.h"
 #include "../image.h"
 #include "memory.h"
 
@@ -14,8 +19,17 @@
 
 enum { MOST = 1 << 16, ROOM = 4096 };
 
+/* The numbers of an input: their places, and how many bytes they have together. */
+enum { INPUT_LEFT_LENGTH = 0, INPUT_LEFT_START = 2, INPUT_RIGHT_START = 4, INPUT_COUNT = 6, INPUT_NUMBERS = 8 };
+
 /* what a comparison that says yes answers */
 static const uint64_t EQUAL = (uint64_t)1 << 8;
+
+/* what a first difference that is the range's first row answers */
+static const uint64_t FIRST_ROW = (uint64_t)1 << 8;
+
+/* the side of a refused right image or range, in an answer */
+static const uint64_t RIGHT = (uint64_t)EDITIONS_RIGHT << 8;
 
 static struct lent lent[3];
 
@@ -27,12 +41,17 @@ static void must(int holds, const char *what)
     }
 }
 
+/* How many rows the root of an image has; 0 where it is too short for a root. */
+static uint32_t root_rows(const uint8_t *image, size_t length)
+{
+    return length < IMAGE_TABLES(1, 0) ? 0 : (uint32_t)image_get(image, image_record(0) + RECORD_LENGTH, 4);
+}
+
 /* The rows of a table, written into a buffer of that room. */
 static uint64_t rows_of(const uint8_t *image, size_t length, uint8_t *out, size_t room)
 {
-    uint32_t count = (uint32_t)image_get(image, image_record(0) + RECORD_LENGTH, 4);
     memset(out, 0xa5, room);
-    uint64_t answer = editions_write(image, length, 0, count, out, room);
+    uint64_t answer = editions_write(image, length, 0, root_rows(image, length), out, room);
     size_t kept = editions_refusal(answer) ? 0 : editions_value(answer);
     must(kept <= room, "more written than there is room for");
     for (size_t k = kept; k < room; k++)
@@ -40,24 +59,92 @@ static uint64_t rows_of(const uint8_t *image, size_t length, uint8_t *out, size_
     return answer;
 }
 
-static void one(const uint8_t *data, size_t size)
+/* Two images, and ranges of their rows. */
+struct pair {
+    const uint8_t *left, *right;
+    size_t left_length, right_length;
+    uint32_t left_start, right_start, count;
+};
+
+static uint64_t compare_range(const struct pair *p, uint32_t skipped, uint32_t count)
 {
-    if (size < 2 || size > MOST)
+    return editions_compare_range(p->left, p->left_length, p->right, p->right_length, p->left_start + skipped,
+                                  p->right_start + skipped, count);
+}
+
+static uint64_t first_difference(const struct pair *p, uint32_t skipped, uint32_t count)
+{
+    return editions_first_difference(p->left, p->left_length, p->right, p->right_length, p->left_start + skipped,
+                                     p->right_start + skipped, count);
+}
+
+/* How a pair of ranges is refused, but for unequal types: a and b are the checks of the images. */
+static uint64_t refusal_of(const struct pair *p, uint64_t a, uint64_t b)
+{
+    if (a != 0)
+        return a;
+    if (b != 0)
+        return b | RIGHT;
+    if ((uint64_t)p->left_start + p->count > root_rows(p->left, p->left_length))
+        return EDITIONS_RANGE;
+    if ((uint64_t)p->right_start + p->count > root_rows(p->right, p->right_length))
+        return EDITIONS_RANGE | RIGHT;
+    return 0;
+}
+
+/* The row where two ranges part: the rows before it are equal, and it is not. */
+static void parted(const struct pair *p, uint64_t first)
+{
+    must(editions_value(first) <= p->count, "a first difference past the range");
+    uint32_t row = editions_row(first);
+    must(compare_range(p, 0, row) == EQUAL, "the rows before the first difference are not equal");
+    must(first_difference(p, 0, row) == 0, "the rows before the first difference have one");
+    must(compare_range(p, row, 1) == 0, "the row of the first difference is equal");
+    must(first_difference(p, row, p->count - row) == FIRST_ROW, "the first difference is another one from its row on");
+}
+
+/* Both calls on ranges; a and b are the checks of the images, ab their comparison. */
+static void ranges(const struct pair *p, uint64_t a, uint64_t b, uint64_t ab)
+{
+    uint64_t same = compare_range(p, 0, p->count), first = first_difference(p, 0, p->count), refusal = refusal_of(p, a, b);
+    if (editions_refusal(same) != 0 || editions_refusal(first) != 0)
+        must(first == same, "the calls on ranges are not refused alike");
+    if (same == EDITIONS_TYPES) {
+        must(a == 0 && b == 0, "types are looked at before images are checked");
+        must(ab == 0, "equal tables of unequal types");
         return;
-    size_t length = size - 2, cut = (data[0] | (size_t)data[1] << 8) % (length + 1);
-    uint8_t *left = lent_bytes(lent[0], cut, 1), *right = lent_bytes(lent[1], length - cut, 1);
+    }
+    if (editions_refusal(same) != 0 || refusal != 0) {
+        must(same == refusal, "ranges are refused otherwise");
+        return;
+    }
+    must(same == EQUAL || same == 0, "a range comparison that says neither yes nor no");
+    must(editions_differs(first) == (same == 0), "a first difference of equal ranges, or none of unequal ones");
+    if (editions_differs(first))
+        parted(p, first);
+    const struct pair turned = {p->right, p->left, p->right_length, p->left_length, p->right_start, p->left_start, p->count};
+    must(first_difference(&turned, 0, p->count) == first, "a first difference that is not symmetric");
+    const struct pair itself = {p->left, p->left, p->left_length, p->left_length, p->left_start, p->left_start, p->count};
+    must(first_difference(&itself, 0, p->count) == 0, "rows that differ from themselves");
+    const struct pair whole = {p->left, p->right, p->left_length, p->right_length, 0, 0, root_rows(p->left, p->left_length)};
+    if (root_rows(p->left, p->left_length) == root_rows(p->right, p->right_length))
+        must(compare_range(&whole, 0, whole.count) == ab, "the range of all rows and the tables are not equal alike");
+}
+
+/* The check and the comparison of two images, and the write of the left one. */
+static void three_calls(const struct pair *p, uint64_t a, uint64_t b, uint64_t ab)
+{
+    const uint8_t *left = p->left, *right = p->right;
+    size_t cut = p->left_length, rest = p->right_length;
     uint8_t *out = lent_bytes(lent[2], ROOM, 1);
     static uint8_t first[ROOM];
-    memcpy(left, data + 2, cut);
-    memcpy(right, data + 2 + cut, length - cut);
-    uint64_t a = editions_check(left, cut), b = editions_check(right, length - cut);
-    uint64_t ab = editions_compare(left, cut, right, length - cut), ba = editions_compare(right, length - cut, left, cut);
+    uint64_t ba = editions_compare(right, rest, left, cut);
     if (a == 0 && b == 0)
         must(ab == ba, "a comparison that is not symmetric");
     else if (a != 0)
         must(ab == a, "a refused left image is not the comparison's answer");
     else
-        must(ab == (b | 1u << 8), "a refused right image is not the comparison's answer");
+        must(ab == (b | RIGHT), "a refused right image is not the comparison's answer");
     if (a == 0)
         must(editions_compare(left, cut, left, cut) == EQUAL, "a table that does not equal itself");
     else
@@ -74,9 +161,38 @@ static void one(const uint8_t *data, size_t size)
         must(rows_of(left, cut, lent_bytes(lent[2], n - 1, 1), n - 1) == EDITIONS_OUTPUT, "one byte less is enough");
     must(rows_of(left, cut, lent_bytes(lent[2], n, 1), n) == written, "an exact buffer is not enough");
     if (b == 0 && ab == EQUAL) {
-        must(rows_of(right, length - cut, out, ROOM) == written, "equal tables take different numbers of bytes");
+        must(rows_of(right, rest, out, ROOM) == written, "equal tables take different numbers of bytes");
         must(memcmp(first, out, n) == 0, "equal tables write different bytes");
     }
+}
+
+/* A start or count: most numbers give one of 0 to one more than so many rows, the others one of the four largest. */
+static uint32_t ranged(const uint8_t *number, uint64_t rows)
+{
+    uint32_t x = (uint32_t)image_get(number, 0, 2);
+    return x < 61440 ? (uint32_t)(x % (rows + 2)) : UINT32_MAX - x % 4;
+}
+
+static void one(const uint8_t *data, size_t size)
+{
+    if (size < INPUT_NUMBERS || size > MOST)
+        return;
+    const uint8_t *images = data + INPUT_NUMBERS;
+    size_t length = size - INPUT_NUMBERS, cut = image_get(data, INPUT_LEFT_LENGTH, 2) % (length + 1), rest = length - cut;
+    uint8_t *left = lent_bytes(lent[0], cut, 1), *right = lent_bytes(lent[1], rest, 1);
+    memcpy(left, images, cut);
+    memcpy(right, images + cut, rest);
+    struct pair p = {left, right, cut, rest, 0, 0, 0};
+    uint32_t rows = root_rows(left, cut);
+    p.left_start = ranged(data + INPUT_LEFT_START, rows);
+    p.right_start = ranged(data + INPUT_RIGHT_START, root_rows(right, rest));
+    p.count = ranged(data + INPUT_COUNT, p.left_start <= rows ? rows - p.left_start : rows);
+    uint64_t a = editions_check(left, cut), b = editions_check(right, rest), ab = editions_compare(left, cut, right, rest);
+    three_calls(&p, a, b, ab);
+    ranges(&p, a, b, ab);
+    p.right_start = p.left_start;
+    ranges(&p, a, b, ab);
+    must(memcmp(left, images, cut) == 0 && memcmp(right, images + cut, rest) == 0, "an image was changed");
 }
 
 static void begin(void)
@@ -113,8 +229,8 @@ static uint32_t next(uint32_t below)
 enum { SEEDS = 512 };
 
 static struct {
-    uint8_t *bytes;
-    size_t length;
+    uint8_t *left, *right;
+    size_t left_length, right_length;
 } seeds[SEEDS];
 
 static unsigned read_seeds(const char *path)
@@ -131,11 +247,17 @@ static unsigned read_seeds(const char *path)
             continue;
         snprintf(name, sizeof name, "%s/%s", path, entry->d_name);
         FILE *file = fopen(name, "rb");
-        uint8_t *bytes = malloc(MOST);
-        if (!file || !bytes)
+        uint8_t *bytes = malloc(MOST / 2);
+        size_t length = file && bytes ? fread(bytes, 1, MOST / 2, file) : 0;
+        if (length < INPUT_NUMBERS || image_get(bytes, INPUT_LEFT_LENGTH, 2) > length - INPUT_NUMBERS) {
+            fprintf(stderr, "fuzz: %s is no input\n", name);
             exit(1);
-        seeds[count].bytes = bytes;
-        seeds[count++].length = fread(bytes, 1, MOST / 2 - 2, file);
+        }
+        seeds[count].left = bytes + INPUT_NUMBERS;
+        seeds[count].left_length = image_get(bytes, INPUT_LEFT_LENGTH, 2);
+        seeds[count].right = seeds[count].left + seeds[count].left_length;
+        seeds[count].right_length = length - INPUT_NUMBERS - seeds[count].left_length;
+        count++;
         fclose(file);
     }
     closedir(directory);
@@ -173,15 +295,18 @@ int main(int argc, char **argv)
     while (time(NULL) < end) {
         for (int turn = 0; turn < 256; turn++, runs++) {
             unsigned k = next(count), other = next(3) ? k : next(count);
-            size_t left = seeds[k].length, right = seeds[other].length;
-            memcpy(data + 2, seeds[k].bytes, left);
-            memcpy(data + 2 + left, seeds[other].bytes, right);
-            data[0] = (uint8_t)left;
-            data[1] = (uint8_t)(left >> 8);
-            mutate(data + 2, left);
-            mutate(data + 2 + left, right);
-            accepted += editions_check(data + 2, left) == 0;
-            one(data, 2 + left + right);
+            size_t left = seeds[k].left_length, right = seeds[other].right_length;
+            uint8_t *images = data + INPUT_NUMBERS;
+            data[INPUT_LEFT_LENGTH] = (uint8_t)left;
+            data[INPUT_LEFT_LENGTH + 1] = (uint8_t)(left >> 8);
+            for (unsigned at = INPUT_LEFT_START; at < INPUT_NUMBERS; at++)
+                data[at] = (uint8_t)next(256);
+            memcpy(images, seeds[k].left, left);
+            memcpy(images + left, seeds[other].right, right);
+            mutate(images, left);
+            mutate(images + left, right);
+            accepted += editions_check(images, left) == 0;
+            one(data, INPUT_NUMBERS + left + right);
         }
     }
     printf("fuzz: seed %s, %lu pairs of images, %lu left ones accepted, no finding\n", argv[3], runs, accepted);

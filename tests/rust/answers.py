@@ -3,6 +3,7 @@
 
     answers.py write      lay the pairs out, ask the Rust (tests/rust/run has built it) and write the list
     answers.py rust       the Rust still answers as in the list
+    answers.py library    the library answers as in the list, and gives the model's first unequal row of each pair
     answers.py model      the model of document 01 answers as in the list, and each misreading does not; needs no Rust
     answers.py session    the list as lines for the session program
     answers.py replies    what the session program must print for them
@@ -17,7 +18,7 @@ import sys
 
 from cases import KINDS, Case, random_case
 from columns import image
-from compare import answers
+from compare import BOTH, answers, word
 from image import CODES
 from suspects import NO, SUSPECTS, YES, item, lists, numbers, structs
 
@@ -136,6 +137,20 @@ def rust():
     return wrong
 
 
+def library():
+    listed = list(read())
+    wrong = 0
+    for line, (case, answer) in zip(answers(BOTH, [case for case, _ in listed]), listed):
+        whole, ranged, first, _ = line.split()
+        wrong += whole != ("-" if case.range else str(answer))
+        if counted(case):
+            wrong += (ranged, first) != (word(case.range_model()), word(case.first_model()))
+        else:
+            wrong += (ranged, first == "0") != (str(answer), answer == YES)
+    print("%d listed answers and first unequal rows asked of the library, %d others" % (len(listed), wrong))
+    return wrong
+
+
 # The misreadings, as models that read an accepted image wrongly.
 
 
@@ -207,7 +222,7 @@ def main():
     if what == "session" or what == "replies":
         print(session()[what == "replies"], end="")
         return 0
-    return 1 if {"write": write, "rust": rust, "model": by_model}[what]() else 0
+    return 1 if {"write": write, "rust": rust, "library": library, "model": by_model}[what]() else 0
 
 
 if __name__ == "__main__":

@@ -1,7 +1,8 @@
 """Random pairs of accepted images to ask both sides about, and the file that a program answers them from.
 
-A pair has a kind: the same rows in two layouts, one difference at any depth, types that differ, ranges, no rows. Types and
-layouts are those of tests/columns.py; `odd_places` adds what an accepted image may hold where nothing counts.
+A pair has a kind: the same rows in two layouts, one difference at any depth, types that differ, ranges, no rows, one or more
+differences far down. Types and layouts are those of tests/columns.py; `odd_places` adds what an accepted image may hold where
+nothing counts.
 """
 
 import os
@@ -15,7 +16,7 @@ import model
 from image import DEEPEST, VIEW, number
 from model import DENSE_UNION, DICTIONARY, FIXED_SIZE_BINARY, LIST_VIEWS, LISTS, OFFSET_WIDTH, RUN_END_ENCODED, STRUCT, TEXTS, UNIONS, VIEWS, WIDTHS
 
-KINDS = ["layouts", "difference", "labels", "types", "range", "range with a difference", "no rows"]
+KINDS = ["layouts", "difference", "labels", "types", "range", "range with a difference", "no rows", "differences far down"]
 
 # how many of the long tables have more than a block of rows
 VERY_LONG = 0.03
@@ -29,11 +30,14 @@ class Case:
     def __init__(self, left, right, range=None, masks=0):
         self.left, self.right, self.range, self.masks = left, right, range, masks
 
-    def packed(self):
-        """As tests/rust/harness/src/cases.rs reads it."""
-        starts = self.range or (0, 0, 0)
-        kind = (self.range is not None) + 2 * self.masks
-        return struct.pack("<I", len(self.left)) + self.left + struct.pack("<I", len(self.right)) + self.right + struct.pack("<IIIB", *starts, kind)
+    def packed(self, rows=False):
+        """As tests/rust/harness/src/cases.rs reads it; `rows` asks the Rust for the first unequal row too."""
+        kind = (self.range is not None) + 2 * self.masks + 4 * rows
+        return struct.pack("<I", len(self.left)) + self.left + struct.pack("<I", len(self.right)) + self.right + struct.pack("<IIIB", *self.part(), kind)
+
+    def part(self):
+        """The range that is asked about; where whole tables are, as many rows as the left one has."""
+        return self.range or (0, 0, model.Image(self.left).nodes[0].length)
 
     def frames(self):
         """The session's frames that store the pair and ask about it."""
@@ -57,6 +61,14 @@ class Case:
         if self.range:
             return model.compare_range(self.left, self.right, *self.range)
         return model.compare(self.left, self.right)
+
+    def range_model(self):
+        """The model's answer on the range `part`."""
+        return model.compare_range(self.left, self.right, *self.part())
+
+    def first_model(self):
+        """The model's first unequal row of the range `part`."""
+        return model.first_difference(self.left, self.right, *self.part())
 
 
 def random_type(rng, code):
@@ -146,9 +158,32 @@ def change_one(rng, type, rows):
     return rows[:k] + [columns.change_row(rng, type, rows[k])] + rows[k + 1 :]
 
 
+def far_down(rng, code):
+    """A type, rows of it, others of which one to four differ, and the range of these or none: 64 rows and more, the first of
+    those that differ in the second half, at the end, or where a power of two ends or begins."""
+    type = random_type(rng, code)
+    while depth_of(type) > 3 or type.code in UNIONS and not type.children:
+        type = random_type(rng, code)
+    nulls = rng.choice([0.0, 0.1, 0.2, 0.5, 0.9])
+    count = 1025 if rng.random() < VERY_LONG / 4 else rng.choice([64, 65, 100, 130, 200, 300])
+    rows, before, after, others_before, others_after = (
+        [columns.random_row(rng, type, nulls) for _ in range(size)] for size in (count, *(rng.choice([0, 0, 1, 7, 64]) for _ in range(4)))
+    )
+    first = min(rng.choice([rng.randrange(count // 2, count), rng.choice([63, 64, 127, 128, 255, 256]), count - 1]), count - 1)
+    others = list(rows)
+    for k in [first] + [rng.randrange(first, count) for _ in range(rng.randrange(4))]:
+        others[k] = columns.change_row(rng, type, others[k])
+    if rng.random() < 0.5:
+        return type, rows, others, None
+    return type, before + rows + after, others_before + others + others_after, (len(before), len(others_before), count)
+
+
 def random_case(rng, code, kind):
     """A pair of that kind; the left or the right type has that code. None where the rows do not fit the layout, or a type is
     deeper than an image may be."""
+    if kind == "differences far down":
+        type, rows, others, asked = far_down(rng, code)
+        return laid_out(rng, type, rows, type, others, asked)
     nulls = rng.choice([0.0, 0.1, 0.2, 0.5, 0.9])
     type = random_type(rng, code)
     rows = [] if kind == "no rows" else random_rows(rng, type, nulls)
@@ -179,6 +214,12 @@ def random_case(rng, code, kind):
         asked = (start, len(before), count)
     elif kind == "no rows" and rng.random() < 0.5:
         asked = (0, 0, 0)
+    return laid_out(rng, type, rows, other, others, asked)
+
+
+def laid_out(rng, type, rows, other, others, asked):
+    """The pair of these rows, each side of its type and in a layout of its own, the sides in either order. None where the rows
+    do not fit the layout."""
     try:
         left, right = laid(rng, type, rows), laid(rng, other, others)
     except IndexError:
@@ -191,6 +232,7 @@ def random_case(rng, code, kind):
 
 
 def laid(rng, type, rows):
+    """An image of these rows, in any layout."""
     no_rows = type.code in UNIONS and not type.children
     node = columns.lay(rng, type, rows, plain=no_rows or rng.random() < 0.1)
     if rng.random() < 0.5:

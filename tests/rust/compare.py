@@ -3,12 +3,15 @@
 
     compare.py PAIRS SEED    after tests/rust/run has built the programs
 
-Our side is the model of document 01 (tests/model.py) and, where they are built, the proved library, asked about whole tables
-by the program `both`, and the session program, asked about ranges. The Rust is asked as users build it and with its own
-assertions; all answers must be the same. The exit status is 1 on a disagreement.
+Our side is the model of document 01 (tests/model.py) and, where they are built, the proved library, asked by the program
+`both`, and the session program, asked about ranges. The Rust is asked as users build it and with its own assertions. All are
+asked whether the tables or the ranges are equal; the model and the library also for the first unequal row of the range, and
+the Rust about its rows one at a time up to the first that it finds unequal. Whole tables are asked about as the range of the
+left one's rows too. All answers must be the same. The exit status is 1 on a disagreement.
 """
 
 import collections
+import itertools
 import os
 import random
 import subprocess
@@ -24,19 +27,24 @@ from image import CODES
 TARGET = os.path.join(os.path.dirname(os.path.abspath(__file__)), "..", "..", "target")
 BUILT = os.path.join(TARGET, "rust")
 SESSION = os.environ.get("EDITIONS") or os.path.join(TARGET, "bin", "editions")
+BOTH = "release/both"
 BATCH = 20000
 
-# tables of so many rows and more are counted
+# tables of so many rows and more are counted, and first unequal rows past these
 LONG = [64, 1023]
+PAST = [0, 63]
+
+# what a program is asked, in the order of its words
+QUESTIONS = ["whether they are equal", "whether the ranges are", "the first unequal row, plus 1"]
 
 # more long tables and texts than in the fixed list
 VERY_LONG = 0.15
 TEXT_LENGTHS = [1, 2, 3, 4, 5, 7, 8, 9, 11, 12, 13, 16, 20, 63, 64, 65, 71, 200]
 
 
-def answers(program, asked):
-    """The program's lines, one for each case."""
-    given = b"".join(case.packed() for case in asked)
+def answers(program, asked, by_rows=itertools.repeat(False)):
+    """The program's lines, one for each case. `by_rows` says of each whether the Rust is asked about single rows too."""
+    given = b"".join(case.packed(rows) for case, rows in zip(asked, by_rows))
     said = subprocess.run([os.path.join(BUILT, program)], input=given, stdout=subprocess.PIPE, check=True, timeout=600).stdout
     lines = said.decode("ascii").splitlines()
     assert len(lines) == len(asked)
@@ -63,61 +71,97 @@ def batch(seed, number, count):
     return made
 
 
+def word(answer):
+    """An answer of the model as the program `both` prints it."""
+    number, side, node, value = answer
+    return "r%d.%d.%d" % (number, side, node) if number else str(value)
+
+
 class Tally:
     def __init__(self):
         self.kinds = collections.Counter()
-        self.ranges = self.ours = self.session = self.wrong = 0
+        self.ranges = self.session = self.by_rows = self.wrong = 0
+        self.ours = [0] * len(QUESTIONS)
+        self.refused = collections.Counter()
         self.long = collections.Counter()
+        self.differences, self.past = 0, collections.Counter()
 
     def disagreement(self, what, case):
         self.wrong += 1
         if self.wrong <= 10:
             print("DISAGREEMENT: %s\n  %s" % (what, case.line()))
 
-    def add(self, kind, case, given, reply):
-        """`given` maps each program to its line; `reply` is the session's, or None."""
-        number, _, node, value = case.model()
+    def hold(self, who, said, meant, case):
+        """What one side says, a word for each question, to what the model says."""
+        if len(said) != len(meant):
+            return self.disagreement("%s says %s, and is asked %d questions" % (who, " ".join(said), len(meant)), case)
+        for question, one, other in zip(QUESTIONS, said, meant):
+            if one != other:
+                self.disagreement("%s: the model says %s, %s %s" % (question, other, who, one), case)
+
+    def add(self, kind, case, first, given, reply):
+        """`first` is the model's first unequal row; `given` maps each program to its line; `reply` is the session's, or None."""
+        number, _, node, value = answer = case.model()
         if number:
             return self.disagreement("the model refuses a pair that the generator means to be accepted: %d, node %d" % (number, node), case)
+        ranged = answer if case.range else case.range_model()
+        if first[:3] != ranged[:3] or not first[0] and (first[3] == 0) != ranged[3]:
+            self.disagreement("the model says %s of the range, and %s is its first unequal row" % (word(ranged), word(first)), case)
+        self.count(kind, case, value, first)
+        rust = [str(value)] + [word(ranged), word(first)] * (not first[0])
+        ours = ["-" if case.range else str(value), word(ranged), word(first)]
+        for program, line in given.items():
+            words = line.split()
+            if program == BOTH:
+                self.hold("the library", words[: len(QUESTIONS)], ours, case)
+                self.ours = [asked + (one != "-") for asked, one in zip(self.ours, words)]
+                words = words[len(QUESTIONS) :]
+            self.hold("the Rust (%s)" % program, words, rust, case)
+        if reply is not None:
+            self.session += 1
+            self.hold("the session", [reply], ["00%02x" % value], case)
+
+    def count(self, kind, case, value, first):
         self.kinds[kind, value] += 1
         self.ranges += case.range is not None
         self.long.update(least for least in LONG if case.rows() >= least)
-        for program, line in given.items():
-            ours, _, rust = line.rpartition(" ")
-            if rust != str(value):
-                self.disagreement("the model says %d, the Rust (%s) %s" % (value, program, ("no", "yes", "panics", "does not read it")[int(rust)]), case)
-            if ours not in ("", "-"):
-                self.ours += 1
-                if ours != str(value):
-                    self.disagreement("the model says %d, the library %s" % (value, ours), case)
-        if reply is not None:
-            self.session += 1
-            if reply != "00%02x" % value:
-                self.disagreement("the model says %d, the session %s" % (value, reply), case)
+        if first[0]:
+            self.refused[first[0]] += 1
+            return
+        self.by_rows += 1
+        self.differences += first[3] > 0
+        self.past.update(row for row in PAST if first[3] > row + 1)
+
+    def report(self):
+        for kind in KINDS:
+            print("  %-24s %8d yes %8d no" % (kind, self.kinds[kind, 1], self.kinds[kind, 0]))
+        print("  " + ", ".join("%d of %d rows and more" % (self.long[least], least) for least in LONG))
+        print("  %d of them ranges; the Rust was asked row by row about %d pairs; by 20 are refused %d, by 21 %d" % (self.ranges, self.by_rows, self.refused[20], self.refused[21]))
+        print("  %d have a first unequal row, %s" % (self.differences, ", ".join("%d past row %d" % (self.past[row], row) for row in PAST)))
+        print("  the library was asked about %d whole tables, %d ranges and %d first unequal rows, the session about %d ranges" % (*self.ours, self.session))
 
 
 def main():
     pairs, seed = int(sys.argv[1]), int(sys.argv[2])
     cases.VERY_LONG, columns.TEXT_LENGTHS = VERY_LONG, TEXT_LENGTHS
     programs = ["release/beside", "checked/beside"]
-    if os.path.exists(os.path.join(BUILT, "release", "both")):
-        programs.append("release/both")
+    if os.path.exists(os.path.join(BUILT, BOTH)):
+        programs.append(BOTH)
     session = os.path.exists(SESSION)
     asked = ["the model"] + programs + ["editions"] * session
     print("%d pairs, seed %d, in batches of %d; asked: %s" % (pairs, seed, BATCH, ", ".join(asked)), flush=True)
     tally, started = Tally(), time.time()
     for number in range(0, pairs, BATCH):
         made = batch(seed, number // BATCH, min(BATCH, pairs - number))
-        given = {program: answers(program, made) for program in programs}
+        firsts = [case.first_model() for case in made]
+        given = {program: answers(program, made, [first[0] == 0 for first in firsts]) for program in programs}
         replies = session_answers(made) if session else [None] * len(made)
         for k, case in enumerate(made):
-            tally.add(KINDS[k // CODES % len(KINDS)], case, {program: given[program][k] for program in programs}, replies[k])
+            tally.add(KINDS[k // CODES % len(KINDS)], case, firsts[k], {program: given[program][k] for program in programs}, replies[k])
         if (number + BATCH) % (5 * BATCH) == 0:
             print("  %d asked, %d disagreements" % (number + len(made), tally.wrong), flush=True)
-    for kind in KINDS:
-        print("  %-24s %8d yes %8d no" % (kind, tally.kinds[kind, 1], tally.kinds[kind, 0]))
-    print("  " + ", ".join("%d of %d rows and more" % (tally.long[least], least) for least in LONG))
-    print("  %d of them ranges; the library was asked %d times, the session %d; %.0f seconds" % (tally.ranges, tally.ours, tally.session, time.time() - started))
+    tally.report()
+    print("  %.0f seconds" % (time.time() - started))
     print("%d disagreements" % tally.wrong)
     return 1 if tally.wrong else 0
 

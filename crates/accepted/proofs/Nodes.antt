@@ -72,15 +72,19 @@ module _ {s : List ℕ} {k j n : ℕ} (r : Part s k j n) where
       let e : (j + (n + 1)) * elementWidth s k ≡ j * elementWidth s k + (n + 1) * elementWidth s k = add-mul j (n + 1) (elementWidth s k) in
       omega arith
 
-  -- element h of the part, as a part
-  pub part-at : (h : ℕ) → h < n → Part s k (j + h) 1
-  part-at h lt = record {
+  -- m elements of the part from element h on, as a part
+  pub part-inside : (h m : ℕ) → h + m ≤ n → Part s k (j + h) m
+  part-inside h m le = record {
     image = r .image;
     node = r .node;
     low = omega (arith, r .low);
     high = omega (arith, r .high);
     not-null = λ i from below. r .not-null i (omega arith) (omega arith);
   }
+
+  -- element h of the part
+  pub part-at : (h : ℕ) → h < n → Part s k (j + h) 1
+  part-at h lt = part-inside h 1 (omega arith)
 
 -- what holds of the element of each row that is not null holds of an element of a part
 pub part-row : {s : List ℕ} {k j : ℕ} → Part s k j 1 → (P : ℕ → Type 0) → ((i : ℕ) → i < lengthOf s k → valid s k i ≡ true → P (offsetOf s k + i)) → P j

@@ -10,7 +10,7 @@ use Rattle.image.specs.declared.answer.Checked.the-variants.{Accepted, Refused}
 use Rattle.image.specs.Record.{lengthOf}
 use Rattle.image.specs.Faults.{checkImage}
 use Rattle.image.specs.Types.{typesAgree}
-use Rattle.image.specs.Equality.{rangesEqual, tablesEqual}
+use Rattle.image.specs.Equality.{rangesEqual, tablesEqual, firstDifference}
 use Rattle.image.specs.RowBytes.{rangeBytes}
 use Rattle.answers.specs.declared.Paired.{Paired}
 use Rattle.answers.specs.declared.Paired.the-variants.{Agreed, Refused as PairRefused, UnequalTypes as PairUnequal}
@@ -18,6 +18,8 @@ use Rattle.answers.specs.declared.Bounds.{Bounds}
 use Rattle.answers.specs.declared.Bounds.the-variants.{Within, OutOfRange as BoundsOut}
 use Rattle.answers.specs.declared.Compared.{Compared}
 use Rattle.answers.specs.declared.Compared.the-variants.{Yes, No, Refused as CompareRefused, UnequalTypes, OutOfRange}
+use Rattle.answers.specs.declared.Difference.{Difference}
+use Rattle.answers.specs.declared.Difference.the-variants.{Nowhere, At, Refused as DifferenceRefused, UnequalTypes as DifferenceUnequal, OutOfRange as DifferenceOut}
 use Rattle.answers.specs.declared.Written.{Written}
 use Rattle.answers.specs.declared.Written.the-variants.{Bytes, Refused as WriteRefused, OutOfRange as WriteOutOfRange, TooLong}
 
@@ -72,6 +74,25 @@ compareRangeAnswer s t i j n =
     let equal = rangesEqual s t i j n in
     let bounded = boundedAnswer (boundsOf s t i j n) equal in
     pairedAnswer (pairedOf s t) bounded
+
+-- The first unequal row: "refused as range comparison is"; then the row, "or says none" where it would be past the range.
+abbrev pub differsAt : ℕ → ℕ → Difference
+differsAt n row = cond (ltb row n) (At row) Nowhere
+
+abbrev pub boundedDifference : Bounds → Difference → Difference
+boundedDifference (BoundsOut side) d = DifferenceOut side
+boundedDifference Within d = d
+
+abbrev pub pairedDifference : Paired → Difference → Difference
+pairedDifference (PairRefused side f) d = DifferenceRefused side f
+pairedDifference PairUnequal d = DifferenceUnequal
+pairedDifference Agreed d = d
+
+unfoldable pub differenceAnswer : List ℕ → List ℕ → ℕ → ℕ → ℕ → Difference
+differenceAnswer s t i j n =
+    let row = differsAt n (firstDifference s t i j n) in
+    let bounded = boundedDifference (boundsOf s t i j n) row in
+    pairedDifference (pairedOf s t) bounded
 
 -- 43: "output longer than the buffer"
 unfoldable pub writeRange : List ℕ → ℕ → ℕ → List ℕ → Written

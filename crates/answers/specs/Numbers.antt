@@ -9,6 +9,8 @@ use Rattle.image.specs.declared.answer.Checked.{Checked}
 use Rattle.image.specs.declared.answer.Checked.the-variants.{Accepted, Refused}
 use Rattle.answers.specs.declared.Compared.{Compared}
 use Rattle.answers.specs.declared.Compared.the-variants.{Yes, No, Refused as CompareRefused, UnequalTypes, OutOfRange}
+use Rattle.answers.specs.declared.Difference.{Difference}
+use Rattle.answers.specs.declared.Difference.the-variants.{Nowhere, At, Refused as DifferenceRefused, UnequalTypes as DifferenceUnequal, OutOfRange as DifferenceOut}
 use Rattle.answers.specs.declared.Written.{Written}
 use Rattle.answers.specs.declared.Written.the-variants.{Bytes, Refused as WriteRefused, OutOfRange as WriteOutOfRange, TooLong}
 use Rattle.answers.specs.declared.numbers.Numbers.{Numbers}
@@ -38,6 +40,14 @@ comparedNumbers No = numbers 0 0 0 0
 comparedNumbers (CompareRefused side f) = faultNumbers side f
 comparedNumbers UnequalTypes = numbers 20 0 0 0
 comparedNumbers (OutOfRange side) = numbers 21 (sideNumber side) 0 0
+
+-- the value of a search for the first unequal row is 0 where there is none, else one more than the row
+abbrev pub differenceNumbers : Difference → Numbers
+differenceNumbers Nowhere = numbers 0 0 0 0
+differenceNumbers (At row) = numbers 0 0 0 (row + 1)
+differenceNumbers (DifferenceRefused side f) = faultNumbers side f
+differenceNumbers DifferenceUnequal = numbers 20 0 0 0
+differenceNumbers (DifferenceOut side) = numbers 21 (sideNumber side) 0 0
 
 -- the value of a write is how many bytes it put out
 abbrev pub writtenNumbers : Written → Numbers

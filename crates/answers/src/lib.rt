@@ -33,6 +33,20 @@ pub enum Compared {
     OutOfRange(Side),
 }
 
+// The answer of a search for the first unequal row of two ranges.
+pub enum Difference {
+    // all rows are equal
+    Nowhere,
+    // the first unequal row, counted from 0 at the start of the range
+    At(usize),
+    // 10 to 18
+    Refused(Side, Fault),
+    // 20: ranges of rows whose types differ
+    UnequalTypes,
+    // 21: start + count exceeds the length
+    OutOfRange(Side),
+}
+
 // The answer of a writer of rows.
 pub enum Written {
     // so many bytes stand at the front of the buffer

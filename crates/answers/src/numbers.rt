@@ -1,12 +1,13 @@
 // The numbers of an answer, and these as one number of 64 bits.
 use crate::Compared;
+use crate::Difference;
 use crate::Written;
 use image::answer::Checked;
 use image::answer::Fault;
 use image::answer::Side;
 ghost use mathlib.Core.Path.{_≡_};
 ghost use Prim.Native.Nat.{_<_, _^_};
-ghost use Rattle.answers.specs.Numbers.{sideNumber, numbers, faultNumbers, checkedNumbers, comparedNumbers, writtenNumbers, packed};
+ghost use Rattle.answers.specs.Numbers.{sideNumber, numbers, faultNumbers, checkedNumbers, comparedNumbers, differenceNumbers, writtenNumbers, packed};
 
 // 0 or the refusal's number; the side, 0 left and 1 right; the node; the value. What an answer does not have is 0.
 pub struct Numbers {
@@ -68,6 +69,19 @@ pub fn compared_numbers(answer: Compared) -> Numbers
         Compared::Refused(side, fault) => fault_numbers(fault, side),
         Compared::UnequalTypes => numbers_of(20, 0, 0, 0),
         Compared::OutOfRange(side) => numbers_of(21, side_number(side), 0, 0),
+    }
+}
+
+pub fn difference_numbers(answer: Difference) -> Numbers
+    requires { ⌜ differenceNumbers answer .value < 2 ^ 56 ⌝ }
+    ensures { λ r. ⌜ r ≡ differenceNumbers answer ⌝ }
+{
+    match answer {
+        Difference::Nowhere => numbers_of(0, 0, 0, 0),
+        Difference::At(row) => numbers_of(0, 0, 0, row + 1),
+        Difference::Refused(side, fault) => fault_numbers(fault, side),
+        Difference::UnequalTypes => numbers_of(20, 0, 0, 0),
+        Difference::OutOfRange(side) => numbers_of(21, side_number(side), 0, 0),
     }
 }
 

@@ -111,7 +111,7 @@ module _ (s t : List ℕ) (i j n : ℕ) where
   unfolding boundsOf
   bounds-within e f = rw (e, f)
 
-  both-within : boundsOf s t i j n ≡ Within → (exceeds s i n ≡ false) × (exceeds t j n ≡ false)
+  pub both-within : boundsOf s t i j n ≡ Within → (exceeds s i n ≡ false) × (exceeds t j n ≡ false)
   unfolding boundsOf
   both-within = cases (exceeds s i n) (exceeds t j n)
     where

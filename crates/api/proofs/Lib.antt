@@ -3,3 +3,4 @@ pub mod Writes
 pub mod RefusedWrites
 pub mod Demand2
 pub mod Demand3
+pub mod Difference

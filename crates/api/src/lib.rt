@@ -1,7 +1,8 @@
-// The public calls: check an image, compare two tables, compare ranges of their rows, write rows. Each checks its images
-// itself.
+// The public calls: check an image, compare two tables, compare ranges of their rows, find the first row in which ranges
+// differ, write rows. Each checks its images itself.
 use answers::Bounds;
 use answers::Compared;
+use answers::Difference;
 use answers::Paired;
 use answers::Written;
 use equal::equal_range;
@@ -17,10 +18,10 @@ use values::types::types_equal;
 use values::utils::base_equal;
 ghost use mathlib.Core.Path.{_≡_};
 ghost use Rattle.image.specs.declared.answer.Checked.the-variants.{Accepted};
-ghost use Rattle.image.specs.Equality.{tablesEqual, rangesEqual};
+ghost use Rattle.image.specs.Equality.{tablesEqual, rangesEqual, firstDifference};
 ghost use Rattle.image.specs.Faults.{checkImage};
 ghost use Rattle.answers.specs.declared.Paired.the-variants.{Agreed};
-ghost use Rattle.answers.specs.Answers.{compareAnswer, pairedOf, boundsOf, boundedAnswer, compareRangeAnswer, writeAnswer, writeOutput, exceeds, yesOrNo};
+ghost use Rattle.answers.specs.Answers.{compareAnswer, pairedOf, boundsOf, boundedAnswer, compareRangeAnswer, differsAt, boundedDifference, differenceAnswer, writeAnswer, writeOutput, exceeds, yesOrNo};
 
 // The image check.
 pub fn check(image: &[u8]) -> Checked
@@ -160,6 +161,55 @@ pub fn compare_range(
         Paired::Refused(side, fault) => Compared::Refused(side, fault),
         Paired::UnequalTypes => Compared::UnequalTypes,
         Paired::Agreed => compare_agreed(left, right, left_start, right_start, count),
+    }
+}
+
+fn differs_at(count: usize, row: usize) -> Difference
+    ensures { λ r. ⌜ r ≡ differsAt count row ⌝ }
+{
+    if row < count {
+        Difference::At(row)
+    } else {
+        Difference::Nowhere
+    }
+}
+
+// The first unequal row of ranges of two accepted tables of equal type.
+fn difference_agreed(
+    left: &[u8],
+    right: &[u8],
+    left_start: usize,
+    right_start: usize,
+    count: usize,
+) -> Difference
+    requires { ⌜ pairedOf (now left) (now right) ≡ Agreed ⌝ }
+    ensures { λ r. ⌜ r ≡ boundedDifference (boundsOf (now (left .entry)) (now (right .entry)) «left_start» «right_start» count) (differsAt count (firstDifference (now (left .entry)) (now (right .entry)) «left_start» «right_start» count)) ⌝ }
+{
+    let bounds = bounds_of(left, right, left_start, right_start, count);
+    match bounds {
+        Bounds::OutOfRange(side) => Difference::OutOfRange(side),
+        Bounds::Within => differs_at(
+            count,
+            difference::first_difference(left, right, left_start, right_start, count),
+        ),
+    }
+}
+
+// The first of `count` rows of two tables from their starts on that is not equal.
+pub fn first_difference(
+    left: &[u8],
+    right: &[u8],
+    left_start: usize,
+    right_start: usize,
+    count: usize,
+) -> Difference
+    ensures { λ r. ⌜ r ≡ differenceAnswer (now (left .entry)) (now (right .entry)) «left_start» «right_start» count ⌝ }
+{
+    let both = paired(left, right);
+    match both {
+        Paired::Refused(side, fault) => Difference::Refused(side, fault),
+        Paired::UnequalTypes => Difference::UnequalTypes,
+        Paired::Agreed => difference_agreed(left, right, left_start, right_start, count),
     }
 }
 

@@ -1,4 +1,4 @@
--- Cases P1 to P10 hold: each call of the table has the answer that stands beside it.
+-- Cases P1 to P10 and those of the first unequal row hold: each call of the table has the answer that stands beside it.
 -- One test over the whole table is computed; the test of two lists is their equality, which gives each case.
 use mathlib.Core.Path.{_≡_, refl, sym, subst}
 use mathlib.Core.Bool.{Bool, true, _&&_, false≢true}
@@ -58,7 +58,8 @@ unfolding passes
     Calls.told Calls.answer
     Cases.session Cases.sessionLeft Cases.sessionRight Cases.listOf Cases.runsOf Cases.dictionaryOf Cases.floatOf
     Cases.mapOf Cases.mapAtRoot Cases.mapInList Cases.binaryOf Cases.under Cases.depthOf Cases.p1 Cases.p2 Cases.p3
-    Cases.p4 Cases.p5 Cases.p6 Cases.p7 Cases.p8 Cases.p9 Cases.p10 Cases.cases
+    Cases.p4 Cases.p5 Cases.p6 Cases.p7 Cases.p8 Cases.p9 Cases.p10 Cases.runsLeft Cases.runsRight Cases.differences
+    Cases.cases
     Ranges.any Ranges.every Ranges.first Ranges.sumTo Ranges.rises
     Bytes.numberAt Bytes.numberBytes Bytes.bitAt Bytes.bytesAt
     Record.recordPlace Record.entryPlace Record.tablesEnd Record.nullable Record.hasBitmap Record.elementsOf
@@ -75,13 +76,13 @@ unfolding passes
     Types.sameBytes Types.nameOf Types.ordinaryCounts Types.labelsAgree Types.headsAgree Types.typesAgreeAt Types.typesAgree
     Row.range Row.fixedRow Row.variableRow Row.listRow Row.structRow Row.dictionaryRow Row.runRow Row.rowAt
     Row.tableRows
-    Equality.rangesEqual Equality.tablesEqual Equality.rowsEqual
+    Equality.rangesEqual Equality.tablesEqual Equality.rowsEqual Equality.rowsDiffer Equality.firstDifference
     RowBytes.rangeBytes RowBytes.rowsBytes
-    Answers.compareAnswer Answers.exceeds Answers.pairedOf Answers.boundsOf Answers.compareRangeAnswer Answers.writeRange
-    Answers.writeAnswer Answers.writeOutput
+    Answers.compareAnswer Answers.exceeds Answers.pairedOf Answers.boundsOf Answers.compareRangeAnswer
+    Answers.differenceAnswer Answers.writeRange Answers.writeAnswer Answers.writeOutput
     mathlib.Core.List.flatten mathlib.Core.List.flatMap
 all-pass = refl
 
--- P1 to P10, together
+-- all of them, together
 pub cases-hold : (c : Case) → List·Memᴰ c cases → Holds c
 cases-hold = each-holds cases all-pass

@@ -2,11 +2,11 @@
 -- An answer is its number, side, node and value, as document 01 gives them, and for a write the whole buffer afterwards.
 use mathlib.Core.Path.{_≡_}
 use mathlib.Core.List.{List, [], _∷_}
-use Prim.Native.Nat.{ℕ}
+use Prim.Native.Nat.{ℕ, suc}
 use Rattle.image.specs.Faults.{checkImage}
-use Rattle.answers.specs.Answers.{compareAnswer, compareRangeAnswer, writeAnswer, writeOutput}
+use Rattle.answers.specs.Answers.{compareAnswer, compareRangeAnswer, differenceAnswer, writeAnswer, writeOutput}
 use Rattle.answers.specs.declared.numbers.Numbers.{Numbers}
-use Rattle.answers.specs.Numbers.{checkedNumbers, comparedNumbers, writtenNumbers}
+use Rattle.answers.specs.Numbers.{checkedNumbers, comparedNumbers, differenceNumbers, writtenNumbers}
 
 pub data Call : Type 0 where
   -- check an image
@@ -15,6 +15,8 @@ pub data Call : Type 0 where
   compare : List ℕ → List ℕ → Call
   -- compare rows of two images: left start, right start, count
   compareRange : List ℕ → List ℕ → ℕ → ℕ → ℕ → Call
+  -- the first of such rows that is not equal
+  difference : List ℕ → List ℕ → ℕ → ℕ → ℕ → Call
   -- write rows of an image: start, count, and what the buffer holds before
   write : List ℕ → ℕ → ℕ → List ℕ → Call
 
@@ -26,6 +28,7 @@ unfoldable pub answer : Call → List ℕ
 answer (check s) = told (checkedNumbers (checkImage s)) []
 answer (compare s t) = told (comparedNumbers (compareAnswer s t)) []
 answer (compareRange s t i j n) = told (comparedNumbers (compareRangeAnswer s t i j n)) []
+answer (difference s t i j n) = told (differenceNumbers (differenceAnswer s t i j n)) []
 answer (write s i n out) = told (writtenNumbers (writeAnswer s i n out)) (writeOutput s i n out)
 
 -- Answers by name.
@@ -37,6 +40,13 @@ equal = 0 ∷ 0 ∷ 0 ∷ 1 ∷ []
 
 abbrev pub unequal : List ℕ
 unequal = 0 ∷ 0 ∷ 0 ∷ 0 ∷ []
+
+-- no row differs; the first that does has that number
+abbrev pub nowhere : List ℕ
+nowhere = 0 ∷ 0 ∷ 0 ∷ 0 ∷ []
+
+abbrev pub atRow : ℕ → List ℕ
+atRow row = 0 ∷ 0 ∷ 0 ∷ suc row ∷ []
 
 -- refused with that number, side and node
 abbrev pub refused : ℕ → ℕ → ℕ → List ℕ

@@ -1,10 +1,10 @@
--- Cases P1 to P10 of document 01 ("Pairs from the proof desk"): their images, their calls and the answers, one table.
--- Each image is laid out from a description of its Arrow columns.
+-- Cases P1 to P10 of document 01 ("Pairs from the proof desk"), and cases of the first unequal row: their images, their calls
+-- and the answers, one table. Each image is laid out from a description of its Arrow columns.
 use mathlib.Core.List.{List, [], _∷_, _++_}
 use Prim.Native.Nat.{ℕ, zero, suc, _-_, _^_}
 use Prim.Native.String.{String}
 use Rattle.cases.specs.Build.{Column, Field, Stored, column, image, field, nullable, stored, numbers, texts, lists, masked}
-use Rattle.cases.specs.Calls.{check, compare, compareRange, write, accepted, equal, unequal, refused, written, tooLong, Case, _answers_}
+use Rattle.cases.specs.Calls.{check, compare, compareRange, difference, write, accepted, equal, unequal, nowhere, atRow, refused, written, tooLong, Case, _answers_}
 
 -- The type codes that the cases use.
 abbrev pub int8 : ℕ
@@ -181,6 +181,28 @@ p9 =
 unfoldable pub p10 : List Case
 p10 = check (depthOf 16) answers accepted ∷ check (depthOf 17) answers refused 12 0 16 ∷ []
 
+-- The row where two ranges part, "counted from 0 at the start of the range": five rows in runs, of which the last differs; a
+-- null key against a key to a null value; ranges without rows; and refusals, as P7's and of Maps that P6 finds unequal.
+unfoldable pub runsLeft : List ℕ
+runsLeft = runsOf 5 (2 ∷ 5 ∷ []) ("a" ∷ "b" ∷ [])
+
+unfoldable pub runsRight : List ℕ
+runsRight = runsOf 5 (1 ∷ 2 ∷ 4 ∷ 5 ∷ []) ("a" ∷ "a" ∷ "b" ∷ "c" ∷ [])
+
+unfoldable pub differences : List Case
+differences =
+    difference runsLeft runsRight 0 0 5 answers atRow 4
+    ∷ difference runsLeft runsRight 2 2 3 answers atRow 2
+    ∷ difference runsLeft runsRight 0 1 4 answers atRow 1
+    ∷ difference runsLeft runsRight 0 0 4 answers nowhere
+    ∷ difference (dictionaryOf (masked (0 ∷ []) (numbers 1 (0 ∷ [])))) (dictionaryOf (numbers 1 (1 ∷ []))) 0 0 1 answers atRow 0
+    ∷ difference sessionLeft sessionRight 0 0 3 answers nowhere
+    ∷ difference sessionLeft sessionRight 3 3 0 answers nowhere
+    ∷ difference sessionLeft sessionRight 4 3 0 answers refused 21 0 0
+    ∷ difference sessionLeft sessionRight 3 4 0 answers refused 21 1 0
+    ∷ difference (mapInList "key") (mapInList "keys") 0 0 0 answers refused 20 0 0
+    ∷ []
+
 -- the table
 unfoldable pub cases : List Case
-cases = p1 ++ p2 ++ p3 ++ p4 ++ p5 ++ p6 ++ p7 ++ p8 ++ p9 ++ p10
+cases = p1 ++ p2 ++ p3 ++ p4 ++ p5 ++ p6 ++ p7 ++ p8 ++ p9 ++ p10 ++ differences

@@ -1,4 +1,4 @@
--- The part of a buffer that is lent is the part that is used, and the value of every answer fits into 56 bits.
+-- The part of a buffer that is lent is the part that is used, and the value of a write fits into 56 bits.
 -- A write answers no more bytes than its buffer has.
 use mathlib.Core.Path.{_≡_, refl, sym, ap, _∙_}
 use mathlib.Core.Bool.{Bool, true, false, cond}
@@ -11,27 +11,13 @@ use lib.Dec.{ltb}
 use borrow.Author.Tests.{ltb-true, ltb-false}
 use Rattle.image.specs.declared.answer.Checked.{Checked}
 use Rattle.image.specs.declared.answer.Checked.the-variants.{Accepted, Refused}
-use Rattle.answers.specs.declared.Compared.{Compared}
-use Rattle.answers.specs.declared.Compared.the-variants.{Yes, No, Refused as CompareRefused, UnequalTypes, OutOfRange as RangeOut}
 use Rattle.answers.specs.declared.Written.{Written}
 use Rattle.answers.specs.declared.Written.the-variants.{Bytes, OutOfRange, TooLong}
 use Rattle.image.specs.Faults.{checkImage}
 use Rattle.image.specs.RowBytes.{rangeBytes}
 use Rattle.answers.specs.Answers.{exceeds, afterCheck, writeRange, writeAnswer, writeOutput}
-use Rattle.answers.specs.Numbers.{checkedNumbers, comparedNumbers, writtenNumbers}
+use Rattle.answers.specs.Numbers.{writtenNumbers}
 use Rattle.editions_c.specs.Outputs.{most, used, unused}
-
--- the values of checks and comparisons
-pub checked-small : (answer : Checked) → checkedNumbers answer .value < 2 ^ 56
-checked-small Accepted = omega arith
-checked-small (Refused f) = omega arith
-
-pub compared-small : (answer : Compared) → comparedNumbers answer .value < 2 ^ 56
-compared-small Yes = omega arith
-compared-small No = omega arith
-compared-small (CompareRefused side f) = omega arith
-compared-small UnequalTypes = omega arith
-compared-small (RangeOut side) = omega arith
 
 -- the value of a write into a buffer of less than 2 ^ 56 bytes
 answer-small : (s : List ℕ) (i n : ℕ) (out : List ℕ) {r : Written} → r ≡ writeAnswer s i n out → length out < 2 ^ 56 → writtenNumbers r .value < 2 ^ 56

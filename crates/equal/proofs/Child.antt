@@ -11,11 +11,15 @@ use Rattle.image.specs.TypeCode.{layoutOf, childRule}
 use Rattle.image.specs.Element.{elementWidth}
 use Rattle.laws.proofs.Alike.{same-width}
 use Rattle.values.specs.Parts.{Sides, Parts}
-use Rattle.accepted.proofs.Nodes.{child-node, part-node}
+use Rattle.accepted.proofs.Nodes.{child-node, part-node, part-inside}
 
 module _ {a b : List ℕ} {k l i j n d : ℕ} (r : Parts a b k l i j n d) where
   pub layout-right : {x : Layout} → layoutOf (codeOf a k) ≡ x → layoutOf (codeOf b l) ≡ x
   layout-right e = sym (ap layoutOf (r .alike .0 .code)) ∙ e
+
+  -- m elements of each from element h on
+  pub parts-inside : (h m : ℕ) → h + m ≤ n → Parts a b k l (i + h) (j + h) m d
+  parts-inside h m le = record { left = part-inside (r .left) h m le; right = part-inside (r .right) h m le; alike = r .alike }
 
   pub widths-same : elementWidth a k ≡ elementWidth b l
   widths-same = same-width a b k l (r .alike .0 .code) (r .alike .0 .p1)

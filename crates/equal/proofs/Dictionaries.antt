@@ -15,10 +15,9 @@ use Rattle.image.specs.Element.{elementWidth, elementAt}
 use Rattle.image.specs.Reads.{Read}
 use Rattle.image.specs.Row.{Row, range, dictionaryRow, rowAt}
 use Rattle.image.specs.Equality.{rowEqual}
-use Rattle.values.specs.Pairs.{rangeEqual}
+use Rattle.values.specs.Pairs.{sameRow, rangeEqual}
 use Rattle.accepted.specs.Parts.{Side}
 use Rattle.values.specs.Parts.{Sides, Parts}
-use Rattle.values.proofs.Steps.{sameRow}
 use Rattle.accepted.proofs.Nodes.{part-node, part-at, length-small}
 use Rattle.accepted.proofs.ChildRows.{key-below}
 use Rattle.equal.proofs.Rows.{one-row}

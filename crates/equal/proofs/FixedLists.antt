@@ -11,9 +11,9 @@ use Rattle.image.specs.TypeCode.{layoutOf}
 use Rattle.image.specs.Reads.{Read}
 use Rattle.image.specs.Row.{Row, fixedListRow, rowAt}
 use Rattle.image.specs.Equality.{rowEqual}
-use Rattle.values.specs.Pairs.{all, rangeEqual}
+use Rattle.values.specs.Pairs.{all, sameRow, rangeEqual}
 use Rattle.values.specs.Parts.{Sides, Parts}
-use Rattle.values.proofs.Steps.{sameRow, by-rows}
+use Rattle.values.proofs.Steps.{by-rows}
 use Rattle.values.proofs.Blocks.{blocks}
 use Rattle.values.proofs.Fixed.{times, next, whole}
 use Rattle.accepted.proofs.ChildRows.{fixed-list-within, fixed-list-small}

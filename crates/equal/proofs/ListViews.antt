@@ -12,9 +12,8 @@ use Rattle.image.specs.Element.{elementWidth, elementAt, sizeAt}
 use Rattle.image.specs.Reads.{Read}
 use Rattle.image.specs.Row.{Row, listViewRow, rowAt}
 use Rattle.image.specs.Equality.{rowEqual}
-use Rattle.values.specs.Pairs.{rangeEqual}
+use Rattle.values.specs.Pairs.{sameRow, rangeEqual}
 use Rattle.values.specs.Parts.{Sides, Parts}
-use Rattle.values.proofs.Steps.{sameRow}
 use Rattle.accepted.proofs.Nodes.{part-node}
 use Rattle.equal.proofs.Rows.{lengths-differ}
 use Rattle.equal.proofs.Child.{layout-right, count-left, first-sides}

@@ -17,9 +17,9 @@ use Rattle.image.specs.Reads.{Read}
 use Rattle.image.specs.Row.{Row, listRow, rowAt}
 use Rattle.image.specs.Equality.{rowEqual}
 use Rattle.laws.proofs.Codes.{list-offset-width}
-use Rattle.values.specs.Pairs.{all, rangeEqual, spanAt, sameSpan}
+use Rattle.values.specs.Pairs.{all, sameRow, rangeEqual, spanAt, sameSpan}
 use Rattle.values.specs.Parts.{Sides, Parts, Spans}
-use Rattle.values.proofs.Steps.{sameRow, by-rows}
+use Rattle.values.proofs.Steps.{by-rows}
 use Rattle.values.proofs.Blocks.{all-at, all-weaker, Rise, blocks}
 use Rattle.accepted.proofs.Nodes.{part-node, part-small, part-offsets}
 use Rattle.equal.proofs.Rows.{lengths-differ}

@@ -17,9 +17,9 @@ use Rattle.image.specs.Row.{Row, null, range, masked, booleanRow, fixedRow, var
 use Rattle.image.specs.Equality.{rowEqual}
 use Rattle.image.proofs.Ranges.{every-at, range-same}
 use Rattle.values.specs.Bits.{Leading}
-use Rattle.values.specs.Pairs.{all, rangeEqual, sameMask, maskedRow}
+use Rattle.values.specs.Pairs.{all, sameRow, rangeEqual, sameMask, maskedRow}
 use Rattle.values.specs.Parts.{Sides, Parts, Masked}
-use Rattle.values.proofs.Steps.{sameRow, by-rows, all-moved}
+use Rattle.values.proofs.Steps.{by-rows, all-moved}
 use Rattle.values.proofs.Blocks.{all-at, all-weaker}
 use Rattle.accepted.proofs.Nodes.{side-small}
 use Rattle.equal.proofs.Rows.{RowsLeft, rows-more, rows-jump, rows-jump-fail}

@@ -1,12 +1,12 @@
 -- Ranges of rows: one row, ranges of unequal lengths, tests moved to other places, and what the loops over rows keep.
 -- Each is by induction over the count, or a loop law read through the rule that a range is equal where all its pairs are.
-use mathlib.Core.Path.{_≡_, refl, ap, _∙_}
+use mathlib.Core.Path.{_≡_, refl, sym, ap, _∙_}
 use mathlib.Core.Bool.{Bool, true, false, _&&_}
 use Prim.Native.Nat.{ℕ, zero, suc, _+_, _-_, _<_, _≤_}
 use Rattle.image.specs.Row.{Row, range}
 use Rattle.image.specs.Equality.{rowEqual, rowsEqual}
-use Rattle.values.specs.Pairs.{rangeEqual}
-use Rattle.values.proofs.Steps.{Left, left-none, left-more, left-fails, left-done, left-jump, jump-fails, sameRow, by-rows}
+use Rattle.values.specs.Pairs.{sameRow, rangeEqual}
+use Rattle.values.proofs.Steps.{Left, left-none, left-more, left-fails, left-done, left-rest, left-jump, jump-fails, by-rows}
 
 -- one row
 pub one-row : (g h : ℕ → Row) (i j : ℕ) → rangeEqual g h i j 1 ≡ sameRow g h i j
@@ -48,6 +48,10 @@ module _ {g h : ℕ → Row} {i j n k : ℕ} (r : RowsLeft g h i j n k) where
   -- all rows are passed
   pub rows-done : n ≤ k → true ≡ rangeEqual g h i j n
   rows-done le = left-done (sameRow g h) i j n k le (r .pairs) ∙ by-rows g h i j n
+
+  -- the rows that are left are the answer
+  pub rows-rest : {x : Bool} → x ≡ rangeEqual g h (i + k) (j + k) (n - k) → x ≡ rangeEqual g h i j n
+  rows-rest e = left-rest (sameRow g h) i j n k (r .pairs) (e ∙ sym (by-rows g h (i + k) (j + k) (n - k))) ∙ by-rows g h i j n
 
   -- the m rows from row k on are equal, or not
   pub rows-jump : (m : ℕ) → m ≤ n - k → rangeEqual g h (i + k) (j + k) m ≡ true → RowsLeft g h i j n (k + m)

@@ -16,12 +16,12 @@ use Rattle.image.specs.Reads.{Read}
 use Rattle.image.specs.Row.{Row, range, runRow, rowAt}
 use Rattle.image.specs.Equality.{rowEqual}
 use Rattle.laws.specs.Accepted.{RunsCover}
-use Rattle.values.specs.Pairs.{all, rangeEqual}
+use Rattle.values.specs.Pairs.{all, sameRow, rangeEqual}
 use Rattle.accepted.specs.Parts.{Part, Side, RunPart}
 use Rattle.values.specs.Parts.{Sides, Parts, RunParts, Together}
 use Rattle.accepted.proofs.Nodes.{part-node, part-at}
 use Rattle.accepted.proofs.RunEnds.{ends-before, run-is, ends-rise, run-first, runs-few}
-use Rattle.values.proofs.Steps.{left-none, left-fails, all-split, sameRow, by-rows, all-by}
+use Rattle.values.proofs.Steps.{left-none, left-fails, all-split, by-rows, all-by}
 use Rattle.equal.proofs.Rows.{one-row, RowsLeft, rows-jump, rows-fail}
 use Rattle.equal.proofs.Child.{layout-right, count-left, child-sides}
 

@@ -22,10 +22,10 @@ use Rattle.image.specs.Equality.{rowEqual}
 use Rattle.image.proofs.Ranges.{first-from}
 use Rattle.laws.specs.Accepted.{IdKnown}
 use Rattle.laws.proofs.Codes.{dense-code, sparse-code}
-use Rattle.values.specs.Pairs.{rangeEqual, sameByte}
+use Rattle.values.specs.Pairs.{sameRow, rangeEqual, sameByte}
 use Rattle.values.specs.Parts.{Sides, Parts}
 use Rattle.accepted.specs.Parts.{Part}
-use Rattle.values.proofs.Steps.{sameRow, by-rows, by-bytes, all-by}
+use Rattle.values.proofs.Steps.{by-rows, by-bytes, all-by}
 use Rattle.values.proofs.Blocks.{all-at}
 use Rattle.accepted.proofs.Nodes.{part-at, part-node}
 use Rattle.accepted.proofs.ChildRows.{dense-known, dense-within, sparse-known, sparse-within}

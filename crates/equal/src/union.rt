@@ -16,7 +16,9 @@ ghost use Rattle.image.specs.Row.{denseRow, sparseRow, rowAt};
 ghost use Rattle.values.specs.Pairs.{rangeEqual};
 ghost use Rattle.values.specs.Parts.{Parts};
 
-// Ranges of so many rows are first compared as whole children.
+// So many rows of a sparse union are at most compared as whole children at once, and so many at least.
+const BLOCK: usize = 4096;
+
 const SEVERAL: usize = 8;
 
 // Dense unions: the type ids, and the row of the child that each id names, at its offset.
@@ -57,9 +59,9 @@ pub fn equal_dense(
     true
 }
 
-// Sparse unions: the type ids, and the row of the child that each id names; the other children do not count. Where all rows
-// of all children are equal, those are. A single row is not tried so, which bounds what unions in unions cost.
-pub fn equal_sparse(
+// A block of a sparse union: the type ids, and the row of the child that each id names; the other children do not count.
+// Where all rows of all children are equal, those are. A single row is not tried so, which bounds what unions in unions cost.
+fn equal_block(
     a: &[u8],
     an: u32,
     b: &[u8],
@@ -97,4 +99,29 @@ pub fn equal_sparse(
         k += 1;
     }
     true
+}
+
+// Sparse unions, block by block: only a block whose children are not all equal is compared row by row.
+pub fn equal_sparse(
+    a: &[u8],
+    an: u32,
+    b: &[u8],
+    bn: u32,
+    s: usize,
+    t: usize,
+    n: usize,
+    depth: usize,
+) -> bool
+    requires { ⌜ Parts (now a) (now b) an bn s t n depth ⌝ }
+    requires { ⌜ layoutOf (codeOf (now a) an) ≡ SparseUnion ⌝ }
+    ensures { λ r. ⌜ r ≡ rangeEqual (sparseRow (rowAt depth (now (a .entry))) (now (a .entry)) an) (sparseRow (rowAt depth (now (b .entry))) (now (b .entry)) bn) s t n ⌝ }
+{
+    let mut k: usize = 0;
+    while BLOCK < n - k {
+        if !equal_block(a, an, b, bn, s + k, t + k, BLOCK, depth) {
+            return false;
+        }
+        k += BLOCK;
+    }
+    equal_block(a, an, b, bn, s + k, t + k, n - k, depth)
 }

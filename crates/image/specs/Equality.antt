@@ -1,11 +1,12 @@
 -- When rows, ranges of rows and tables are equal: by nullness and value down through all children, and not by bytes.
-use mathlib.Core.Bool.{Bool, true, false, _&&_}
+use mathlib.Core.Bool.{Bool, true, false, not, _&&_}
 use mathlib.Core.List.{List}
-use Prim.Native.Nat.{ℕ}
+use Prim.Native.Nat.{ℕ, _+_}
 use lib.Dec.{eqb}
-use Rattle.image.specs.Record.{lengthOf}
+use Rattle.image.specs.Ranges.{first}
+use Rattle.image.specs.Record.{maxDepth, lengthOf}
 use Rattle.image.specs.Types.{sameBytes, typesAgree}
-use Rattle.image.specs.Row.{Row, Rows, null, fixed, sized, joined, counted, tagged, none, more, tableRows}
+use Rattle.image.specs.Row.{Row, Rows, null, fixed, sized, joined, counted, tagged, none, more, rowAt, tableRows}
 
 unfoldable mutual
   -- two rows are the same
@@ -61,3 +62,12 @@ rangesEqual s t i j n = rowsEqual (tableRows s i n) (tableRows t j n)
 -- two accepted tables are equal: types and lengths agree, where unequal ones are turned "into no", and all rows in turn
 unfoldable pub tablesEqual : List ℕ → List ℕ → Bool
 tablesEqual s t = typesAgree s t && eqb (lengthOf s 0) (lengthOf t 0) && rangesEqual s t 0 0 (lengthOf s 0)
+
+-- rows i + k of s and j + k of t are not equal
+unfoldable pub rowsDiffer : List ℕ → List ℕ → ℕ → ℕ → ℕ → Bool
+rowsDiffer s t i j k = not (rowEqual (rowAt maxDepth s 0 (i + k)) (rowAt maxDepth t 0 (j + k)))
+
+-- of n rows of s from i on and of t from j on, "the number, counted from 0 at the start of the range, of the first unequal
+-- row", or n where there is none
+unfoldable pub firstDifference : List ℕ → List ℕ → ℕ → ℕ → ℕ → ℕ
+firstDifference s t i j n = first (rowsDiffer s t i j) 0 n

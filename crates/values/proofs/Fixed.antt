@@ -14,10 +14,10 @@ use Rattle.image.specs.Types.{sameBytes}
 use Rattle.image.specs.Row.{fixedRow}
 use Rattle.image.specs.Equality.{rowEqual}
 use Rattle.laws.proofs.Alike.{same-width}
-use Rattle.values.specs.Pairs.{all, rangeEqual, sameByte}
+use Rattle.values.specs.Pairs.{all, sameRow, rangeEqual, sameByte}
 use Rattle.accepted.specs.Parts.{Spanned}
 use Rattle.values.specs.Parts.{Parts, Masked, Fixed}
-use Rattle.values.proofs.Steps.{sameRow, by-rows, by-bytes}
+use Rattle.values.proofs.Steps.{by-rows, by-bytes}
 use Rattle.values.proofs.Blocks.{blocks}
 
 -- element h of w bytes starts at h * w

@@ -1,5 +1,6 @@
 pub mod Blocks
 pub mod Distances
+pub mod FirstUnequal
 pub mod Fixed
 pub mod Leads
 pub mod LeafRows

@@ -12,9 +12,9 @@ use Rattle.image.specs.Element.{valid}
 use Rattle.image.specs.Row.{Row, masked}
 use Rattle.image.specs.Equality.{rowEqual}
 use Rattle.image.proofs.Bools.{and-left, and-right, flags-same}
-use Rattle.values.specs.Pairs.{all, rangeEqual, sameMask, maskedRow}
+use Rattle.values.specs.Pairs.{all, sameRow, rangeEqual, sameMask, maskedRow}
 use Rattle.values.specs.Parts.{Parts, Masked}
-use Rattle.values.proofs.Steps.{sameRow, by-rows, all-split, all-by, all-moved}
+use Rattle.values.proofs.Steps.{by-rows, all-split, all-by, all-moved}
 use Rattle.values.proofs.Blocks.{all-at}
 
 -- pairs of a range inside another

@@ -3,22 +3,21 @@
 use mathlib.Core.Path.{_≡_, refl, sym, ap₂, _∙_}
 use mathlib.Core.Bool.{Bool, true, false, cond, Bool·beq, _&&_}
 use mathlib.Core.List.{List}
-use Prim.Native.Nat.{ℕ, zero, suc, _+_, _^_, _<_, _≤_}
+use Prim.Native.Nat.{ℕ, _+_, _^_, _<_, _≤_}
 use native.Mathlib.Omega.{arith}
 use lib.Dec.{eqb}
 use Rattle.image.specs.Bytes.{bitAt}
-use Rattle.image.specs.Ranges.{every}
 use Rattle.image.specs.Reads.{Read}
 use Rattle.image.specs.Record.{hasBitmap, bitmapPlace, firstBit, bufferPlace, elementsOf}
 use Rattle.image.specs.Element.{valid}
 use Rattle.image.specs.Types.{sameBytes}
 use Rattle.image.specs.Row.{booleanRow}
 use Rattle.image.specs.Equality.{rowEqual}
-use Rattle.image.proofs.Ranges.{every-by}
 use Rattle.values.specs.Bits.{Leading}
-use Rattle.values.specs.Pairs.{all, rangeEqual, sameBit, sameMask}
+use Rattle.values.specs.Pairs.{firstUnequal, sameRow, sameBit, sameMask}
 use Rattle.values.specs.Parts.{Parts}
-use Rattle.values.proofs.Steps.{sameRow, by-rows, all-same, all-moved}
+use Rattle.values.proofs.Steps.{all-by}
+use Rattle.values.proofs.FirstUnequal.{unequal-none, unequal-moved, leading-first}
 use Rattle.values.proofs.Leads.{leading-moved, leading-every}
 
 pub valid-none : (s : List ℕ) (k : ℕ) → hasBitmap s k ≡ false → (i : ℕ) → valid s k i ≡ true
@@ -43,15 +42,6 @@ module _ (s : List ℕ) (k i n : ℕ) {has : Bool} (e : has ≡ hasBitmap s k) w
       leading-moved (bitAt s place) (first + i) n r (valid s k) i
       (λ h. sym (valid-bit s k (sym e ∙ f) i h ∙ ap₂ (λ (x y : ℕ). bitAt s x (y + i + h)) (sym (p .value)) (sym (q .value)))) l
 
--- a test of numbers is one of pairs
-every-all : (q : ℕ → Bool) (u v n : ℕ) → every q u n ≡ all (λ x y. q x) u v n
-unfolding every all
-every-all q u v zero = refl
-every-all q u v (suc n) = rw (every-all q (suc u) (suc v) n)
-
-pub all-single : (p : ℕ → ℕ → Bool) (q : ℕ → Bool) (i j u n : ℕ) → ((k : ℕ) → q (u + k) ≡ p (i + k) (j + k)) → every q u n ≡ all p i j n
-all-single p q i j u n e = every-all q u u n ∙ all-moved (λ x y. q x) p u u i j n (λ k lt. e k)
-
 true-beq : (x : Bool) → x ≡ Bool·beq true x
 true-beq true = refl
 true-beq false = refl
@@ -60,30 +50,28 @@ beq-true : (x : Bool) → x ≡ Bool·beq x true
 beq-true true = refl
 beq-true false = refl
 
--- The masks of two ranges of rows agree.
+-- The first row of two ranges that is null on one side alone.
 module _ (a : List ℕ) (k : ℕ) (b : List ℕ) (l i j n : ℕ) {has hbs : Bool} (ea : has ≡ hasBitmap a k) (eb : hbs ≡ hasBitmap b l) where
   mask : (h m : ℕ) {x y : Bool} → valid a k h ≡ x → valid b l m ≡ y → Bool·beq x y ≡ sameMask a k b l h m
   unfolding sameMask
   mask h m e f = sym (ap₂ Bool·beq e f)
 
-  pub masks-none : has ≡ false → hbs ≡ false → true ≡ all (sameMask a k b l) i j n
+  pub masks-none : has ≡ false → hbs ≡ false → n ≡ firstUnequal (sameMask a k b l) i j n
   masks-none e f =
-      sym (every-by (λ m. true) 0 n (λ m le lt. refl))
-      ∙ all-single (sameMask a k b l) (λ m. true) i j 0 n (λ h. mask (i + h) (j + h) (valid-none a k (sym ea ∙ e) (i + h)) (valid-none b l (sym eb ∙ f) (j + h)))
+      unequal-none (sameMask a k b l) i j n
+      (all-by (sameMask a k b l) i j n (λ h lt. sym (mask (i + h) (j + h) (valid-none a k (sym ea ∙ e) (i + h)) (valid-none b l (sym eb ∙ f) (j + h)))))
 
-  pub masks-right : has ≡ false → hbs ≡ true → {place first : ℕ} → Read (bitmapPlace b l) 32 place → Read (firstBit b l) 32 first
-      → {r : Bool} → r ≡ every (bitAt b place) (first + j) n → r ≡ all (sameMask a k b l) i j n
+  pub masks-right : has ≡ false → hbs ≡ true → {place first r : ℕ} → Read (bitmapPlace b l) 32 place → Read (firstBit b l) 32 first
+      → Leading (bitAt b place) (first + j) n r → r ≡ firstUnequal (sameMask a k b l) i j n
   masks-right e f p q g =
-      g ∙ ap₂ (λ (x y : ℕ). every (bitAt b x) (y + j) n) (p .value) (q .value)
-      ∙ all-single (sameMask a k b l) (bitAt b (bitmapPlace b l)) i j (firstBit b l + j) n
-      (λ h. true-beq _ ∙ mask (i + h) (j + h) (valid-none a k (sym ea ∙ e) (i + h)) (valid-bit b l (sym eb ∙ f) j h))
+      leading-first (sameMask a k b l) (valid b l) i j j n
+      (λ h. true-beq _ ∙ mask (i + h) (j + h) (valid-none a k (sym ea ∙ e) (i + h)) refl) (rows-bits b l j n eb f p q g)
 
-  pub masks-left : has ≡ true → hbs ≡ false → {place first : ℕ} → Read (bitmapPlace a k) 32 place → Read (firstBit a k) 32 first
-      → {r : Bool} → r ≡ every (bitAt a place) (first + i) n → r ≡ all (sameMask a k b l) i j n
+  pub masks-left : has ≡ true → hbs ≡ false → {place first r : ℕ} → Read (bitmapPlace a k) 32 place → Read (firstBit a k) 32 first
+      → Leading (bitAt a place) (first + i) n r → r ≡ firstUnequal (sameMask a k b l) i j n
   masks-left e f p q g =
-      g ∙ ap₂ (λ (x y : ℕ). every (bitAt a x) (y + i) n) (p .value) (q .value)
-      ∙ all-single (sameMask a k b l) (bitAt a (bitmapPlace a k)) i j (firstBit a k + i) n
-      (λ h. beq-true _ ∙ mask (i + h) (j + h) (valid-bit a k (sym ea ∙ e) i h) (valid-none b l (sym eb ∙ f) (j + h)))
+      leading-first (sameMask a k b l) (valid a k) i j i n
+      (λ h. beq-true _ ∙ mask (i + h) (j + h) refl (valid-none b l (sym eb ∙ f) (j + h))) (rows-bits a k i n ea e p q g)
 
   bits : (p q h m : ℕ) → sameBit a p b q h m ≡ Bool·beq (bitAt a p h) (bitAt b q m)
   unfolding sameBit
@@ -91,11 +79,11 @@ module _ (a : List ℕ) (k : ℕ) (b : List ℕ) (l i j n : ℕ) {has hbs : Bool
 
   pub masks-both : has ≡ true → hbs ≡ true → {pa fa pb fb : ℕ} → Read (bitmapPlace a k) 32 pa → Read (firstBit a k) 32 fa
       → Read (bitmapPlace b l) 32 pb → Read (firstBit b l) 32 fb
-      → {r : Bool} → r ≡ all (sameBit a pa b pb) (fa + i) (fb + j) n → r ≡ all (sameMask a k b l) i j n
+      → {r : ℕ} → r ≡ firstUnequal (sameBit a pa b pb) (fa + i) (fb + j) n → r ≡ firstUnequal (sameMask a k b l) i j n
   masks-both e f {pa} {fa} {pb} {fb} ra sa rb sb g =
-      g ∙ ap₂ (λ (x y : ℕ). all (sameBit a x b pb) (y + i) (fb + j) n) (ra .value) (sa .value)
-      ∙ ap₂ (λ (x y : ℕ). all (sameBit a (bitmapPlace a k) b x) (firstBit a k + i) (y + j) n) (rb .value) (sb .value)
-      ∙ all-moved (sameBit a (bitmapPlace a k) b (bitmapPlace b l)) (sameMask a k b l) (firstBit a k + i) (firstBit b l + j) i j n
+      g ∙ ap₂ (λ (x y : ℕ). firstUnequal (sameBit a x b pb) (y + i) (fb + j) n) (ra .value) (sa .value)
+      ∙ ap₂ (λ (x y : ℕ). firstUnequal (sameBit a (bitmapPlace a k) b x) (firstBit a k + i) (y + j) n) (rb .value) (sb .value)
+      ∙ unequal-moved (sameBit a (bitmapPlace a k) b (bitmapPlace b l)) (sameMask a k b l) (firstBit a k + i) (firstBit b l + j) i j n
       (λ h lt. bits _ _ _ _ ∙ mask (i + h) (j + h) (valid-bit a k (sym ea ∙ e) i h) (valid-bit b l (sym eb ∙ f) j h))
 
 -- the bits of two ranges of elements are counted without overflow
@@ -117,9 +105,8 @@ boolean-pair : (a : List ℕ) (k : ℕ) (b : List ℕ) (l i j : ℕ) → sameBit
 unfolding sameBit sameRow booleanRow rowEqual sameBytes
 boolean-pair a k b l i j = boolean-bytes (bitAt a (bufferPlace a k 0) i) (bitAt b (bufferPlace b l 0) j)
 
-pub boolean-rows : (a : List ℕ) (k : ℕ) (b : List ℕ) (l i j n : ℕ) {p q : ℕ} {r : Bool} → p ≡ bufferPlace a k 0 → q ≡ bufferPlace b l 0
-    → r ≡ all (sameBit a p b q) i j n → r ≡ rangeEqual (booleanRow a k) (booleanRow b l) i j n
+pub boolean-rows : (a : List ℕ) (k : ℕ) (b : List ℕ) (l i j n : ℕ) {p q r : ℕ} → p ≡ bufferPlace a k 0 → q ≡ bufferPlace b l 0
+    → r ≡ firstUnequal (sameBit a p b q) i j n → r ≡ firstUnequal (sameRow (booleanRow a k) (booleanRow b l)) i j n
 boolean-rows a k b l i j n e f g =
-    g ∙ ap₂ (λ (x y : ℕ). all (sameBit a x b y) i j n) e f
-    ∙ all-same (sameBit a (bufferPlace a k 0) b (bufferPlace b l 0)) (sameRow (booleanRow a k) (booleanRow b l)) i j n (λ h lt. boolean-pair a k b l (i + h) (j + h))
-    ∙ by-rows (booleanRow a k) (booleanRow b l) i j n
+    g ∙ ap₂ (λ (x y : ℕ). firstUnequal (sameBit a x b y) i j n) e f
+    ∙ unequal-moved (sameBit a (bufferPlace a k 0) b (bufferPlace b l 0)) (sameRow (booleanRow a k) (booleanRow b l)) i j i j n (λ h lt. boolean-pair a k b l (i + h) (j + h))

@@ -17,10 +17,10 @@ use Rattle.image.specs.Row.{fixedRow}
 use Rattle.image.specs.Equality.{rowEqual}
 use Rattle.image.proofs.CodeTable.{agree}
 use Rattle.laws.specs.Accepted.{Node, RunEnds}
-use Rattle.values.specs.Pairs.{rangeEqual}
+use Rattle.values.specs.Pairs.{sameRow, rangeEqual}
 use Rattle.accepted.specs.Parts.{RunPart, Elements}
 use Rattle.values.specs.Parts.{RunRange, SameEnds, RunParts, Together}
-use Rattle.values.proofs.Steps.{sameRow, by-rows, by-bytes}
+use Rattle.values.proofs.Steps.{by-rows, by-bytes}
 use Rattle.values.proofs.Blocks.{all-at}
 use Rattle.values.proofs.Spans.{number-same}
 use Rattle.accepted.proofs.Nodes.{length-small, first-child-node}

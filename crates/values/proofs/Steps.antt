@@ -4,7 +4,7 @@
 use mathlib.Core.Path.{_≡_, refl, sym, ap, _∙_}
 use mathlib.Core.Bool.{Bool, true, false, _&&_}
 use mathlib.Core.List.{List}
-use Prim.Native.Nat.{ℕ, zero, suc, _+_, _*_, _-_, _<_, _≤_}
+use Prim.Native.Nat.{ℕ, zero, suc, _+_, _-_, _<_, _≤_}
 use native.Mathlib.Omega.{arith}
 use native.Mathlib.Nat.{add-zero, sub-zero}
 use borrow.Author.Tests.{eq-eqb, ne-eqb}
@@ -13,7 +13,7 @@ use Rattle.image.specs.Types.{sameBytes}
 use Rattle.image.specs.Row.{Row, range}
 use Rattle.image.specs.Equality.{rowEqual}
 use Rattle.image.proofs.Bools.{and-left}
-use Rattle.values.specs.Pairs.{all, rangeEqual, sameByte}
+use Rattle.values.specs.Pairs.{all, sameRow, rangeEqual, sameByte}
 
 -- the test of n pairs from i and j on is that of those from pair k on
 pub record Left (p : ℕ → ℕ → Bool) (i j n k : ℕ) : Type 0 where
@@ -94,14 +94,14 @@ module _ (p : ℕ → ℕ → Bool) (i j m n : ℕ) (le : m ≤ n) where
   pub front-fails : all p i j m ≡ false → false ≡ all p i j n
   front-fails e = sym (front ∙ rw e)
 
-  pub front-left : all p i j m ≡ true → Left p i j n m
-  front-left e = record { within = le; same = front ∙ rw e }
+pub and-true : (x : Bool) → x && true ≡ x
+and-true true = refl
+and-true false = refl
 
--- one word of pairs more, of m words
-pub left-word : (p : ℕ → ℕ → Bool) (i j m h : ℕ) → h < m → Left p i j (64 * m) (64 * h) → all p (i + 64 * h) (j + 64 * h) 64 ≡ true → Left p i j (64 * m) (64 * (h + 1))
-left-word p i j m h lt r e =
-    let next : 64 * (h + 1) ≡ 64 * h + 64 = omega arith in
-    rw next (left-jump p i j (64 * m) (64 * h) 64 (r .within) (omega arith) r e)
+-- one pair more at the end
+pub all-snoc : (p : ℕ → ℕ → Bool) (i j k : ℕ) → all p i j (k + 1) ≡ all p i j k && p (i + k) (j + k)
+unfolding all
+all-snoc p i j k = all-split p i j k 1 ∙ ap (λ (x : Bool). all p i j k && x) (and-true (p (i + k) (j + k)))
 
 -- the first k of n pairs pass
 pub record Passed (p : ℕ → ℕ → Bool) (i j n k : ℕ) : Type 0 where
@@ -116,6 +116,10 @@ module _ (p : ℕ → ℕ → Bool) (i j n : ℕ) where
   pub passed-more : (k m : ℕ) → m ≤ n - k → Passed p i j n k → all p (i + k) (j + k) m ≡ true → Passed p i j n (k + m)
   passed-more k m le r e = record { within = omega arith; passes = all-split p i j k m ∙ rw (r .passes) e }
 
+  -- one more
+  pub passed-one : (k : ℕ) → k < n → Passed p i j n k → p (i + k) (j + k) ≡ true → Passed p i j n (k + 1)
+  passed-one k lt r e = record { within = omega arith; passes = all-snoc p i j k ∙ rw (r .passes) e }
+
   pub passed-fails : (k m : ℕ) → m ≤ n - k → Passed p i j n k → all p (i + k) (j + k) m ≡ false → false ≡ all p i j n
   passed-fails k m le r e = front-fails p i j (k + m) n (omega arith) (all-split p i j k m ∙ rw (r .passes) e)
 
@@ -127,9 +131,6 @@ module _ (p : ℕ → ℕ → Bool) (i j n : ℕ) where
       sym (rw (e, f) at (all-split p i j (n - w) w))
 
 -- a range of rows is equal where all its pairs are
-unfoldable pub sameRow : (ℕ → Row) → (ℕ → Row) → ℕ → ℕ → Bool
-sameRow g h i j = rowEqual (g i) (h j)
-
 pub by-rows : (g h : ℕ → Row) (i j n : ℕ) → all (sameRow g h) i j n ≡ rangeEqual g h i j n
 unfolding all range rowEqual sameRow
 by-rows g h i j zero = refl
@@ -140,31 +141,6 @@ pub by-bytes : (a b : List ℕ) (i j n : ℕ) → all (sameByte a b) i j n ≡ s
 unfolding all sameByte bytesAt sameBytes
 by-bytes a b i j zero = refl
 by-bytes a b i j (suc n) = rw (by-bytes a b (suc i) (suc j) n)
-
--- tests that agree on the pairs of a range agree over it
-pub all-same : (p q : ℕ → ℕ → Bool) (i j n : ℕ) → ((k : ℕ) → k < n → p (i + k) (j + k) ≡ q (i + k) (j + k)) → all p i j n ≡ all q i j n
-unfolding all
-all-same p q i j zero e = refl
-all-same p q i j (suc n) e =
-    let x : i + 0 ≡ i = omega arith in
-    let y : j + 0 ≡ j = omega arith in
-    let here : p i j ≡ q i j = rw (x, y) at (e 0 (omega arith)) in
-    rw (
-      here,
-      all-same p q (suc i) (suc j) n (λ k lt.
-          let u : suc i + k ≡ i + suc k = omega arith in
-          let v : suc j + k ≡ j + suc k = omega arith in
-          rw (u, v) (e (suc k) (omega arith))),
-    )
-
-pub and-true : (x : Bool) → x && true ≡ x
-and-true true = refl
-and-true false = refl
-
--- one pair more at the end
-pub all-snoc : (p : ℕ → ℕ → Bool) (i j k : ℕ) → all p i j (k + 1) ≡ all p i j k && p (i + k) (j + k)
-unfolding all
-all-snoc p i j k = all-split p i j k 1 ∙ ap (λ (x : Bool). all p i j k && x) (and-true (p (i + k) (j + k)))
 
 -- two bytes that are the same, or not
 pub same-byte : (a b : List ℕ) (i j : ℕ) → byteAt a i ≡ byteAt b j → sameByte a b i j ≡ true

@@ -16,10 +16,10 @@ use Rattle.image.specs.Row.{variableRow}
 use Rattle.image.specs.Equality.{rowEqual}
 use Rattle.laws.proofs.Alike.{same-width}
 use Rattle.laws.proofs.Codes.{text-offset-width}
-use Rattle.values.specs.Pairs.{all, rangeEqual, sameByte, sameSpan, spanAt}
+use Rattle.values.specs.Pairs.{all, sameRow, rangeEqual, sameByte, sameSpan, spanAt}
 use Rattle.accepted.specs.Parts.{Part}
 use Rattle.values.specs.Parts.{Parts, Spans}
-use Rattle.values.proofs.Steps.{sameRow, by-rows, by-bytes}
+use Rattle.values.proofs.Steps.{by-rows, by-bytes}
 use Rattle.values.proofs.Blocks.{blocks, all-at, all-weaker, rise-far, equal-spans}
 use Rattle.values.proofs.Names.{other-length}
 use Rattle.accepted.proofs.Texts.{text-rises, text-offsets}

@@ -18,10 +18,10 @@ use Rattle.image.specs.Row.{masked, fixedRow}
 use Rattle.image.specs.Equality.{rowEqual}
 use Rattle.values.specs.declared.primitive.Columns.{Columns}
 use Rattle.values.specs.Bits.{bitsAt}
-use Rattle.values.specs.Pairs.{all, rangeEqual, sameByte, bitOf, validSame, maskedRow}
+use Rattle.values.specs.Pairs.{all, sameRow, rangeEqual, sameByte, bitOf, validSame, maskedRow}
 use Rattle.accepted.specs.Parts.{Side, Elements}
 use Rattle.values.specs.Parts.{Masked, ColumnsAt}
-use Rattle.values.proofs.Steps.{sameRow, by-rows, all-snoc, all-moved, and-true, passed-tail, front-fails}
+use Rattle.values.proofs.Steps.{by-rows, all-snoc, all-moved, and-true, passed-tail, front-fails}
 use Rattle.values.proofs.WordBits.{bit-of-bits}
 use Rattle.values.proofs.MaskedRows.{mask-at}
 use Rattle.accepted.proofs.Fixed.{spanned}

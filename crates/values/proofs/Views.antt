@@ -14,11 +14,11 @@ use Rattle.image.specs.Reads.{Read}
 use Rattle.image.specs.Types.{sameBytes}
 use Rattle.image.specs.Row.{viewRow}
 use Rattle.image.specs.Equality.{rowEqual}
-use Rattle.values.specs.Pairs.{sameByte, maskedRow}
+use Rattle.values.specs.Pairs.{sameRow, sameByte, maskedRow}
 use Rattle.accepted.specs.Parts.{Side, Part, Viewed, ViewBytes}
 use Rattle.values.specs.Parts.{Masked}
 use Rattle.accepted.proofs.Views.{shown-short, viewed, view-place}
-use Rattle.values.proofs.Steps.{front-passes, by-bytes, sameRow, row-test}
+use Rattle.values.proofs.Steps.{front-passes, by-bytes, row-test}
 use Rattle.values.proofs.Names.{other-length}
 use Rattle.accepted.proofs.Nodes.{side-small}
 use Rattle.accepted.proofs.Nodes.{side-part}

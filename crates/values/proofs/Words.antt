@@ -1,6 +1,6 @@
 -- Bits as a number: the bits from one on are a little-endian number shifted and cut off; two such numbers are equal where
 -- all pairs of bits are; and runs of set bits. Mostly by induction over the count; a shift within a byte by its eight cases.
-use mathlib.Core.Path.{_≡_, refl, sym, ap, ap₂, _∙_}
+use mathlib.Core.Path.{_≡_, refl, sym, ap, _∙_}
 use mathlib.Core.Bool.{Bool, true, false, cond, Bool·beq, _&&_}
 use mathlib.Core.List.{List}
 use mathlib.Core.Logic.{_⊎_, inl, inr}
@@ -122,24 +122,20 @@ first-pair true false m n = ne-eqb (1 + 2 * m) (0 + 2 * n) (λ e. omega arith)
 first-pair false true m n = ne-eqb (0 + 2 * m) (1 + 2 * n) (λ e. omega arith)
 first-pair false false m n = same-test (0 + 2 * m) (0 + 2 * n) m n (λ e. omega arith) (λ e. omega arith)
 
-pub same-words : (a : List ℕ) (p : ℕ) (b : List ℕ) (q i j n : ℕ) → eqb (bitsAt a p i n) (bitsAt b q j n) ≡ all (sameBit a p b q) i j n
+same-words : (a : List ℕ) (p : ℕ) (b : List ℕ) (q i j n : ℕ) → eqb (bitsAt a p i n) (bitsAt b q j n) ≡ all (sameBit a p b q) i j n
 unfolding bitsAt all sameBit
 same-words a p b q i j zero = refl
 same-words a p b q i j (suc n) =
     first-pair (bitAt a p i) (bitAt b q j) (bitsAt a p (suc i) n) (bitsAt b q (suc j) n)
     ∙ rw (same-words a p b q (suc i) (suc j) n)
 
-module _ (a : List ℕ) (p : ℕ) (b : List ℕ) (q i j : ℕ) {x y : ℕ} (e : x ≡ bitsAt a p i 64) (f : y ≡ bitsAt b q j 64) where
-  pub words-same : x ≡ y → all (sameBit a p b q) i j 64 ≡ true
-  words-same h = sym (same-words a p b q i j 64) ∙ is-eq e f h
+-- two numbers that were read
+module _ (a : List ℕ) (p : ℕ) (b : List ℕ) (q i j n : ℕ) {x y : ℕ} (e : x ≡ bitsAt a p i n) (f : y ≡ bitsAt b q j n) where
+  pub words-same : x ≡ y → all (sameBit a p b q) i j n ≡ true
+  words-same h = sym (same-words a p b q i j n) ∙ is-eq e f h
 
-  pub words-differ : (x ≡ y → ⊥) → all (sameBit a p b q) i j 64 ≡ false
-  words-differ h = sym (same-words a p b q i j 64) ∙ is-ne e f h
-
--- a pair of bits, by the results that stand for them
-pub same-bit : (a : List ℕ) (p : ℕ) (b : List ℕ) (q i j : ℕ) {x y t : Bool} → x ≡ bitAt a p i → y ≡ bitAt b q j → Bool·beq x y ≡ t → sameBit a p b q i j ≡ t
-unfolding sameBit
-same-bit a p b q i j e f g = sym (ap₂ Bool·beq e f) ∙ g
+  pub words-differ : (x ≡ y → ⊥) → all (sameBit a p b q) i j n ≡ false
+  words-differ h = sym (same-words a p b q i j n) ∙ is-ne e f h
 
 -- A word of set bits.
 all-ones : (x : Bool) (m e : ℕ) → suc (cond x 1 0 + 2 * m) ≡ 2 * e → (x ≡ true) × (suc m ≡ e)

@@ -4,15 +4,28 @@ use mathlib.Core.List.{List}
 use Prim.Native.Nat.{ℕ, zero, suc, _+_, _*_, _-_, _/_, _%_, _^_}
 use lib.Dec.{eqb}
 use Rattle.image.specs.Bytes.{byteAt, numberAt, bitAt}
+use Rattle.image.specs.Ranges.{first}
 use Rattle.image.specs.Element.{valid, elementAt}
 use Rattle.image.specs.Record.{offsetOf}
 use Rattle.image.specs.Row.{Row, range, masked}
-use Rattle.image.specs.Equality.{rowsEqual}
+use Rattle.image.specs.Equality.{rowEqual, rowsEqual}
 
 -- the test holds of the n pairs (i, j), (i + 1, j + 1), ..
 unfoldable pub all : (ℕ → ℕ → Bool) → ℕ → ℕ → ℕ → Bool
 all p i j zero = true
 all p i j (suc n) = p i j && all p (suc i) (suc j) n
+
+-- the pair numbered k, (i + k, j + k), fails the test
+unfoldable pub pairDiffers : (ℕ → ℕ → Bool) → ℕ → ℕ → ℕ → Bool
+pairDiffers p i j k = not (p (i + k) (j + k))
+
+-- the number of the first of the n pairs (i, j), (i + 1, j + 1), .. that fails the test, or n where none does
+unfoldable pub firstUnequal : (ℕ → ℕ → Bool) → ℕ → ℕ → ℕ → ℕ
+firstUnequal p i j n = first (pairDiffers p i j) 0 n
+
+-- rows g i and h j are equal
+unfoldable pub sameRow : (ℕ → Row) → (ℕ → Row) → ℕ → ℕ → Bool
+sameRow g h i j = rowEqual (g i) (h j)
 
 -- n rows g i, g (i + 1), .. and h j, h (j + 1), .. are equal in turn
 abbrev pub rangeEqual : (ℕ → Row) → (ℕ → Row) → ℕ → ℕ → ℕ → Bool
@@ -25,6 +38,10 @@ sameByte a b i j = eqb (byteAt a i) (byteAt b j)
 -- bit i of a number
 unfoldable pub bitOf : ℕ → ℕ → Bool
 bitOf v i = eqb (v / 2 ^ i % 2) 1
+
+-- bits i and j of two numbers
+unfoldable pub sameBitOf : ℕ → ℕ → ℕ → ℕ → Bool
+sameBitOf v w i j = Bool·beq (bitOf v i) (bitOf w j)
 
 -- elements i and j of those of w bytes that stand side by side from two places on are the same, or bit i of a number is 0
 unfoldable pub validSame : ℕ → List ℕ → List ℕ → ℕ → ℕ → ℕ → ℕ → ℕ → Bool

@@ -8,7 +8,7 @@ ghost use Prim.Native.Nat.{_+_, _*_, _/_, _<_, _≤_, _^_};
 ghost use lib.ListN.{length};
 ghost use Rattle.image.specs.Bytes.{bitAt};
 ghost use Rattle.values.specs.Bits.{bitsAt, Leading};
-ghost use Rattle.values.specs.Pairs.{all, sameBit, bitOf};
+ghost use Rattle.values.specs.Pairs.{firstUnequal, sameBit, sameBitOf, bitOf};
 
 const ALL_SET: usize = 18446744073709551615;
 
@@ -45,53 +45,99 @@ pub fn word(s: &[u8], place: usize, i: usize) -> usize
     (low >> shift) + (high << (64 - shift))
 }
 
-// Bits i, i + 1, .. at one place are bits j, j + 1, .. at another, m times 64 of them, where all lie inside.
-fn same_words(a: &[u8], p: usize, i: usize, b: &[u8], q: usize, j: usize, m: usize) -> bool
+// The number of the first of the n lowest bits in which two numbers differ, or n where they differ in none.
+fn first_apart(x: usize, y: usize, n: usize) -> usize
+    ensures { λ r. ⌜ r ≡ firstUnequal (sameBitOf x y) 0 0 n ⌝ }
+{
+    let mut left = x;
+    let mut right = y;
+    let mut bit: usize = 0;
+    while bit < n {
+        if left % 2 != right % 2 {
+            return bit;
+        }
+        left = left / 2;
+        right = right / 2;
+        bit += 1;
+    }
+    n
+}
+
+// Of the pairs of bits i and j, i + 1 and j + 1, .. at two places, m times 64 of them, the number of the first that are
+// not the same, or their count, where all lie inside.
+fn first_unequal_inside(
+    a: &[u8],
+    p: usize,
+    i: usize,
+    b: &[u8],
+    q: usize,
+    j: usize,
+    m: usize,
+) -> usize
     requires { ⌜ (p + i / 8 + 8 * m + 1 ≤ length (now a)) × (q + j / 8 + 8 * m + 1 ≤ length (now b)) × (i + 64 * m < 2 ^ 35) × (j + 64 * m < 2 ^ 35) ⌝ }
-    ensures { λ r. ⌜ r ≡ all (sameBit (now (a .entry)) p (now (b .entry)) q) i j (64 * m) ⌝ }
+    ensures { λ r. ⌜ r ≡ firstUnequal (sameBit (now (a .entry)) p (now (b .entry)) q) i j (64 * m) ⌝ }
 {
     let mut h: usize = 0;
     while h < m {
-        if word_inside(a, p, i + 64 * h) != word_inside(b, q, j + 64 * h) {
-            return false;
+        let x = word_inside(a, p, i + 64 * h);
+        let y = word_inside(b, q, j + 64 * h);
+        if x != y {
+            return 64 * h + first_apart(x, y, 64);
         }
         h += 1;
     }
-    true
+    64 * m
 }
 
-// Bits i, i + 1, .. at one place are bits j, j + 1, .. at another, n of them, fewer than a word.
-fn same_tail(a: &[u8], p: usize, i: usize, b: &[u8], q: usize, j: usize, n: usize) -> bool
+// The same of n pairs, fewer than a word, wherever they lie: two words that are cut off after n bits are compared first.
+fn first_unequal_tail(a: &[u8], p: usize, i: usize, b: &[u8], q: usize, j: usize, n: usize) -> usize
     requires { ⌜ (n < 64) × (p < 2 ^ 32) × (q < 2 ^ 32) × (i < 2 ^ 35) × (j < 2 ^ 35) ⌝ }
-    ensures { λ r. ⌜ r ≡ all (sameBit (now (a .entry)) p (now (b .entry)) q) i j n ⌝ }
+    ensures { λ r. ⌜ r ≡ firstUnequal (sameBit (now (a .entry)) p (now (b .entry)) q) i j n ⌝ }
 {
     let size: usize = 1 << n;
-    word(a, p, i) % size == word(b, q, j) % size
+    let x = word(a, p, i) % size;
+    let y = word(b, q, j) % size;
+    if x == y {
+        return n;
+    }
+    first_apart(x, y, n)
 }
 
-// Bits i, i + 1, .. at one place are bits j, j + 1, .. at another, n of them: 64 at a time, and the rest.
-pub fn equal_bits(a: &[u8], p: usize, i: usize, b: &[u8], q: usize, j: usize, n: usize) -> bool
+// Of the n pairs of bits i and j, i + 1 and j + 1, .. at two places, the number of the first that are not the same, or n
+// where all are: 64 at a time, and the rest.
+pub fn first_unequal_bit(
+    a: &[u8],
+    p: usize,
+    i: usize,
+    b: &[u8],
+    q: usize,
+    j: usize,
+    n: usize,
+) -> usize
     requires { ⌜ (p < 2 ^ 32) × (q < 2 ^ 32) × (i + n < 2 ^ 35) × (j + n < 2 ^ 35) ⌝ }
-    ensures { λ r. ⌜ r ≡ all (sameBit (now (a .entry)) p (now (b .entry)) q) i j n ⌝ }
+    ensures { λ r. ⌜ r ≡ firstUnequal (sameBit (now (a .entry)) p (now (b .entry)) q) i j n ⌝ }
 {
     let m = n / 64;
     let whole = 64 * m;
     if p + i / 8 + 8 * m + 1 <= a.len() {
         if q + j / 8 + 8 * m + 1 <= b.len() {
-            if !same_words(a, p, i, b, q, j, m) {
-                return false;
+            let r = first_unequal_inside(a, p, i, b, q, j, m);
+            if r < whole {
+                return r;
             }
-            return same_tail(a, p, i + whole, b, q, j + whole, n - whole);
+            return whole + first_unequal_tail(a, p, i + whole, b, q, j + whole, n - whole);
         }
     }
     let mut k: usize = 0;
     while 64 <= n - k {
-        if word(a, p, i + k) != word(b, q, j + k) {
-            return false;
+        let x = word(a, p, i + k);
+        let y = word(b, q, j + k);
+        if x != y {
+            return k + first_apart(x, y, 64);
         }
         k += 64;
     }
-    same_tail(a, p, i + k, b, q, j + k, n - k)
+    k + first_unequal_tail(a, p, i + k, b, q, j + k, n - k)
 }
 
 // How many of the 64 lowest bits of a number are set, up to the first that is not.

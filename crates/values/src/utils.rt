@@ -1,5 +1,5 @@
 // Bytes, null masks and types. Translated from src/equal/utils.rs of arrow-data 60.1.0 (Apache-2.0).
-use crate::bits::equal_bits;
+use crate::bits::first_unequal_bit;
 use crate::bits::leading_set;
 use crate::types::types_equal;
 use image::bytes::octet;
@@ -15,11 +15,10 @@ ghost use mathlib.Core.Bool.{_&&_};
 ghost use Prim.Native.Nat.{_+_, _<_, _≤_, _^_};
 ghost use lib.ListN.{length};
 ghost use lib.Dec.{eqb};
-ghost use Rattle.image.specs.Bytes.{bytesAt, bitAt};
-ghost use Rattle.image.specs.Ranges.{every};
+ghost use Rattle.image.specs.Bytes.{bytesAt};
 ghost use Rattle.image.specs.Record.{lengthOf};
 ghost use Rattle.image.specs.Types.{sameBytes, typesAgree};
-ghost use Rattle.values.specs.Pairs.{all, sameMask, sameByte};
+ghost use Rattle.values.specs.Pairs.{all, firstUnequal, sameMask, sameByte};
 
 const BLOCK: usize = 64;
 
@@ -112,29 +111,29 @@ pub fn equal_len(a: &[u8], b: &[u8], at: usize, bt: usize, n: usize) -> bool
     rest_equal(a, b, at + i, bt + i, n - i)
 }
 
-// All of n bits from bit i on are set.
-fn all_set(s: &[u8], place: usize, i: usize, n: usize) -> bool
-    requires { ⌜ (place < 2 ^ 32) × (i + n < 2 ^ 35) ⌝ }
-    ensures { λ r. ⌜ r ≡ every (bitAt (now (s .entry)) place) i n ⌝ }
-{
-    leading_set(s, place, i, n) == n
-}
-
-// Of n rows from s and from t on, in turn, both are null or neither is.
-pub fn equal_nulls(a: &[u8], an: u32, b: &[u8], bn: u32, s: usize, t: usize, n: usize) -> bool
+// Of n pairs of rows from s and from t on, the number of the first of which one is null and the other is not, or n.
+pub fn first_unequal_null(
+    a: &[u8],
+    an: u32,
+    b: &[u8],
+    bn: u32,
+    s: usize,
+    t: usize,
+    n: usize,
+) -> usize
     requires { ⌜ (s + n < 2 ^ 34) × (t + n < 2 ^ 34) ⌝ }
-    ensures { λ r. ⌜ r ≡ all (sameMask (now (a .entry)) an (now (b .entry)) bn) s t n ⌝ }
+    ensures { λ r. ⌜ r ≡ firstUnequal (sameMask (now (a .entry)) an (now (b .entry)) bn) s t n ⌝ }
 {
     if !has_bitmap(a, an) {
         if !has_bitmap(b, bn) {
-            return true;
+            return n;
         }
-        return all_set(b, bitmap_place(b, bn), first_bit(b, bn) + t, n);
+        return leading_set(b, bitmap_place(b, bn), first_bit(b, bn) + t, n);
     }
     if !has_bitmap(b, bn) {
-        return all_set(a, bitmap_place(a, an), first_bit(a, an) + s, n);
+        return leading_set(a, bitmap_place(a, an), first_bit(a, an) + s, n);
     }
-    equal_bits(
+    first_unequal_bit(
         a,
         bitmap_place(a, an),
         first_bit(a, an) + s,
@@ -143,6 +142,14 @@ pub fn equal_nulls(a: &[u8], an: u32, b: &[u8], bn: u32, s: usize, t: usize, n: 
         first_bit(b, bn) + t,
         n,
     )
+}
+
+// Of n rows from s and from t on, in turn, both are null or neither is.
+pub fn equal_nulls(a: &[u8], an: u32, b: &[u8], bn: u32, s: usize, t: usize, n: usize) -> bool
+    requires { ⌜ (s + n < 2 ^ 34) × (t + n < 2 ^ 34) ⌝ }
+    ensures { λ r. ⌜ r ≡ all (sameMask (now (a .entry)) an (now (b .entry)) bn) s t n ⌝ }
+{
+    first_unequal_null(a, an, b, bn, s, t, n) == n
 }
 
 // The types and the lengths of two tables agree.

@@ -1,6 +1,6 @@
 -- The number is that of the check's answer.
 -- By the contracts of the check and of the number.
-use Rattle.editions_c.proofs.Outputs.{checked-small}
+use Rattle.answers.proofs.Values.{checked-small}
 use borrow.Author.Needs.{needs}
 use Rattle.editions_c.proofs.editions_check.Statement.{statement}
 use Rattle.editions_c.proofs.editions_check.Tie as tie

@@ -1,6 +1,6 @@
 -- The number is that of the comparison's answer.
 -- By the contracts of the comparison and of the number.
-use Rattle.editions_c.proofs.Outputs.{compared-small}
+use Rattle.answers.proofs.Values.{compared-small}
 use borrow.Author.Needs.{needs}
 use Rattle.editions_c.proofs.editions_compare.Statement.{statement}
 use Rattle.editions_c.proofs.editions_compare.Tie as tie

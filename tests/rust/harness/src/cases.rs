@@ -1,6 +1,6 @@
 //! Cases in a file: for each, u32 length and bytes of the left image, the same of the right, u32 left start, u32 right start,
 //! u32 count, and a byte. The byte's bit 0 asks for the range instead of the whole; its bit 1 leaves out the null masks that
-//! have no null. Numbers are little-endian.
+//! have no null; its bit 2 asks for the first unequal row of the range too. Numbers are little-endian.
 
 use std::io::Read;
 
@@ -9,10 +9,16 @@ use crate::Masks;
 pub struct Case<'a> {
     pub left: &'a [u8],
     pub right: &'a [u8],
-    /// left start, right start and count; none for whole tables
-    pub range: Option<(usize, usize, usize)>,
+    pub range: Range,
+    /// whole tables are asked about; the range only by the calls that have one
+    pub whole: bool,
     pub masks: Masks,
+    /// the Rust is asked for the first unequal row of the range
+    pub rows: bool,
 }
+
+/// Left start, right start and count.
+pub type Range = (usize, usize, usize);
 
 /// The bytes of the file that the program's first argument names, or of standard input.
 pub fn asked() -> std::io::Result<Vec<u8>> {
@@ -36,8 +42,10 @@ pub fn cases(mut bytes: &[u8]) -> impl Iterator<Item = Case<'_>> {
         Some(Case {
             left,
             right,
-            range: (kind & 1 != 0).then_some(range),
+            range,
+            whole: kind & 1 == 0,
             masks: if kind & 2 != 0 { Masks::WithNulls } else { Masks::All },
+            rows: kind & 4 != 0,
         })
     })
 }

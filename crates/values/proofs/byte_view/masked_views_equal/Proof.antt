@@ -7,8 +7,8 @@ use native.Mathlib.Omega.{arith}
 use borrow.Author.Needs.{needs}
 use borrow.Author.Tests.{not-true, not-false}
 use Rattle.image.specs.Row.{viewRow}
-use Rattle.values.specs.Pairs.{maskedRow}
-use Rattle.values.proofs.Steps.{Left, left-none, left-more, left-fails, left-done, sameRow, by-rows, row-test}
+use Rattle.values.specs.Pairs.{sameRow, maskedRow}
+use Rattle.values.proofs.Steps.{Left, left-none, left-more, left-fails, left-done, by-rows, row-test}
 use Rattle.accepted.proofs.Nodes.{side-small}
 use Rattle.values.proofs.MaskedRows.{masked-row, null-rows}
 use Rattle.accepted.proofs.Views.{entries-read}

@@ -1,10 +1,10 @@
 -- `values::primitive::masked_equal` meets its contract.
 -- The loop keeps that what is left to look at gives the answer; the measure is how much is left.
-use Rattle.values.proofs.Steps.{Left, left-none, left-jump, jump-fails, left-rest, by-rows, sameRow}
+use Rattle.values.proofs.Steps.{Left, left-none, left-jump, jump-fails, left-rest, by-rows}
 use Rattle.values.proofs.MaskedRows.{masked-ahead}
 use Rattle.accepted.proofs.Nodes.{side-small}
 use Rattle.image.specs.Row.{fixedRow}
-use Rattle.values.specs.Pairs.{maskedRow}
+use Rattle.values.specs.Pairs.{sameRow, maskedRow}
 use borrow.Author.Tests.{not-true, not-false}
 use native.Mathlib.Nat.{le-refl}
 use mathlib.Core.Path.{sym, _∙_}

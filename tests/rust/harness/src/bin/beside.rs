@@ -1,4 +1,5 @@
-//! Answers cases by the Rust: a line for each, 0 no, 1 yes, 2 a panic, 3 an image that could not be read.
+//! Answers cases by the Rust: a line for each, 0 no, 1 yes, 2 a panic, 3 an image that could not be read. Where rows are asked
+//! for, the same for the range, and the first row that is unequal by itself, plus 1; 0 for none, `p` for a panic.
 //!
 //!     beside [FILE]    the cases of a file, or of standard input
 
@@ -9,7 +10,7 @@ fn main() -> std::io::Result<()> {
     harness::quiet();
     let mut lines = Vec::new();
     for case in harness::cases::cases(&bytes) {
-        lines.extend([b'0' + harness::ask(&case).number(), b'\n']);
+        writeln!(lines, "{}", harness::ask(&case))?;
     }
     std::io::stdout().write_all(&lines)
 }

@@ -1,0 +1,49 @@
+-- The value of an answer fits into the 56 bits that one number has for it.
+-- By the variants of each answer; a row that is told is below the count.
+use mathlib.Core.Path.{_≡_, refl}
+use mathlib.Core.Bool.{Bool, true, false, cond}
+use mathlib.Core.List.{List}
+use Prim.Native.Nat.{ℕ, _<_, _^_}
+use native.Mathlib.Omega.{arith}
+use lib.Dec.{ltb}
+use borrow.Author.Tests.{ltb-true}
+use Rattle.image.specs.declared.answer.Checked.{Checked}
+use Rattle.image.specs.declared.answer.Checked.the-variants.{Accepted, Refused}
+use Rattle.image.specs.Equality.{firstDifference}
+use Rattle.answers.specs.declared.Paired.{Paired}
+use Rattle.answers.specs.declared.Paired.the-variants.{Agreed, Refused as PairRefused, UnequalTypes as PairUnequal}
+use Rattle.answers.specs.declared.Bounds.{Bounds}
+use Rattle.answers.specs.declared.Bounds.the-variants.{Within, OutOfRange as BoundsOut}
+use Rattle.answers.specs.declared.Compared.{Compared}
+use Rattle.answers.specs.declared.Compared.the-variants.{Yes, No, Refused as CompareRefused, UnequalTypes, OutOfRange as RangeOut}
+use Rattle.answers.specs.declared.Difference.{Difference}
+use Rattle.answers.specs.declared.Difference.the-variants.{Nowhere, At}
+use Rattle.answers.specs.Answers.{pairedOf, boundsOf, boundedDifference, pairedDifference, differenceAnswer}
+use Rattle.answers.specs.Numbers.{checkedNumbers, comparedNumbers, differenceNumbers}
+
+-- the values of checks and comparisons
+pub checked-small : (answer : Checked) → checkedNumbers answer .value < 2 ^ 56
+checked-small Accepted = omega arith
+checked-small (Refused f) = omega arith
+
+pub compared-small : (answer : Compared) → comparedNumbers answer .value < 2 ^ 56
+compared-small Yes = omega arith
+compared-small No = omega arith
+compared-small (CompareRefused side f) = omega arith
+compared-small UnequalTypes = omega arith
+compared-small (RangeOut side) = omega arith
+
+-- the value of a search over fewer than 2 ^ 56 rows
+pub difference-small : (s t : List ℕ) (i j n : ℕ) {r : Difference} → r ≡ differenceAnswer s t i j n → n < 2 ^ 56 → differenceNumbers r .value < 2 ^ 56
+unfolding differenceAnswer
+difference-small s t i j n e few =
+    let row = firstDifference s t i j n in
+    rw e (cases row (pairedOf s t) (boundsOf s t i j n) (ltb row n) refl)
+  where
+    cases : (row : ℕ) (x : Paired) (y : Bounds) (b : Bool) → ltb row n ≡ b
+        → differenceNumbers (pairedDifference x (boundedDifference y (cond b (At row) Nowhere))) .value < 2 ^ 56
+    cases row (PairRefused side f) y b is = omega arith
+    cases row PairUnequal y b is = omega arith
+    cases row Agreed (BoundsOut side) b is = omega arith
+    cases row Agreed Within false is = omega arith
+    cases row Agreed Within true is = omega (arith, ltb-true row n is)

@@ -1,0 +1,43 @@
+// Further calls for a host written in C, each answering with one number. host/editions_calls.h says what they answer.
+use answers::numbers::compared_numbers;
+use answers::numbers::difference_numbers;
+use answers::numbers::pack;
+use api::compare_range;
+use api::first_difference;
+ghost use mathlib.Core.Path.{_≡_};
+ghost use Rattle.answers.specs.Answers.{compareRangeAnswer, differenceAnswer};
+ghost use Rattle.answers.specs.Numbers.{comparedNumbers, differenceNumbers, packed};
+
+// Whether `count` rows of two tables from their starts on are equal.
+#[no_mangle]
+pub extern "C" fn editions_compare_range(
+    left: &[u8],
+    right: &[u8],
+    left_start: u32,
+    right_start: u32,
+    count: u32,
+) -> u64
+    ensures { λ r. ⌜ r ≡ packed (comparedNumbers (compareRangeAnswer (now (left .entry)) (now (right .entry)) «left_start» «right_start» count)) ⌝ }
+{
+    let i = left_start as usize;
+    let j = right_start as usize;
+    let n = count as usize;
+    pack(compared_numbers(compare_range(left, right, i, j, n)))
+}
+
+// The first of these rows that is not equal.
+#[no_mangle]
+pub extern "C" fn editions_first_difference(
+    left: &[u8],
+    right: &[u8],
+    left_start: u32,
+    right_start: u32,
+    count: u32,
+) -> u64
+    ensures { λ r. ⌜ r ≡ packed (differenceNumbers (differenceAnswer (now (left .entry)) (now (right .entry)) «left_start» «right_start» count)) ⌝ }
+{
+    let i = left_start as usize;
+    let j = right_start as usize;
+    let n = count as usize;
+    pack(difference_numbers(first_difference(left, right, i, j, n)))
+}

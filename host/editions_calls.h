@@ -1,0 +1,41 @@
+/* editions_calls.h: which rows of two ranges are equal, and where they part.
+ *
+ * Further calls on the tables of editions.h. What editions.h says of images, lent memory, threads and answers holds here too,
+ * and its functions take these answers apart. Link with libcalls_c.a; it needs no other library, and a program may link it
+ * beside libeditions_c.a.
+ *
+ * A range is `count` rows of a table from row `start` on. Both calls are refused alike, by the first of these that holds:
+ *   - 10 to 18, with the side and the node, as editions_compare refuses an image, left before right;
+ *   - EDITIONS_TYPES, where the tables' types do not agree, also where count is 0;
+ *   - EDITIONS_RANGE, with the side, where start + count exceeds the table's length, left before right. The sum does not wrap,
+ *     and a start that is the length, with count 0, is no fault. */
+#ifndef EDITIONS_CALLS_H
+#define EDITIONS_CALLS_H
+
+#include "editions.h"
+
+#ifdef __cplusplus
+extern "C" {
+#endif
+
+/* Whether the rows of two ranges are equal, in turn, in nullness and value. The answer's value is 1 for yes and 0 for no;
+ * ranges without rows are equal. */
+uint64_t editions_compare_range(const uint8_t *left, size_t left_length, const uint8_t *right, size_t right_length,
+                                uint32_t left_start, uint32_t right_start, uint32_t count);
+
+/* The first row of two ranges that is not equal, counted from 0 at the start of the ranges: the answer's value is 0 where
+ * there is none, that is where editions_compare_range says yes, and else one more than the row. */
+uint64_t editions_first_difference(const uint8_t *left, size_t left_length, const uint8_t *right, size_t right_length,
+                                   uint32_t left_start, uint32_t right_start, uint32_t count);
+
+#ifdef __cplusplus
+}
+#endif
+
+/* Of a first difference that is not refused: whether there is one. */
+static inline int editions_differs(uint64_t answer) { return editions_value(answer) != 0; }
+
+/* Of a first difference that is one: its row. Row r is row left_start + r of the left table, right_start + r of the right. */
+static inline uint32_t editions_row(uint64_t answer) { return (uint32_t)(editions_value(answer) - 1u); }
+
+#endif
