@@ -3,15 +3,16 @@
 use mathlib.Core.Path.{_≡_, refl, sym, _∙_}
 use mathlib.Core.Bool.{Bool, true, false, _&&_}
 use mathlib.Core.List.{List}
-use Prim.Native.Nat.{ℕ, zero, suc, _+_, _-_, _<_, _≤_}
+use Prim.Native.Nat.{ℕ, _+_, _-_, _<_, _≤_, min, max}
 use native.Mathlib.Omega.{arith}
 use Rattle.image.specs.Record.{maxDepth}
 use Rattle.image.specs.Row.{rowAt, tableRows}
 use Rattle.image.specs.Equality.{rowsDiffer, rangesEqual, firstDifference}
+use Rattle.image.proofs.Bools.{fails-and}
 use Rattle.values.specs.Pairs.{all, pairDiffers, firstUnequal, sameRow, rangeEqual, sameMask}
 use Rattle.values.specs.Parts.{Sides}
 use Rattle.values.proofs.Steps.{Passed, all-split, all-snoc, by-rows}
-use Rattle.values.proofs.FirstUnequal.{apart, unequal-fails, unequal-is, unequal-some, unequal-end, unequal-among}
+use Rattle.values.proofs.FirstUnequal.{unequal-fails, unequal-is, unequal-some, unequal-end, unequal-among}
 use Rattle.equal.proofs.Nulls.{range-masks}
 
 -- the first `low` pairs pass, the first `high` do not all
@@ -47,6 +48,10 @@ module _ (p : ℕ → ℕ → Bool) (i j : ℕ) where
         let f : all p i j low && p (i + low) (j + low) ≡ false = sym (all-snoc p i j low) ∙ (rw e at (b .fails)) in
         unequal-is p i j n low (omega (arith, b .below, b .within)) (b .passes) (λ lt. rw (b .passes) at f)
 
+-- a block is no longer than what is left
+pub block-within : (k left : ℕ) {r : ℕ} → r ≡ min left (max 1 k) → r ≤ left
+block-within k left e = omega arith
+
 -- the pairs are the rows of two tables
 abbrev pub sameRows : List ℕ → List ℕ → ℕ → ℕ → Bool
 sameRows a b = sameRow (rowAt maxDepth a 0) (rowAt maxDepth b 0)
@@ -66,15 +71,9 @@ module _ (a b : List ℕ) (i j n : ℕ) where
 
   -- of n rows that are not all equal one is the first
   pub rows-between : rangesEqual a b i j n ≡ false → Between (sameRows a b) i j n 0 n
-  unfolding all
-  rows-between e = between-first (sameRows a b) i j n (some n fails) (omega arith) fails
-    where
-      fails : all (sameRows a b) i j n ≡ false
-      fails = all-rows a b i j n ∙ e
-
-      some : (n : ℕ) → all (sameRows a b) i j n ≡ false → 0 < n
-      some zero f = absurd (apart _ refl f)
-      some (suc n) f = omega arith
+  rows-between e =
+      let fails : all (sameRows a b) i j n ≡ false = all-rows a b i j n ∙ e in
+      between-first (sameRows a b) i j n (omega (arith, unequal-some (sameRows a b) i j n fails)) (omega arith) fails
 
   -- all rows are equal
   pub rows-nowhere : (k : ℕ) → n ≤ k → Passed (sameRows a b) i j n k → n ≡ firstDifference a b i j n
@@ -107,9 +106,5 @@ nulls-between {a} {b} {i} {j} {n} {r} sides e lt =
     let zj : j + 0 ≡ j = omega arith in
     let some : Sides a b 0 0 i j (r + 1) maxDepth = rw (zi, zj) at (sides-inside sides 0 (r + 1) (omega arith)) in
     let here : sameMask a 0 b 0 (i + r) (j + r) ≡ false = rw e (unequal-fails (sameMask a 0 b 0) i j n (omega arith)) in
-    let masks : all (sameMask a 0 b 0) i j (r + 1) ≡ false = all-snoc (sameMask a 0 b 0) i j r ∙ rw here (and-false (all (sameMask a 0 b 0) i j r)) in
+    let masks : all (sameMask a 0 b 0) i j (r + 1) ≡ false = all-snoc (sameMask a 0 b 0) i j r ∙ fails-and (all (sameMask a 0 b 0) i j r) _ (λ before. here) in
     between-first (sameRows a b) i j n (omega arith) (omega arith) (by-rows (rowAt maxDepth a 0) (rowAt maxDepth b 0) i j (r + 1) ∙ sym (range-masks some (λ z. omega arith) masks))
-  where
-    and-false : (x : Bool) → x && false ≡ false
-    and-false true = refl
-    and-false false = refl

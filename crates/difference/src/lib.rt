@@ -4,13 +4,13 @@ use image::record::MAX_DEPTH;
 use values::utils::first_unequal_null;
 ghost use mathlib.Core.Path.{_≡_};
 ghost use mathlib.Core.Bool.{false};
-ghost use Prim.Native.Nat.{_+_, _≤_, _<_};
+ghost use Prim.Native.Nat.{_<_, min, max};
 ghost use Rattle.image.specs.Record.{maxDepth};
 ghost use Rattle.image.specs.Equality.{rangesEqual, firstDifference};
 ghost use Rattle.values.specs.Parts.{Sides};
 
-// The first unequal row of n rows that are not all equal: up to the first of which one side is null and the other is not,
-// by bisection.
+// The first unequal row of n rows that are not all equal. A row that is null on one side alone is unequal, so those after
+// the first such row are not looked at; the others are bisected.
 fn first_unequal_row(a: &[u8], b: &[u8], s: usize, t: usize, n: usize) -> usize
     requires { ⌜ Sides (now a) (now b) 0 0 s t n maxDepth ⌝ }
     requires { ⌜ rangesEqual (now a) (now b) s t n ≡ false ⌝ }
@@ -33,11 +33,11 @@ fn first_unequal_row(a: &[u8], b: &[u8], s: usize, t: usize, n: usize) -> usize
     low
 }
 
-// How many rows are compared at once after k rows that are equal, where there are more: as many again, or the one that is
-// first, and no more than are left.
+// How many rows are compared at once, after k rows that are equal and with so many left: the first one alone, then as many
+// as were equal so far, and no more than are left.
 fn block(k: usize, left: usize) -> usize
     requires { ⌜ 0 < left ⌝ }
-    ensures { λ r. ⌜ (0 < r) × (r ≤ left) ⌝ }
+    ensures { λ r. ⌜ r ≡ min left (max 1 k) ⌝ }
 {
     if left < k {
         return left;

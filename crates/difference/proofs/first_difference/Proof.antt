@@ -5,7 +5,7 @@ use Prim.Native.Nat.{_-_}
 use borrow.Author.Tests.{not-true, not-false}
 use Rattle.equal.proofs.Nulls.{sides-left, sides-right}
 use Rattle.values.proofs.Steps.{Passed, passed-none, passed-more}
-use Rattle.difference.proofs.Search.{sameRows, all-rows, rows-said, rows-nowhere, row-inside, row-found, sides-inside}
+use Rattle.difference.proofs.Search.{block-within, sameRows, all-rows, rows-said, rows-nowhere, row-inside, row-found, sides-inside}
 use Prim.Native.Nat.{_-_}
 use native.Mathlib.Omega.{arith}
 use Rattle.difference.proofs.first_difference.Statement.{statement}
@@ -33,7 +33,7 @@ add-equal-range-2 : tie.Need-add-equal-range-2 Inv-loop μ-loop
 add-equal-range-2 c = omega (arith, c .before .loop-test .taken, sides-right (c .before .before .before .before .before .pre))
 
 equal-range-requires : tie.Need-equal-range-requires Inv-loop μ-loop
-equal-range-requires c κs = sides-inside (c .before .before .before .before .before .pre) _ _ (omega (arith, c .before .loop-test .taken, c .block .ensures .1))
+equal-range-requires c κs = sides-inside (c .before .before .before .before .before .pre) _ _ (omega (arith, c .before .loop-test .taken, c .block .ensures))
 
 add-first-unequal-row : tie.Need-add-first-unequal-row Inv-loop μ-loop
 add-first-unequal-row c = omega (arith, c .before .before .before .loop-test .taken, sides-left (c .before .before .before .before .before .before .before .pre))
@@ -42,22 +42,22 @@ add-first-unequal-row-2 : tie.Need-add-first-unequal-row-2 Inv-loop μ-loop
 add-first-unequal-row-2 c = omega (arith, c .before .before .before .loop-test .taken, sides-right (c .before .before .before .before .before .before .before .pre))
 
 first-unequal-row-requires : tie.Need-first-unequal-row-requires Inv-loop μ-loop
-first-unequal-row-requires c κs = (sides-inside (c .before .before .before .before .before .before .before .pre) _ _ (omega (arith, c .before .before .before .loop-test .taken, c .before .before .block .ensures .1)), sym (all-rows _ _ _ _ _) ∙ rows-said _ _ _ _ _ (c .before .equal-range .ensures) (not-true _ (c .if1 .taken)))
+first-unequal-row-requires c κs = (sides-inside (c .before .before .before .before .before .before .before .pre) _ _ (omega (arith, c .before .before .before .loop-test .taken, c .before .before .block .ensures)), sym (all-rows _ _ _ _ _) ∙ rows-said _ _ _ _ _ (c .before .equal-range .ensures) (not-true _ (c .if1 .taken)))
 
 add-result : tie.Need-add-result Inv-loop μ-loop
-add-result c = omega (arith, c .before .before .before .before .loop-test .taken, c .before .before .before .block .ensures .1, sides-left (c .before .before .before .before .before .before .before .before .pre), row-inside _ _ _ _ _ (c .before .before .before .block .ensures .1) (c .before .before .before .before .before .loop .inv) (rows-said _ _ _ _ _ (c .before .before .equal-range .ensures) (not-true _ (c .before .if1 .taken))) (c .first-unequal-row .ensures))
+add-result c = omega (arith, c .before .before .before .before .loop-test .taken, c .before .before .before .block .ensures, sides-left (c .before .before .before .before .before .before .before .before .pre), row-inside _ _ _ _ _ (block-within _ _ (c .before .before .before .block .ensures)) (c .before .before .before .before .before .loop .inv) (rows-said _ _ _ _ _ (c .before .before .equal-range .ensures) (not-true _ (c .before .if1 .taken))) (c .first-unequal-row .ensures))
 
 returns : tie.Need-returns Inv-loop μ-loop
-returns c = row-found _ _ _ _ _ (c .before .before .before .block .ensures .1) (c .before .before .before .before .before .loop .inv) (rows-said _ _ _ _ _ (c .before .before .equal-range .ensures) (not-true _ (c .before .if1 .taken))) (c .first-unequal-row .ensures)
+returns c = row-found _ _ _ _ _ (block-within _ _ (c .before .before .before .block .ensures)) (c .before .before .before .before .before .loop .inv) (rows-said _ _ _ _ _ (c .before .before .equal-range .ensures) (not-true _ (c .before .if1 .taken))) (c .first-unequal-row .ensures)
 
 add-k : tie.Need-add-k Inv-loop μ-loop
-add-k c = omega (arith, c .before .before .before .loop-test .taken, c .before .before .block .ensures .1, sides-left (c .before .before .before .before .before .before .before .pre))
+add-k c = omega (arith, c .before .before .before .loop-test .taken, c .before .before .block .ensures, sides-left (c .before .before .before .before .before .before .before .pre))
 
 loop-less : tie.Need-loop-less Inv-loop μ-loop
-loop-less c = omega (arith, c .before .before .before .loop-test .taken, c .before .before .block .ensures .0)
+loop-less c = omega (arith, c .before .before .before .loop-test .taken, c .before .before .block .ensures)
 
 loop-again : tie.Need-loop-again Inv-loop μ-loop
-loop-again c = passed-more _ _ _ _ _ _ (c .before .before .block .ensures .1) (c .before .before .before .before .loop .inv) (rows-said _ _ _ _ _ (c .before .equal-range .ensures) (not-false _ (c .if1 .left)))
+loop-again c = passed-more _ _ _ _ _ _ (block-within _ _ (c .before .before .block .ensures)) (c .before .before .before .before .loop .inv) (rows-said _ _ _ _ _ (c .before .equal-range .ensures) (not-false _ (c .if1 .left)))
 
 returns-2 : tie.Need-returns-2 Inv-loop μ-loop
 returns-2 c = rows-nowhere _ _ _ _ _ _ (c .loop-test .left) (c .before .loop .inv)
