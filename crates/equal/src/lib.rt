@@ -12,8 +12,6 @@ use image::record::code;
 use image::record::offset;
 use image::type_code::Layout;
 use image::type_code::TypeCode;
-use union::equal_dense;
-use union::equal_sparse;
 use values::boolean::boolean_equal;
 use values::byte_view::byte_view_equal;
 use values::byte_view::masked_views_equal;
@@ -60,8 +58,8 @@ fn equal_values(
         Layout::ListView => list_view::equal(a, an, b, bn, s, t, n, depth),
         Layout::FixedList => fixed_list::equal(a, an, b, bn, s, t, n, depth),
         Layout::Struct => structure::equal(a, an, b, bn, s, t, n, depth),
-        Layout::DenseUnion => equal_dense(a, an, b, bn, s, t, n, depth),
-        Layout::SparseUnion => equal_sparse(a, an, b, bn, s, t, n, depth),
+        Layout::DenseUnion => union::dense(a, an, b, bn, s, t, n, depth),
+        Layout::SparseUnion => union::sparse(a, an, b, bn, s, t, n, depth),
         Layout::Dictionary => dictionary::equal(a, an, b, bn, s, t, n, depth),
         Layout::Runs => run::equal(a, an, b, bn, s, t, n, depth),
     }

@@ -22,7 +22,7 @@ const BLOCK: usize = 4096;
 const SEVERAL: usize = 8;
 
 // Dense unions: the type ids, and the row of the child that each id names, at its offset.
-pub fn equal_dense(
+pub fn dense(
     a: &[u8],
     an: u32,
     b: &[u8],
@@ -61,16 +61,7 @@ pub fn equal_dense(
 
 // A block of a sparse union: the type ids, and the row of the child that each id names; the other children do not count.
 // Where all rows of all children are equal, those are. A single row is not tried so, which bounds what unions in unions cost.
-fn equal_block(
-    a: &[u8],
-    an: u32,
-    b: &[u8],
-    bn: u32,
-    s: usize,
-    t: usize,
-    n: usize,
-    depth: usize,
-) -> bool
+fn block(a: &[u8], an: u32, b: &[u8], bn: u32, s: usize, t: usize, n: usize, depth: usize) -> bool
     requires { ⌜ Parts (now a) (now b) an bn s t n depth ⌝ }
     requires { ⌜ layoutOf (codeOf (now a) an) ≡ SparseUnion ⌝ }
     ensures { λ r. ⌜ r ≡ rangeEqual (sparseRow (rowAt depth (now (a .entry))) (now (a .entry)) an) (sparseRow (rowAt depth (now (b .entry))) (now (b .entry)) bn) s t n ⌝ }
@@ -102,7 +93,7 @@ fn equal_block(
 }
 
 // Sparse unions, block by block: only a block whose children are not all equal is compared row by row.
-pub fn equal_sparse(
+pub fn sparse(
     a: &[u8],
     an: u32,
     b: &[u8],
@@ -118,10 +109,10 @@ pub fn equal_sparse(
 {
     let mut k: usize = 0;
     while BLOCK < n - k {
-        if !equal_block(a, an, b, bn, s + k, t + k, BLOCK, depth) {
+        if !block(a, an, b, bn, s + k, t + k, BLOCK, depth) {
             return false;
         }
         k += BLOCK;
     }
-    equal_block(a, an, b, bn, s + k, t + k, n - k, depth)
+    block(a, an, b, bn, s + k, t + k, n - k, depth)
 }

@@ -12,7 +12,7 @@ use Rattle.image.proofs.CodeTable.{at-layouts}
 use Rattle.equal.proofs.Rows.{RowsLeft, rows-none, rows-done}
 use Rattle.accepted.proofs.Nodes.{layout-is}
 use Rattle.equal.proofs.Nulls.{sides-left, sides-right, null-more, valid-requires, valid-more, valid-fail, masked-requires, masked-answer}
-use Rattle.equal.proofs.+dictionary-equal+dictionary-long_equal+equal_range+equal_row+equal_valid+equal_values+fixed_list-equal+list-equal+list_view-equal+run-equal+structure-equal+union-equal_block+union-equal_dense+union-equal_sparse.Proof.Measures.{equal-valid-at, equal-values-below}
+use Rattle.equal.proofs.+dictionary-equal+dictionary-long_equal+equal_range+equal_row+equal_valid+equal_values+fixed_list-equal+list-equal+list_view-equal+run-equal+structure-equal+union-block+union-dense+union-sparse.Proof.Measures.{equal-valid-at, equal-values-below}
 use Rattle.equal.proofs.equal_valid.Reads as equal-valid
 use Rattle.equal.proofs.equal_values.Reads as equal-values
 use Rattle.image.proofs.record.code.Reads as code-reads
@@ -21,7 +21,7 @@ use Rattle.image.proofs.type_code.TypeCode.layout.Reads as layout-reads
 use Rattle.values.proofs.byte_view.masked_views_equal.Reads as masked-views-equal-reads
 use Rattle.values.proofs.data.valid_rows.Reads as valid-rows-reads
 use Rattle.values.proofs.primitive.masked_equal.Reads as masked-equal-reads
-use Rattle.equal.proofs.+dictionary-equal+dictionary-long_equal+equal_range+equal_row+equal_valid+equal_values+fixed_list-equal+list-equal+list_view-equal+run-equal+structure-equal+union-equal_block+union-equal_dense+union-equal_sparse.Lts-equal_valid as lts
+use Rattle.equal.proofs.+dictionary-equal+dictionary-long_equal+equal_range+equal_row+equal_valid+equal_values+fixed_list-equal+list-equal+list_view-equal+run-equal+structure-equal+union-block+union-dense+union-sparse.Lts-equal_valid as lts
 
 abbrev calls : ℕ → lts.Claims
 calls t = (code-reads.Asked, code-reads.Learnt, layout-reads.Asked, layout-reads.Learnt, masked-equal-reads.Asked, masked-equal-reads.Learnt, masked-views-equal-reads.Asked, masked-views-equal-reads.Learnt, offset-reads.Asked, offset-reads.Learnt, valid-rows-reads.Asked, valid-rows-reads.Learnt, equal-values-below t, equal-values.Post)

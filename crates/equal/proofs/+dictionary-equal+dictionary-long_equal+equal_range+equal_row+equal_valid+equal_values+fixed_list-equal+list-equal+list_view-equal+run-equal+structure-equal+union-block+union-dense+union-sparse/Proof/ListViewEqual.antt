@@ -10,14 +10,14 @@ use Rattle.accepted.proofs.Nodes.{element-read, size-read, part-small, part-nth
 use Rattle.equal.proofs.Child.{widths-same}
 use Rattle.equal.proofs.Rows.{RowsLeft, rows-none, rows-more, rows-fail, rows-done}
 use Rattle.equal.proofs.ListViews.{view-narrow, view-differs, view-requires, view-answer}
-use Rattle.equal.proofs.+dictionary-equal+dictionary-long_equal+equal_range+equal_row+equal_valid+equal_values+fixed_list-equal+list-equal+list_view-equal+run-equal+structure-equal+union-equal_block+union-equal_dense+union-equal_sparse.Proof.Measures.{list-view·equal-at, equal-range-below}
+use Rattle.equal.proofs.+dictionary-equal+dictionary-long_equal+equal_range+equal_row+equal_valid+equal_values+fixed_list-equal+list-equal+list_view-equal+run-equal+structure-equal+union-block+union-dense+union-sparse.Proof.Measures.{list-view·equal-at, equal-range-below}
 use Rattle.equal.proofs.equal_range.Reads as equal-range
 use Rattle.equal.proofs.list_view.equal.Reads as list-view·equal
 use Rattle.image.proofs.bytes.nth.Reads as nth-reads
 use Rattle.image.proofs.element.element_width.Reads as element-width-reads
 use Rattle.image.proofs.record.buffer_place.Reads as buffer-place-reads
 use Rattle.image.proofs.record.first_child.Reads as first-child-reads
-use Rattle.equal.proofs.+dictionary-equal+dictionary-long_equal+equal_range+equal_row+equal_valid+equal_values+fixed_list-equal+list-equal+list_view-equal+run-equal+structure-equal+union-equal_block+union-equal_dense+union-equal_sparse.Lts-list_view-equal as lts
+use Rattle.equal.proofs.+dictionary-equal+dictionary-long_equal+equal_range+equal_row+equal_valid+equal_values+fixed_list-equal+list-equal+list_view-equal+run-equal+structure-equal+union-block+union-dense+union-sparse.Lts-list_view-equal as lts
 
 abbrev calls : ℕ → lts.Claims
 calls t = (element-width-reads.Asked, element-width-reads.Learnt, buffer-place-reads.Asked, buffer-place-reads.Learnt, first-child-reads.Asked, first-child-reads.Learnt, nth-reads.Asked, nth-reads.Learnt, equal-range-below t, equal-range.Post)

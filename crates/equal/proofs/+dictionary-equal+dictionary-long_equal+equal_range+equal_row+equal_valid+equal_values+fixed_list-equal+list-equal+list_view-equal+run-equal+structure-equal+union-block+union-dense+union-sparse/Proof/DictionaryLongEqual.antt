@@ -10,7 +10,7 @@ use Rattle.accepted.proofs.Nodes.{element-read, part-small, part-nth}
 use Rattle.equal.proofs.Child.{widths-same}
 use Rattle.equal.proofs.Rows.{one-row, RowsLeft, rows-none, rows-more, rows-fail, rows-done}
 use Rattle.equal.proofs.Dictionaries.{key-narrow, key-nodes, key-requires, key-small, key-answer, key-same, KeptPairs, kept-none, kept-equal, kept-more}
-use Rattle.equal.proofs.+dictionary-equal+dictionary-long_equal+equal_range+equal_row+equal_valid+equal_values+fixed_list-equal+list-equal+list_view-equal+run-equal+structure-equal+union-equal_block+union-equal_dense+union-equal_sparse.Proof.Measures.{dictionary·long-equal-at, equal-row-below}
+use Rattle.equal.proofs.+dictionary-equal+dictionary-long_equal+equal_range+equal_row+equal_valid+equal_values+fixed_list-equal+list-equal+list_view-equal+run-equal+structure-equal+union-block+union-dense+union-sparse.Proof.Measures.{dictionary·long-equal-at, equal-row-below}
 use Rattle.equal.proofs.dictionary.long_equal.Reads as dictionary·long-equal
 use Rattle.equal.proofs.equal_row.Reads as equal-row
 use Rattle.image.proofs.bytes.nth.Reads as nth-reads
@@ -18,7 +18,7 @@ use Rattle.image.proofs.element.element_width.Reads as element-width-reads
 use Rattle.image.proofs.record.buffer_place.Reads as buffer-place-reads
 use Rattle.image.proofs.record.first_child.Reads as first-child-reads
 use Rattle.values.proofs.leaf.leaves_of.Reads as leaves-of-reads
-use Rattle.equal.proofs.+dictionary-equal+dictionary-long_equal+equal_range+equal_row+equal_valid+equal_values+fixed_list-equal+list-equal+list_view-equal+run-equal+structure-equal+union-equal_block+union-equal_dense+union-equal_sparse.Lts-dictionary-long_equal as lts
+use Rattle.equal.proofs.+dictionary-equal+dictionary-long_equal+equal_range+equal_row+equal_valid+equal_values+fixed_list-equal+list-equal+list_view-equal+run-equal+structure-equal+union-block+union-dense+union-sparse.Lts-dictionary-long_equal as lts
 
 abbrev calls : ℕ → lts.Claims
 calls t = (element-width-reads.Asked, element-width-reads.Learnt, buffer-place-reads.Asked, buffer-place-reads.Learnt, first-child-reads.Asked, first-child-reads.Learnt, leaves-of-reads.Asked, leaves-of-reads.Learnt, nth-reads.Asked, nth-reads.Learnt, equal-row-below t, equal-row.Post)

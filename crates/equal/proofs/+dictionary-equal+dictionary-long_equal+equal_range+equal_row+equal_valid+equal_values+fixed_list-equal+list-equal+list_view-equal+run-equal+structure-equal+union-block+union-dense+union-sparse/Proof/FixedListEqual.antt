@@ -5,12 +5,12 @@ use Prim.Native.Nat.{ℕ}
 use native.Mathlib.Omega.{arith}
 use borrow.Author.Needs.{needs}
 use Rattle.equal.proofs.FixedLists.{fixed-list-left, fixed-list-right, fixed-list-requires, fixed-list-answer}
-use Rattle.equal.proofs.+dictionary-equal+dictionary-long_equal+equal_range+equal_row+equal_valid+equal_values+fixed_list-equal+list-equal+list_view-equal+run-equal+structure-equal+union-equal_block+union-equal_dense+union-equal_sparse.Proof.Measures.{fixed-list·equal-at, equal-range-below}
+use Rattle.equal.proofs.+dictionary-equal+dictionary-long_equal+equal_range+equal_row+equal_valid+equal_values+fixed_list-equal+list-equal+list_view-equal+run-equal+structure-equal+union-block+union-dense+union-sparse.Proof.Measures.{fixed-list·equal-at, equal-range-below}
 use Rattle.equal.proofs.equal_range.Reads as equal-range
 use Rattle.equal.proofs.fixed_list.equal.Reads as fixed-list·equal
 use Rattle.image.proofs.record.first_child.Reads as first-child-reads
 use Rattle.image.proofs.record.p1.Reads as p1-reads
-use Rattle.equal.proofs.+dictionary-equal+dictionary-long_equal+equal_range+equal_row+equal_valid+equal_values+fixed_list-equal+list-equal+list_view-equal+run-equal+structure-equal+union-equal_block+union-equal_dense+union-equal_sparse.Lts-fixed_list-equal as lts
+use Rattle.equal.proofs.+dictionary-equal+dictionary-long_equal+equal_range+equal_row+equal_valid+equal_values+fixed_list-equal+list-equal+list_view-equal+run-equal+structure-equal+union-block+union-dense+union-sparse.Lts-fixed_list-equal as lts
 
 abbrev calls : ℕ → lts.Claims
 calls t = (p1-reads.Asked, p1-reads.Learnt, first-child-reads.Asked, first-child-reads.Learnt, equal-range-below t, equal-range.Post)

@@ -9,7 +9,7 @@ use Rattle.image.specs.declared.type_code.Layout.the-variants.{Null, Boolean, F
 use Rattle.image.proofs.CodeTable.{at-layouts}
 use Rattle.accepted.proofs.Nodes.{layout-is}
 use Rattle.equal.proofs.Values.{parts-shallow, by-layout, null-values}
-use Rattle.equal.proofs.+dictionary-equal+dictionary-long_equal+equal_range+equal_row+equal_valid+equal_values+fixed_list-equal+list-equal+list_view-equal+run-equal+structure-equal+union-equal_block+union-equal_dense+union-equal_sparse.Proof.Measures.{equal-values-at, dictionary·equal-below, fixed-list·equal-below, list-view·equal-below, list·equal-below, run·equal-below, structure·equal-below, union·equal-dense-below, union·equal-sparse-below}
+use Rattle.equal.proofs.+dictionary-equal+dictionary-long_equal+equal_range+equal_row+equal_valid+equal_values+fixed_list-equal+list-equal+list_view-equal+run-equal+structure-equal+union-block+union-dense+union-sparse.Proof.Measures.{equal-values-at, dictionary·equal-below, fixed-list·equal-below, list-view·equal-below, list·equal-below, run·equal-below, structure·equal-below, union·dense-below, union·sparse-below}
 use Rattle.equal.proofs.dictionary.equal.Reads as dictionary·equal
 use Rattle.equal.proofs.equal_values.Reads as equal-values
 use Rattle.equal.proofs.fixed_list.equal.Reads as fixed-list·equal
@@ -17,8 +17,8 @@ use Rattle.equal.proofs.list.equal.Reads as list·equal
 use Rattle.equal.proofs.list_view.equal.Reads as list-view·equal
 use Rattle.equal.proofs.run.equal.Reads as run·equal
 use Rattle.equal.proofs.structure.equal.Reads as structure·equal
-use Rattle.equal.proofs.union.equal_dense.Reads as union·equal-dense
-use Rattle.equal.proofs.union.equal_sparse.Reads as union·equal-sparse
+use Rattle.equal.proofs.union.dense.Reads as union·dense
+use Rattle.equal.proofs.union.sparse.Reads as union·sparse
 use Rattle.image.proofs.record.code.Reads as code-reads
 use Rattle.image.proofs.type_code.TypeCode.layout.Reads as layout-reads
 use Rattle.values.proofs.boolean.boolean_equal.Reads as boolean-equal-reads
@@ -26,10 +26,10 @@ use Rattle.values.proofs.byte_view.byte_view_equal.Reads as byte-view-equal-rea
 use Rattle.values.proofs.null.null_equal.Reads as null-equal-reads
 use Rattle.values.proofs.primitive.primitive_equal.Reads as primitive-equal-reads
 use Rattle.values.proofs.variable_size.variable_sized_equal.Reads as variable-sized-equal-reads
-use Rattle.equal.proofs.+dictionary-equal+dictionary-long_equal+equal_range+equal_row+equal_valid+equal_values+fixed_list-equal+list-equal+list_view-equal+run-equal+structure-equal+union-equal_block+union-equal_dense+union-equal_sparse.Lts-equal_values as lts
+use Rattle.equal.proofs.+dictionary-equal+dictionary-long_equal+equal_range+equal_row+equal_valid+equal_values+fixed_list-equal+list-equal+list_view-equal+run-equal+structure-equal+union-block+union-dense+union-sparse.Lts-equal_values as lts
 
 abbrev calls : ℕ → lts.Claims
-calls t = (code-reads.Asked, code-reads.Learnt, layout-reads.Asked, layout-reads.Learnt, null-equal-reads.Asked, null-equal-reads.Learnt, boolean-equal-reads.Asked, boolean-equal-reads.Learnt, primitive-equal-reads.Asked, primitive-equal-reads.Learnt, variable-sized-equal-reads.Asked, variable-sized-equal-reads.Learnt, byte-view-equal-reads.Asked, byte-view-equal-reads.Learnt, list·equal-below t, list·equal.Post, list-view·equal-below t, list-view·equal.Post, fixed-list·equal-below t, fixed-list·equal.Post, structure·equal-below t, structure·equal.Post, union·equal-dense-below t, union·equal-dense.Post, union·equal-sparse-below t, union·equal-sparse.Post, dictionary·equal-below t, dictionary·equal.Post, run·equal-below t, run·equal.Post)
+calls t = (code-reads.Asked, code-reads.Learnt, layout-reads.Asked, layout-reads.Learnt, null-equal-reads.Asked, null-equal-reads.Learnt, boolean-equal-reads.Asked, boolean-equal-reads.Learnt, primitive-equal-reads.Asked, primitive-equal-reads.Learnt, variable-sized-equal-reads.Asked, variable-sized-equal-reads.Learnt, byte-view-equal-reads.Asked, byte-view-equal-reads.Learnt, list·equal-below t, list·equal.Post, list-view·equal-below t, list-view·equal.Post, fixed-list·equal-below t, fixed-list·equal.Post, structure·equal-below t, structure·equal.Post, union·dense-below t, union·dense.Post, union·sparse-below t, union·sparse.Post, dictionary·equal-below t, dictionary·equal.Post, run·equal-below t, run·equal.Post)
 
 code-requires : (t : ℕ) → lts.Need-code-requires (calls t) (equal-values-at t) equal-values.Post
 code-requires t c κs = search needs
@@ -94,14 +94,14 @@ struct-equal-requires t c κs = (search needs, (c .before .before .before .befor
 enum-told-10 : (t : ℕ) → lts.Need-enum-told-10 (calls t) (equal-values-at t) equal-values.Post
 enum-told-10 t c = search needs
 
-equal-dense-requires : (t : ℕ) → lts.Need-equal-dense-requires (calls t) (equal-values-at t) equal-values.Post
-equal-dense-requires t c κs = (search needs, (c .before .before .before .before .before .before .pre .1, (layout-is (c .before .before .before .code .ensures) (c .before .before .layout .ensures) (at-layouts (9 ∷ []) DenseUnion (λ l. l) refl (c .before .before .layout .result) (c .before .match .keys10)))))
+dense-requires : (t : ℕ) → lts.Need-dense-requires (calls t) (equal-values-at t) equal-values.Post
+dense-requires t c κs = (search needs, (c .before .before .before .before .before .before .pre .1, (layout-is (c .before .before .before .code .ensures) (c .before .before .layout .ensures) (at-layouts (9 ∷ []) DenseUnion (λ l. l) refl (c .before .before .layout .result) (c .before .match .keys10)))))
 
 enum-told-11 : (t : ℕ) → lts.Need-enum-told-11 (calls t) (equal-values-at t) equal-values.Post
 enum-told-11 t c = search needs
 
-equal-sparse-requires : (t : ℕ) → lts.Need-equal-sparse-requires (calls t) (equal-values-at t) equal-values.Post
-equal-sparse-requires t c κs = (search needs, (c .before .before .before .before .before .before .pre .1, (layout-is (c .before .before .before .code .ensures) (c .before .before .layout .ensures) (at-layouts (10 ∷ []) SparseUnion (λ l. l) refl (c .before .before .layout .result) (c .before .match .keys11)))))
+sparse-requires : (t : ℕ) → lts.Need-sparse-requires (calls t) (equal-values-at t) equal-values.Post
+sparse-requires t c κs = (search needs, (c .before .before .before .before .before .before .pre .1, (layout-is (c .before .before .before .code .ensures) (c .before .before .layout .ensures) (at-layouts (10 ∷ []) SparseUnion (λ l. l) refl (c .before .before .layout .result) (c .before .match .keys11)))))
 
 enum-told-12 : (t : ℕ) → lts.Need-enum-told-12 (calls t) (equal-values-at t) equal-values.Post
 enum-told-12 t c = search needs
@@ -143,10 +143,10 @@ returns-9 : (t : ℕ) → lts.Need-returns-9 (calls t) (equal-values-at t) equal
 returns-9 t c = c .equal4 .ensures ∙ by-layout (c .before .before .before .before .before .before .before .pre .1) Struct (layout-is (c .before .before .before .before .code .ensures) (c .before .before .before .layout .ensures) (at-layouts (8 ∷ []) Struct (λ l. l) refl (c .before .before .before .layout .result) (c .before .before .match .keys9)))
 
 returns-10 : (t : ℕ) → lts.Need-returns-10 (calls t) (equal-values-at t) equal-values.Post
-returns-10 t c = c .equal-dense .ensures ∙ by-layout (c .before .before .before .before .before .before .before .pre .1) DenseUnion (layout-is (c .before .before .before .before .code .ensures) (c .before .before .before .layout .ensures) (at-layouts (9 ∷ []) DenseUnion (λ l. l) refl (c .before .before .before .layout .result) (c .before .before .match .keys10)))
+returns-10 t c = c .dense .ensures ∙ by-layout (c .before .before .before .before .before .before .before .pre .1) DenseUnion (layout-is (c .before .before .before .before .code .ensures) (c .before .before .before .layout .ensures) (at-layouts (9 ∷ []) DenseUnion (λ l. l) refl (c .before .before .before .layout .result) (c .before .before .match .keys10)))
 
 returns-11 : (t : ℕ) → lts.Need-returns-11 (calls t) (equal-values-at t) equal-values.Post
-returns-11 t c = c .equal-sparse .ensures ∙ by-layout (c .before .before .before .before .before .before .before .pre .1) SparseUnion (layout-is (c .before .before .before .before .code .ensures) (c .before .before .before .layout .ensures) (at-layouts (10 ∷ []) SparseUnion (λ l. l) refl (c .before .before .before .layout .result) (c .before .before .match .keys11)))
+returns-11 t c = c .sparse .ensures ∙ by-layout (c .before .before .before .before .before .before .before .pre .1) SparseUnion (layout-is (c .before .before .before .before .code .ensures) (c .before .before .before .layout .ensures) (at-layouts (10 ∷ []) SparseUnion (λ l. l) refl (c .before .before .before .layout .result) (c .before .before .match .keys11)))
 
 returns-12 : (t : ℕ) → lts.Need-returns-12 (calls t) (equal-values-at t) equal-values.Post
 returns-12 t c = c .equal5 .ensures ∙ by-layout (c .before .before .before .before .before .before .before .pre .1) Dictionary (layout-is (c .before .before .before .before .code .ensures) (c .before .before .before .layout .ensures) (at-layouts (11 ∷ []) Dictionary (λ l. l) refl (c .before .before .before .layout .result) (c .before .before .match .keys12)))
@@ -178,9 +178,9 @@ proof t =
     (enum-told-9 t)
     (struct-equal-requires t)
     (enum-told-10 t)
-    (equal-dense-requires t)
+    (dense-requires t)
     (enum-told-11 t)
-    (equal-sparse-requires t)
+    (sparse-requires t)
     (enum-told-12 t)
     (dictionary-equal-requires t)
     (enum-told-13 t)

@@ -7,12 +7,12 @@ use borrow.Author.Tests.{not-true, not-false}
 use borrow.Author.Needs.{needs}
 use Rattle.image.specs.Row.{rowAt}
 use Rattle.equal.proofs.Structs.{ColumnsLeft, columns-start, struct-requires, columns-more-left, columns-fail, columns-done}
-use Rattle.equal.proofs.+dictionary-equal+dictionary-long_equal+equal_range+equal_row+equal_valid+equal_values+fixed_list-equal+list-equal+list_view-equal+run-equal+structure-equal+union-equal_block+union-equal_dense+union-equal_sparse.Proof.Measures.{structure·equal-at, equal-range-below}
+use Rattle.equal.proofs.+dictionary-equal+dictionary-long_equal+equal_range+equal_row+equal_valid+equal_values+fixed_list-equal+list-equal+list_view-equal+run-equal+structure-equal+union-block+union-dense+union-sparse.Proof.Measures.{structure·equal-at, equal-range-below}
 use Rattle.equal.proofs.equal_range.Reads as equal-range
 use Rattle.equal.proofs.structure.equal.Reads as structure·equal
 use Rattle.image.proofs.record.child_count.Reads as child-count-reads
 use Rattle.image.proofs.record.first_child.Reads as first-child-reads
-use Rattle.equal.proofs.+dictionary-equal+dictionary-long_equal+equal_range+equal_row+equal_valid+equal_values+fixed_list-equal+list-equal+list_view-equal+run-equal+structure-equal+union-equal_block+union-equal_dense+union-equal_sparse.Lts-structure-equal as lts
+use Rattle.equal.proofs.+dictionary-equal+dictionary-long_equal+equal_range+equal_row+equal_valid+equal_values+fixed_list-equal+list-equal+list_view-equal+run-equal+structure-equal+union-block+union-dense+union-sparse.Lts-structure-equal as lts
 
 abbrev calls : ℕ → lts.Claims
 calls t = (child-count-reads.Asked, child-count-reads.Learnt, first-child-reads.Asked, first-child-reads.Learnt, equal-range-below t, equal-range.Post)

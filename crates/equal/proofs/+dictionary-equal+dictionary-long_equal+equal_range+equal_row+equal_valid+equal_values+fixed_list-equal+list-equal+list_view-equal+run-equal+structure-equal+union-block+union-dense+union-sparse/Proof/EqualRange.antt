@@ -6,14 +6,14 @@ use native.Mathlib.Omega.{arith}
 use borrow.Author.Tests.{not-true, not-false}
 use borrow.Author.Needs.{needs}
 use Rattle.equal.proofs.Nulls.{sides-left, sides-right, range-none, range-sides, range-rows, range-masks, range-requires, range-answer}
-use Rattle.equal.proofs.+dictionary-equal+dictionary-long_equal+equal_range+equal_row+equal_valid+equal_values+fixed_list-equal+list-equal+list_view-equal+run-equal+structure-equal+union-equal_block+union-equal_dense+union-equal_sparse.Proof.Measures.{equal-range-at, equal-valid-below, equal-values-below}
+use Rattle.equal.proofs.+dictionary-equal+dictionary-long_equal+equal_range+equal_row+equal_valid+equal_values+fixed_list-equal+list-equal+list_view-equal+run-equal+structure-equal+union-block+union-dense+union-sparse.Proof.Measures.{equal-range-at, equal-valid-below, equal-values-below}
 use Rattle.equal.proofs.equal_range.Reads as equal-range
 use Rattle.equal.proofs.equal_valid.Reads as equal-valid
 use Rattle.equal.proofs.equal_values.Reads as equal-values
 use Rattle.image.proofs.record.offset.Reads as offset-reads
 use Rattle.values.proofs.data.contains_nulls.Reads as contains-nulls-reads
 use Rattle.values.proofs.utils.equal_nulls.Reads as equal-nulls-reads
-use Rattle.equal.proofs.+dictionary-equal+dictionary-long_equal+equal_range+equal_row+equal_valid+equal_values+fixed_list-equal+list-equal+list_view-equal+run-equal+structure-equal+union-equal_block+union-equal_dense+union-equal_sparse.Lts-equal_range as lts
+use Rattle.equal.proofs.+dictionary-equal+dictionary-long_equal+equal_range+equal_row+equal_valid+equal_values+fixed_list-equal+list-equal+list_view-equal+run-equal+structure-equal+union-block+union-dense+union-sparse.Lts-equal_range as lts
 
 abbrev calls : ℕ → lts.Claims
 calls t = (equal-nulls-reads.Asked, equal-nulls-reads.Learnt, contains-nulls-reads.Asked, contains-nulls-reads.Learnt, equal-valid-below t, equal-valid.Post, offset-reads.Asked, offset-reads.Learnt, equal-values-below t, equal-values.Post)

@@ -25,12 +25,12 @@ use Rattle.equal.proofs.run.equal.Reads as run·equal
 use Rattle.equal.proofs.run.equal.Kinds as run·equal-kinds
 use Rattle.equal.proofs.structure.equal.Reads as structure·equal
 use Rattle.equal.proofs.structure.equal.Kinds as structure·equal-kinds
-use Rattle.equal.proofs.union.equal_block.Reads as union·equal-block
-use Rattle.equal.proofs.union.equal_block.Kinds as union·equal-block-kinds
-use Rattle.equal.proofs.union.equal_dense.Reads as union·equal-dense
-use Rattle.equal.proofs.union.equal_dense.Kinds as union·equal-dense-kinds
-use Rattle.equal.proofs.union.equal_sparse.Reads as union·equal-sparse
-use Rattle.equal.proofs.union.equal_sparse.Kinds as union·equal-sparse-kinds
+use Rattle.equal.proofs.union.block.Reads as union·block
+use Rattle.equal.proofs.union.block.Kinds as union·block-kinds
+use Rattle.equal.proofs.union.dense.Reads as union·dense
+use Rattle.equal.proofs.union.dense.Kinds as union·dense-kinds
+use Rattle.equal.proofs.union.sparse.Reads as union·sparse
+use Rattle.equal.proofs.union.sparse.Kinds as union·sparse-kinds
 
 abbrev pub μ-dictionary·equal : Measures 2 dictionary·equal-kinds.ps ℕ
 μ-dictionary·equal κs a = 7 * a .1 .1 .1 .1 .1 .1 .1 .0 + 3
@@ -65,14 +65,14 @@ abbrev pub μ-run·equal : Measures 2 run·equal-kinds.ps ℕ
 abbrev pub μ-structure·equal : Measures 2 structure·equal-kinds.ps ℕ
 μ-structure·equal κs a = 7 * a .1 .1 .1 .1 .1 .1 .1 .0 + 2
 
-abbrev pub μ-union·equal-block : Measures 2 union·equal-block-kinds.ps ℕ
-μ-union·equal-block κs a = 7 * a .1 .1 .1 .1 .1 .1 .1 .0 + 3
+abbrev pub μ-union·block : Measures 2 union·block-kinds.ps ℕ
+μ-union·block κs a = 7 * a .1 .1 .1 .1 .1 .1 .1 .0 + 3
 
-abbrev pub μ-union·equal-dense : Measures 2 union·equal-dense-kinds.ps ℕ
-μ-union·equal-dense κs a = 7 * a .1 .1 .1 .1 .1 .1 .1 .0 + 2
+abbrev pub μ-union·dense : Measures 2 union·dense-kinds.ps ℕ
+μ-union·dense κs a = 7 * a .1 .1 .1 .1 .1 .1 .1 .0 + 2
 
-abbrev pub μ-union·equal-sparse : Measures 2 union·equal-sparse-kinds.ps ℕ
-μ-union·equal-sparse κs a = 7 * a .1 .1 .1 .1 .1 .1 .1 .0 + 4
+abbrev pub μ-union·sparse : Measures 2 union·sparse-kinds.ps ℕ
+μ-union·sparse κs a = 7 * a .1 .1 .1 .1 .1 .1 .1 .0 + 4
 
 abbrev pub dictionary·equal-at : ℕ → In 2 dictionary·equal-kinds.ps
 dictionary·equal-at t = and 2 dictionary·equal-kinds.ps (is 2 dictionary·equal-kinds.ps μ-dictionary·equal t) dictionary·equal.Pre
@@ -140,20 +140,20 @@ structure·equal-at t = and 2 structure·equal-kinds.ps (is 2 structure·equal-k
 abbrev pub structure·equal-below : ℕ → In 2 structure·equal-kinds.ps
 structure·equal-below t = and 2 structure·equal-kinds.ps (falls 2 structure·equal-kinds.ps _<_ μ-structure·equal t) structure·equal.Pre
 
-abbrev pub union·equal-block-at : ℕ → In 2 union·equal-block-kinds.ps
-union·equal-block-at t = and 2 union·equal-block-kinds.ps (is 2 union·equal-block-kinds.ps μ-union·equal-block t) union·equal-block.Pre
+abbrev pub union·block-at : ℕ → In 2 union·block-kinds.ps
+union·block-at t = and 2 union·block-kinds.ps (is 2 union·block-kinds.ps μ-union·block t) union·block.Pre
 
-abbrev pub union·equal-block-below : ℕ → In 2 union·equal-block-kinds.ps
-union·equal-block-below t = and 2 union·equal-block-kinds.ps (falls 2 union·equal-block-kinds.ps _<_ μ-union·equal-block t) union·equal-block.Pre
+abbrev pub union·block-below : ℕ → In 2 union·block-kinds.ps
+union·block-below t = and 2 union·block-kinds.ps (falls 2 union·block-kinds.ps _<_ μ-union·block t) union·block.Pre
 
-abbrev pub union·equal-dense-at : ℕ → In 2 union·equal-dense-kinds.ps
-union·equal-dense-at t = and 2 union·equal-dense-kinds.ps (is 2 union·equal-dense-kinds.ps μ-union·equal-dense t) union·equal-dense.Pre
+abbrev pub union·dense-at : ℕ → In 2 union·dense-kinds.ps
+union·dense-at t = and 2 union·dense-kinds.ps (is 2 union·dense-kinds.ps μ-union·dense t) union·dense.Pre
 
-abbrev pub union·equal-dense-below : ℕ → In 2 union·equal-dense-kinds.ps
-union·equal-dense-below t = and 2 union·equal-dense-kinds.ps (falls 2 union·equal-dense-kinds.ps _<_ μ-union·equal-dense t) union·equal-dense.Pre
+abbrev pub union·dense-below : ℕ → In 2 union·dense-kinds.ps
+union·dense-below t = and 2 union·dense-kinds.ps (falls 2 union·dense-kinds.ps _<_ μ-union·dense t) union·dense.Pre
 
-abbrev pub union·equal-sparse-at : ℕ → In 2 union·equal-sparse-kinds.ps
-union·equal-sparse-at t = and 2 union·equal-sparse-kinds.ps (is 2 union·equal-sparse-kinds.ps μ-union·equal-sparse t) union·equal-sparse.Pre
+abbrev pub union·sparse-at : ℕ → In 2 union·sparse-kinds.ps
+union·sparse-at t = and 2 union·sparse-kinds.ps (is 2 union·sparse-kinds.ps μ-union·sparse t) union·sparse.Pre
 
-abbrev pub union·equal-sparse-below : ℕ → In 2 union·equal-sparse-kinds.ps
-union·equal-sparse-below t = and 2 union·equal-sparse-kinds.ps (falls 2 union·equal-sparse-kinds.ps _<_ μ-union·equal-sparse t) union·equal-sparse.Pre
+abbrev pub union·sparse-below : ℕ → In 2 union·sparse-kinds.ps
+union·sparse-below t = and 2 union·sparse-kinds.ps (falls 2 union·sparse-kinds.ps _<_ μ-union·sparse t) union·sparse.Pre

@@ -7,13 +7,13 @@ use borrow.Author.Tests.{not-true, not-false}
 use borrow.Author.Needs.{needs}
 use Rattle.accepted.proofs.Nodes.{part-small}
 use Rattle.equal.proofs.Lists.{spans-differ, list-spans, list-narrow-left, list-narrow-right, list-order, list-requires, list-answer}
-use Rattle.equal.proofs.+dictionary-equal+dictionary-long_equal+equal_range+equal_row+equal_valid+equal_values+fixed_list-equal+list-equal+list_view-equal+run-equal+structure-equal+union-equal_block+union-equal_dense+union-equal_sparse.Proof.Measures.{list·equal-at, equal-range-below}
+use Rattle.equal.proofs.+dictionary-equal+dictionary-long_equal+equal_range+equal_row+equal_valid+equal_values+fixed_list-equal+list-equal+list_view-equal+run-equal+structure-equal+union-block+union-dense+union-sparse.Proof.Measures.{list·equal-at, equal-range-below}
 use Rattle.equal.proofs.equal_range.Reads as equal-range
 use Rattle.equal.proofs.list.equal.Reads as list·equal
 use Rattle.image.proofs.element.offset_at.Reads as offset-at-reads
 use Rattle.image.proofs.record.first_child.Reads as first-child-reads
 use Rattle.values.proofs.lengths.lengths_equal.Reads as lengths-equal-reads
-use Rattle.equal.proofs.+dictionary-equal+dictionary-long_equal+equal_range+equal_row+equal_valid+equal_values+fixed_list-equal+list-equal+list_view-equal+run-equal+structure-equal+union-equal_block+union-equal_dense+union-equal_sparse.Lts-list-equal as lts
+use Rattle.equal.proofs.+dictionary-equal+dictionary-long_equal+equal_range+equal_row+equal_valid+equal_values+fixed_list-equal+list-equal+list_view-equal+run-equal+structure-equal+union-block+union-dense+union-sparse.Lts-list-equal as lts
 
 abbrev calls : ℕ → lts.Claims
 calls t = (lengths-equal-reads.Asked, lengths-equal-reads.Learnt, offset-at-reads.Asked, offset-at-reads.Learnt, first-child-reads.Asked, first-child-reads.Learnt, equal-range-below t, equal-range.Post)

@@ -13,7 +13,7 @@ use Rattle.equal.proofs.Child.{layout-right}
 use Rattle.accepted.proofs.Nodes.{part-small}
 use Rattle.accepted.proofs.RunEnds.{run-first}
 use Rattle.equal.proofs.Rows.{RowsLeft, rows-none, rows-done}
-use Rattle.equal.proofs.+dictionary-equal+dictionary-long_equal+equal_range+equal_row+equal_valid+equal_values+fixed_list-equal+list-equal+list_view-equal+run-equal+structure-equal+union-equal_block+union-equal_dense+union-equal_sparse.Proof.Measures.{run·equal-at, equal-range-below, equal-row-below}
+use Rattle.equal.proofs.+dictionary-equal+dictionary-long_equal+equal_range+equal_row+equal_valid+equal_values+fixed_list-equal+list-equal+list_view-equal+run-equal+structure-equal+union-block+union-dense+union-sparse.Proof.Measures.{run·equal-at, equal-range-below, equal-row-below}
 use Rattle.equal.proofs.equal_range.Reads as equal-range
 use Rattle.equal.proofs.equal_row.Reads as equal-row
 use Rattle.equal.proofs.run.equal.Reads as run·equal
@@ -24,7 +24,7 @@ use Rattle.image.proofs.element.ends_of.Reads as ends-of-reads
 use Rattle.image.proofs.element.run_end.Reads as run-end-reads
 use Rattle.accepted.proofs.runs.run_of.Reads as run-of-reads
 use Rattle.values.proofs.runs.same_runs.Reads as same-runs-reads
-use Rattle.equal.proofs.+dictionary-equal+dictionary-long_equal+equal_range+equal_row+equal_valid+equal_values+fixed_list-equal+list-equal+list_view-equal+run-equal+structure-equal+union-equal_block+union-equal_dense+union-equal_sparse.Lts-run-equal as lts
+use Rattle.equal.proofs.+dictionary-equal+dictionary-long_equal+equal_range+equal_row+equal_valid+equal_values+fixed_list-equal+list-equal+list_view-equal+run-equal+structure-equal+union-block+union-dense+union-sparse.Lts-run-equal as lts
 
 abbrev calls : ℕ → lts.Claims
 calls t = (first-child-reads.Asked, first-child-reads.Learnt, run-of-reads.Asked, run-of-reads.Learnt, same-runs-reads.Asked, same-runs-reads.Learnt, equal-range-below t, equal-range.Post, leaves-of-reads.Asked, leaves-of-reads.Learnt, ends-of-reads.Asked, ends-of-reads.Learnt, equal-row-below t, equal-row.Post, run-end-reads.Asked, run-end-reads.Learnt, least-reads.Asked, least-reads.Learnt)
