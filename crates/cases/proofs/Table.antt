@@ -12,6 +12,7 @@ use Rattle.image.specs.Bytes
 use Rattle.image.specs.Record
 use Rattle.image.specs.TypeCode
 use Rattle.image.specs.Element
+use Rattle.image.specs.Utf8
 use Rattle.image.specs.Faults
 use Rattle.image.specs.Types
 use Rattle.image.specs.Row
@@ -67,11 +68,12 @@ unfolding passes
     TypeCode.entries TypeCode.entryOf TypeCode.layoutOf TypeCode.integerWidth TypeCode.widthOf TypeCode.p1Fits
     TypeCode.isDecimal TypeCode.p2Fits TypeCode.isUnion TypeCode.keySigned TypeCode.signBit
     Element.valid Element.elementWidth Element.elementPlace Element.elementAt Element.runEndWidth Element.runEndAt
-    Element.endsAbove Element.runAt
+    Element.textAt Element.endsAbove Element.runAt
+    Utf8.char Utf8.octets Utf8.wellFormed
     Faults.fault10 Faults.fault11 Faults.levelEnd Faults.mapEntries Faults.runEnds Faults.fault12 Faults.outside
     Faults.bufferOutside Faults.fault13 Faults.whole Faults.fault14 Faults.under Faults.fault15 Faults.rowsUnder
     Faults.childUnder Faults.fault16 Faults.offsetsRise Faults.fault17 Faults.keyOutside Faults.runEndsRise
-    Faults.lastEndBelow Faults.keyRowFault Faults.fault18 Faults.fault Faults.firstFaulty Faults.checkFrom
+    Faults.lastEndBelow Faults.keyRowFault Faults.fault18 Faults.textRowFault Faults.fault19 Faults.fault Faults.firstFaulty Faults.checkFrom
     Faults.checkImage
     Types.sameBytes Types.nameOf Types.ordinaryCounts Types.labelsAgree Types.headsAgree Types.typesAgreeAt Types.typesAgree
     Row.range Row.fixedRow Row.variableRow Row.listRow Row.structRow Row.dictionaryRow Row.runRow Row.rowAt

@@ -1,0 +1,4 @@
+pub mod Ascii
+pub mod Cuts
+pub mod Grammar
+pub mod Parts
