@@ -37,17 +37,18 @@ def wide(values, width, offset=0, **field):
     return column(FIXED_SIZE_BINARY, len(values) - offset, [b"".join(values)], p1=width, offset=offset, **field)
 
 
-def texts(values, code=UTF8, before=b"", after=b"", offset=0, **field):
+def texts(values, code=UTF8, before=b"", after=b"", offset=0, rows=None, **field):
     ends, data = [len(before)], before
     for value in values:
         data += value
         ends.append(len(data))
     width = 8 if code in (LARGE_UTF8, LARGE_BINARY) else 4
-    return column(code, len(values) - offset, [b"".join(number(width, end) for end in ends), data + after], offset=offset, **field)
+    buffers = [b"".join(number(width, end) for end in ends), data + after]
+    return column(code, len(values) - offset if rows is None else rows, buffers, offset=offset, **field)
 
 
-def views(rows, data=(), offset=0, code=UTF8_VIEW, **field):
-    return column(code, len(rows) - offset, [b"".join(rows), *data], offset=offset, **field)
+def views(values, data=(), offset=0, code=UTF8_VIEW, rows=None, **field):
+    return column(code, len(values) - offset if rows is None else rows, [b"".join(values), *data], offset=offset, **field)
 
 
 def lists(offsets, child, code=LIST, offset=0, **field):
