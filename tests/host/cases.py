@@ -34,7 +34,7 @@ LONGEST_INPUT = 4096
 columns.TEXT_LENGTHS = [1, 4, 12, 13, 20] * 4 + [15, 16, 17, 33, 64, 65, 130, 300, 520]
 
 # how many of them are ill-formed, in one table of so many
-ILL_FORMED, TABLES = 0.05, 6
+ILL_FORMED, TABLES = 0.05, 5
 
 # an image that is asked about several times is checked once
 model.checked = functools.lru_cache(maxsize=8)(model.checked)
