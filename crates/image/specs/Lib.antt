@@ -9,3 +9,4 @@ pub mod Types
 pub mod Row
 pub mod Equality
 pub mod RowBytes
+pub mod Utf8
