@@ -1,0 +1,50 @@
+// The walk through a text by the table, from its first byte to its last.
+use crate::ascii::BLOCK;
+use crate::ascii::high_among;
+use crate::table::next;
+ghost use mathlib.Core.Path.{_≡_};
+ghost use Prim.Native.Nat.{_+_, _≤_, _<_};
+ghost use lib.ListN.{length};
+ghost use Rattle.image.specs.Bytes.{bytesAt};
+ghost use Rattle.image.specs.Utf8.{nextStates, walk, wellFormed};
+
+// The state after the n bytes at a place, walked from state q on.
+pub(crate) fn walk_bytes(table: &[u8; 2304], s: &[u8], at: usize, n: usize, q: u8) -> u8
+    requires { ⌜ (q < 9) × (at + n ≤ length (now s)) × (now table ≡ nextStates) ⌝ }
+    ensures { λ r. ⌜ r ≡ walk q (bytesAt (now (s .entry)) at n) ⌝ }
+{
+    let mut state = q;
+    let mut i: usize = 0;
+    while i < n {
+        state = next(table, state, s[at + i]);
+        i += 1;
+    }
+    state
+}
+
+// The same for the 64 bytes at a place. Between characters, bytes up to 7F leave the state as it is.
+fn walk_block(table: &[u8; 2304], s: &[u8], at: usize, q: u8) -> u8
+    requires { ⌜ (q < 9) × (at + 64 ≤ length (now s)) × (now table ≡ nextStates) ⌝ }
+    ensures { λ r. ⌜ r ≡ walk q (bytesAt (now (s .entry)) at 64) ⌝ }
+{
+    if q == 0 {
+        if !high_among(s, at, BLOCK) {
+            return 0;
+        }
+    }
+    walk_bytes(table, s, at, BLOCK, q)
+}
+
+// The n bytes at a place are well-formed text.
+pub(crate) fn ends_well(table: &[u8; 2304], s: &[u8], at: usize, n: usize) -> bool
+    requires { ⌜ (at + n ≤ length (now s)) × (now table ≡ nextStates) ⌝ }
+    ensures { λ r. ⌜ r ≡ wellFormed (bytesAt (now (s .entry)) at n) ⌝ }
+{
+    let mut q: u8 = 0;
+    let mut i: usize = 0;
+    while BLOCK <= n - i {
+        q = walk_block(table, s, at + i, q);
+        i += BLOCK;
+    }
+    walk_bytes(table, s, at + i, n - i, q) == 0
+}
