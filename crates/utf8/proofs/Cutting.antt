@@ -10,9 +10,11 @@ use lib.Dec.{eqb, leb, eqb·suc-zero}
 use lib.ListN.{getD}
 use borrow.Author.Tests.{leb-true, leb-false, le-leb, lt-leb}
 use Rattle.image.specs.Bytes.{byteAt, bytesAt}
+use Rattle.image.specs.Ranges.{first}
 use Rattle.image.specs.Utf8.{Range, _to_, has, tail, Choice, _then_, choose, steps, nextState, walk, wellFormed}
 use Rattle.image.proofs.Bools.{and-left, and-right, and-fails, fails-and}
-use Rattle.utf8.specs.Cuts.{Cut}
+use Rattle.image.proofs.Ranges.{first-from, first-within}
+use Rattle.utf8.specs.Cuts.{begins, Cut}
 use Rattle.utf8.proofs.Steps.{all, all-at, walk-split}
 use Rattle.utf8.proofs.WalkAgrees.{walk-agrees}
 
@@ -45,7 +47,7 @@ inside q b h = no-tail (getD (rest steps) q []) b (all-at tails refl (rest steps
     rest [] = []
     rest (x ∷ more) = more
 
-ill-formed : (s : List ℕ) → walk 8 s ≡ 8
+pub ill-formed : (s : List ℕ) → walk 8 s ≡ 8
 unfolding walk nextState steps
 ill-formed [] = refl
 ill-formed (b ∷ s) = ill-formed s
@@ -71,17 +73,26 @@ cut-formed s i m n c =
     cases zero = refl
     cases (suc q) = ends-ill s q (i + m) n c ∙ rw (eqb·suc-zero q)
 
+-- the law, for a text from place x to place z that is cut at place y
+pub cut-at : (s : List ℕ) (x y z : ℕ) → x ≤ y → y ≤ z → Cut s z y
+    → wellFormed (bytesAt s x (z - x)) ≡ wellFormed (bytesAt s x (y - x)) && wellFormed (bytesAt s y (z - y))
+cut-at s x y z from upto c =
+    let here : x + (y - x) ≡ y = omega arith in
+    let whole : z - x ≡ y - x + (z - y) = omega arith in
+    rw whole (cut-formed s x (y - x) (z - y) (λ lt. rw here (c (omega arith))) ∙ rw here)
+
 -- each part of a well-formed text between two places where it may be cut is well-formed: a look at a column's whole buffer,
 -- and at the byte where each of its texts starts, answers for each of them
 pub part-formed : (s : List ℕ) (a n x m : ℕ) → a ≤ x → x + m ≤ a + n → Cut s (a + n) x → Cut s (a + n) (x + m)
     → wellFormed (bytesAt s a n) ≡ true → wellFormed (bytesAt s x m) ≡ true
 part-formed s a n x m from upto start end e =
-    let k = x - a in
-    let l = a + n - (x + m) in
-    let whole : n ≡ k + (m + l) = omega arith in
-    let here : a + k ≡ x = omega arith in
-    let last : a + n ≡ x + (m + l) = omega arith in
-    let first-cut : Cut s (a + k + (m + l)) (a + k) = rw (here, ← last) start in
-    let back : wellFormed (bytesAt s x (m + l)) ≡ true =
-    rw here at (and-right (wellFormed (bytesAt s a k)) _ (sym (cut-formed s a k (m + l) first-cut) ∙ rw whole at e)) in
-    and-left _ (wellFormed (bytesAt s (x + m) l)) (sym (cut-formed s x m l (λ lt. end (omega arith))) ∙ back)
+    let whole : n ≡ a + n - a = omega arith in
+    let part : x + m - x ≡ m = omega arith in
+    let back : wellFormed (bytesAt s x (a + n - x)) ≡ true =
+    and-right (wellFormed (bytesAt s a (x - a))) _ (sym (cut-at s a x (a + n) from (omega arith) start) ∙ rw whole at e) in
+    ap (λ (k : ℕ). wellFormed (bytesAt s x k)) (sym part)
+    ∙ and-left _ (wellFormed (bytesAt s (x + m) (a + n - (x + m)))) (sym (cut-at s x (x + m) (a + n) (omega arith) upto end) ∙ back)
+
+-- the first of three places where no tail stands is near
+pub cut-near : (s : List ℕ) (x : ℕ) {r : ℕ} → r ≡ first (begins s) x 3 → (x ≤ r) × (r ≤ x + 3)
+cut-near s x e = rw e (first-from (begins s) x 3, first-within (begins s) x 3)

@@ -1,10 +1,217 @@
-// Where a text may be cut: at a byte that is no tail. It is well-formed exactly where the parts are (proofs/Cutting.antt).
+// A long text, cut in four parts that are walked side by side, so that four loads from the table are waited for at once.
+// It is cut where no tail stands, and is well-formed exactly where the four parts are (proofs/Cutting.antt).
+use crate::ascii::BLOCK;
+use crate::ascii::high_among;
+use crate::table::next;
+use crate::walk::in_one;
+use crate::walk::walk_bytes;
 ghost use mathlib.Core.Path.{_≡_};
-ghost use Rattle.image.specs.Utf8.{has, tail};
+ghost use Prim.Native.Nat.{_+_, _≤_};
+ghost use lib.ListN.{length};
+ghost use Rattle.image.specs.Bytes.{bytesAt};
+ghost use Rattle.image.specs.Ranges.{first};
+ghost use Rattle.image.specs.Utf8.{has, tail, nextStates, wellFormed};
+ghost use Rattle.utf8.specs.Cuts.{begins};
+ghost use Rattle.utf8.specs.Parts.{Left, Further, Each, Both, endsWell, allEnd, plain, allPlain, Long, Passed, ill};
+
+// What is left of a part: the place that the walk has come to, the part's end, and the state.
+pub(crate) struct Part {
+    pub at: usize,
+    pub stop: usize,
+    pub state: u8,
+}
+
+// The four parts of a text.
+pub(crate) struct Parts {
+    pub a: Part,
+    pub b: Part,
+    pub c: Part,
+    pub d: Part,
+}
 
 // The byte is a tail, 80 to BF: no character begins with it.
 pub fn is_tail(b: u8) -> bool
     ensures { λ r. ⌜ r ≡ has tail b ⌝ }
 {
     (b >= 0x80) & (b <= 0xBF)
+}
+
+// The first of three places from one on where no tail stands, or the fourth: a character has three tails at most.
+fn cut(s: &[u8], at: usize) -> usize
+    requires { ⌜ at + 3 ≤ length (now s) ⌝ }
+    ensures { λ r. ⌜ r ≡ first (begins (now (s .entry))) at 3 ⌝ }
+{
+    let mut i: usize = 0;
+    while i < 3 {
+        if !is_tail(s[at + i]) {
+            return at + i;
+        }
+        i += 1;
+    }
+    at + 3
+}
+
+// A part, one byte further.
+fn step(table: &[u8; 2304], s: &[u8], p: Part) -> Part
+    requires { ⌜ Left (now s) 1 p × (now table ≡ nextStates) ⌝ }
+    ensures { λ r. ⌜ Further (now (s .entry)) 1 p r ⌝ }
+{
+    let at = p.at;
+    Part {
+        at: at + 1,
+        stop: p.stop,
+        state: next(table, p.state, s[at]),
+    }
+}
+
+// Four parts, each one byte further.
+fn step_each(table: &[u8; 2304], s: &[u8], p: Parts) -> Parts
+    requires { ⌜ Each (Left (now s) 1) p × (now table ≡ nextStates) ⌝ }
+    ensures { λ r. ⌜ Both (Further (now (s .entry)) 1) p r ⌝ }
+{
+    Parts {
+        a: step(table, s, p.a),
+        b: step(table, s, p.b),
+        c: step(table, s, p.c),
+        d: step(table, s, p.d),
+    }
+}
+
+// Four parts, each n bytes further.
+fn walk_each(table: &[u8; 2304], s: &[u8], p: Parts, n: usize) -> Parts
+    requires { ⌜ Each (Left (now s) n) p × (now table ≡ nextStates) ⌝ }
+    ensures { λ r. ⌜ Both (Further (now (s .entry)) n) p r ⌝ }
+{
+    let mut r = p;
+    let mut i: usize = 0;
+    while i < n {
+        r = step_each(table, s, r);
+        i += 1;
+    }
+    r
+}
+
+// A part is between characters, and its next 64 bytes are none above 7F.
+fn is_plain(s: &[u8], p: Part) -> bool
+    requires { ⌜ Left (now s) 64 p ⌝ }
+    ensures { λ r. ⌜ r ≡ plain (now (s .entry)) p ⌝ }
+{
+    if p.state != 0 {
+        return false;
+    }
+    !high_among(s, p.at, BLOCK)
+}
+
+// Four parts are.
+fn are_plain(s: &[u8], p: Parts) -> bool
+    requires { ⌜ Each (Left (now s) 64) p ⌝ }
+    ensures { λ r. ⌜ r ≡ allPlain (now (s .entry)) p ⌝ }
+{
+    is_plain(s, p.a) & is_plain(s, p.b) & is_plain(s, p.c) & is_plain(s, p.d)
+}
+
+// A part in the same state, 64 bytes further.
+fn pass(p: Part) -> Part
+    requires { ⌜ Long p ⌝ }
+    ensures { λ r. ⌜ Passed p r ⌝ }
+{
+    Part {
+        at: p.at + BLOCK,
+        stop: p.stop,
+        state: p.state,
+    }
+}
+
+// Four parts are.
+fn pass_each(p: Parts) -> Parts
+    requires { ⌜ Each Long p ⌝ }
+    ensures { λ r. ⌜ Both Passed p r ⌝ }
+{
+    Parts {
+        a: pass(p.a),
+        b: pass(p.b),
+        c: pass(p.c),
+        d: pass(p.d),
+    }
+}
+
+// Four parts, each 64 bytes further.
+fn walk_blocks(table: &[u8; 2304], s: &[u8], p: Parts) -> Parts
+    requires { ⌜ Each (Left (now s) 64) p × (now table ≡ nextStates) ⌝ }
+    ensures { λ r. ⌜ Both (Further (now (s .entry)) 64) p r ⌝ }
+{
+    if are_plain(s, p) {
+        return pass_each(p);
+    }
+    walk_each(table, s, p, BLOCK)
+}
+
+// One of four parts is ill-formed, whatever follows.
+fn is_ill(p: Parts) -> bool
+    ensures { λ r. ⌜ r ≡ ill p ⌝ }
+{
+    (p.a.state == 8) | (p.b.state == 8) | (p.c.state == 8) | (p.d.state == 8)
+}
+
+// What is left of a part ends between characters.
+fn ends(table: &[u8; 2304], s: &[u8], p: Part) -> bool
+    requires { ⌜ Left (now s) 0 p × (now table ≡ nextStates) ⌝ }
+    ensures { λ r. ⌜ r ≡ endsWell (now (s .entry)) p ⌝ }
+{
+    walk_bytes(table, s, p.at, p.stop - p.at, p.state) == 0
+}
+
+// Four parts that have n bytes at least end between characters.
+fn all_end(table: &[u8; 2304], s: &[u8], p: Parts, n: usize) -> bool
+    requires { ⌜ Each (Left (now s) n) p × (now table ≡ nextStates) ⌝ }
+    ensures { λ r. ⌜ r ≡ allEnd (now (s .entry)) p ⌝ }
+{
+    let mut r = p;
+    let mut i: usize = 0;
+    while BLOCK <= n - i {
+        r = walk_blocks(table, s, r);
+        if is_ill(r) {
+            return false;
+        }
+        i += BLOCK;
+    }
+    r = walk_each(table, s, r, n - i);
+    ends(table, s, r.a) & ends(table, s, r.b) & ends(table, s, r.c) & ends(table, s, r.d)
+}
+
+// The n bytes at a place are well-formed text. Where there are only tails at a quarter of it, it is walked in one.
+pub(crate) fn in_parts(table: &[u8; 2304], s: &[u8], at: usize, n: usize) -> bool
+    requires { ⌜ (16 ≤ n) × (at + n ≤ length (now s)) × (now table ≡ nextStates) ⌝ }
+    ensures { λ r. ⌜ r ≡ wellFormed (bytesAt (now (s .entry)) at n) ⌝ }
+{
+    let quarter = n / 4;
+    let b = cut(s, at + quarter);
+    let c = cut(s, at + 2 * quarter);
+    let d = cut(s, at + 3 * quarter);
+    if is_tail(s[b]) | is_tail(s[c]) | is_tail(s[d]) {
+        return in_one(table, s, at, n);
+    }
+    let parts = Parts {
+        a: Part {
+            at: at,
+            stop: b,
+            state: 0,
+        },
+        b: Part {
+            at: b,
+            stop: c,
+            state: 0,
+        },
+        c: Part {
+            at: c,
+            stop: d,
+            state: 0,
+        },
+        d: Part {
+            at: d,
+            stop: at + n,
+            state: 0,
+        },
+    };
+    all_end(table, s, parts, quarter - 3)
 }

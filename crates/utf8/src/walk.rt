@@ -36,7 +36,7 @@ fn walk_block(table: &[u8; 2304], s: &[u8], at: usize, q: u8) -> u8
 }
 
 // The n bytes at a place are well-formed text.
-pub(crate) fn ends_well(table: &[u8; 2304], s: &[u8], at: usize, n: usize) -> bool
+pub(crate) fn in_one(table: &[u8; 2304], s: &[u8], at: usize, n: usize) -> bool
     requires { ⌜ (at + n ≤ length (now s)) × (now table ≡ nextStates) ⌝ }
     ensures { λ r. ⌜ r ≡ wellFormed (bytesAt (now (s .entry)) at n) ⌝ }
 {
