@@ -40,13 +40,13 @@ module _ (s : List ℕ) where
   unfolding walk bytesAt
   further-byte l moved kept e = further l moved kept e
 
-  -- 64 bytes up to 7F, between characters
-  further-plain : {p r : Part} → Left s 64 p → plain s p ≡ true → Passed p r → Further s 64 p r
+  -- bytes up to 7F, between characters
+  further-plain : {n : ℕ} {p r : Part} → Left s n p → plain s n p ≡ true → Passed n p r → Further s n p r
   unfolding plain
-  further-plain {p} {r} l e f =
+  further-plain {n} {p} {r} l e f =
       let between : p .state ≡ 0 = eqb-true _ _ (and-left (eqb (p .state) 0) _ e) in
-      let low : any (high s) (p .at) 64 ≡ false = not-true _ (and-right (eqb (p .state) 0) _ e) in
-      further l (f .moved) (f .kept) (f .state-kept ∙ between ∙ sym (rw between (plain-walk s (p .at) 64 low)))
+      let low : any (high s) (p .at) n ≡ false = not-true _ (and-right (eqb (p .state) 0) _ e) in
+      further l (f .moved) (f .kept) (f .state-kept ∙ between ∙ sym (rw between (plain-walk s (p .at) n low)))
 
   pub further-none : {p : Part} → p .state < 9 → Further s 0 p p
   further-none lt = record { known = lt; moved = omega arith; kept = refl; same = refl }
@@ -94,16 +94,16 @@ module _ (s : List ℕ) where
   pub each-rest : {i n : ℕ} {p q r : Parts} → i ≤ n → Each (Left s n) p → Both (Further s i) p q → Both (Further s (n - i)) q r → Each (Left s 0) r
   each-rest {i} {n} le l f g = each-after (omega arith) l (each-then f g)
 
-  pub each-plain : {p r : Parts} → Each (Left s 64) p → allPlain s p ≡ true → Both Passed p r → Both (Further s 64) p r
+  pub each-plain : {n : ℕ} {p r : Parts} → Each (Left s n) p → allPlain s n p ≡ true → Both (Passed n) p r → Both (Further s n) p r
   unfolding allPlain
-  each-plain {p} {r} l e f =
-      let abc : plain s (p .a) && plain s (p .b) && plain s (p .c) ≡ true = and-left _ (plain s (p .d)) e in
-      let ab : plain s (p .a) && plain s (p .b) ≡ true = and-left _ (plain s (p .c)) abc in
+  each-plain {n} {p} {r} l e f =
+      let abc : plain s n (p .a) && plain s n (p .b) && plain s n (p .c) ≡ true = and-left _ (plain s n (p .d)) e in
+      let ab : plain s n (p .a) && plain s n (p .b) ≡ true = and-left _ (plain s n (p .c)) abc in
       record {
-        a = further-plain (l .a) (and-left _ (plain s (p .b)) ab) (f .a);
-        b = further-plain (l .b) (and-right (plain s (p .a)) _ ab) (f .b);
-        c = further-plain (l .c) (and-right (plain s (p .a) && plain s (p .b)) _ abc) (f .c);
-        d = further-plain (l .d) (and-right (plain s (p .a) && plain s (p .b) && plain s (p .c)) _ e) (f .d);
+        a = further-plain (l .a) (and-left _ (plain s n (p .b)) ab) (f .a);
+        b = further-plain (l .b) (and-right (plain s n (p .a)) _ ab) (f .b);
+        c = further-plain (l .c) (and-right (plain s n (p .a) && plain s n (p .b)) _ abc) (f .c);
+        d = further-plain (l .d) (and-right (plain s n (p .a) && plain s n (p .b) && plain s n (p .c)) _ e) (f .d);
       }
 
   pub each-same : {m : ℕ} {p r : Parts} → Both (Further s m) p r → allEnd s r ≡ allEnd s p

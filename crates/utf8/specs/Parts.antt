@@ -32,19 +32,19 @@ pub record Further (s : List ℕ) (m : ℕ) (p r : Part) : Type 0 where
   pub kept : r .stop ≡ p .stop
   pub same : endsWell s r ≡ endsWell s p
 
--- a part is between characters, and its next 64 bytes are none above 7F
-unfoldable pub plain : List ℕ → Part → Bool
-plain s p = eqb (p .state) 0 && not (any (high s) (p .at) 64)
+-- a part is between characters, and its next n bytes are none above 7F
+unfoldable pub plain : List ℕ → ℕ → Part → Bool
+plain s n p = eqb (p .state) 0 && not (any (high s) (p .at) n)
 
-unfoldable pub allPlain : List ℕ → Parts → Bool
-allPlain s p = plain s (p .a) && plain s (p .b) && plain s (p .c) && plain s (p .d)
+unfoldable pub allPlain : List ℕ → ℕ → Parts → Bool
+allPlain s n p = plain s n (p .a) && plain s n (p .b) && plain s n (p .c) && plain s n (p .d)
 
--- a part of 64 bytes at least, and the same in the same state 64 bytes further
-abbrev pub Long : Part → Type 0
-Long p = p .at + 64 ≤ p .stop
+-- a part of n bytes at least, and the same in the same state n bytes further
+abbrev pub Long : ℕ → Part → Type 0
+Long n p = p .at + n ≤ p .stop
 
-pub record Passed (p r : Part) : Type 0 where
-  pub moved : r .at ≡ p .at + 64
+pub record Passed (n : ℕ) (p r : Part) : Type 0 where
+  pub moved : r .at ≡ p .at + n
   pub kept : r .stop ≡ p .stop
   pub state-kept : r .state ≡ p .state
 

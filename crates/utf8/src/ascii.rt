@@ -8,7 +8,7 @@ ghost use Rattle.utf8.specs.Ascii.{high};
 // So many bytes are looked at together, and of the rest so many.
 pub(crate) const BLOCK: usize = 64;
 
-const SMALL_BLOCK: usize = 16;
+pub(crate) const SMALL_BLOCK: usize = 16;
 
 // One of the n bytes at a place is above 7F. The loop has no way out, so that for an n that is known when it is compiled
 // the compiler looks at 16 bytes at once.

@@ -1,6 +1,7 @@
 // A long text, cut in four parts that are walked side by side, so that four loads from the table are waited for at once.
 // It is cut where no tail stands, and is well-formed exactly where the four parts are (proofs/Cutting.antt).
 use crate::ascii::BLOCK;
+use crate::ascii::SMALL_BLOCK;
 use crate::ascii::high_among;
 use crate::table::next;
 use crate::walk::in_one;
@@ -91,48 +92,59 @@ fn walk_each(table: &[u8; 2304], s: &[u8], p: Parts, n: usize) -> Parts
     r
 }
 
-// A part is between characters, and its next 64 bytes are none above 7F.
-fn is_plain(s: &[u8], p: Part) -> bool
-    requires { ⌜ Left (now s) 64 p ⌝ }
-    ensures { λ r. ⌜ r ≡ plain (now (s .entry)) p ⌝ }
+// A part is between characters, and its next n bytes are none above 7F.
+fn is_plain(s: &[u8], p: Part, n: usize) -> bool
+    requires { ⌜ Left (now s) n p ⌝ }
+    ensures { λ r. ⌜ r ≡ plain (now (s .entry)) n p ⌝ }
 {
     if p.state != 0 {
         return false;
     }
-    !high_among(s, p.at, BLOCK)
+    !high_among(s, p.at, n)
 }
 
 // Four parts are.
-fn are_plain(s: &[u8], p: Parts) -> bool
-    requires { ⌜ Each (Left (now s) 64) p ⌝ }
-    ensures { λ r. ⌜ r ≡ allPlain (now (s .entry)) p ⌝ }
+fn are_plain(s: &[u8], p: Parts, n: usize) -> bool
+    requires { ⌜ Each (Left (now s) n) p ⌝ }
+    ensures { λ r. ⌜ r ≡ allPlain (now (s .entry)) n p ⌝ }
 {
-    is_plain(s, p.a) & is_plain(s, p.b) & is_plain(s, p.c) & is_plain(s, p.d)
+    is_plain(s, p.a, n) & is_plain(s, p.b, n) & is_plain(s, p.c, n) & is_plain(s, p.d, n)
 }
 
-// A part in the same state, 64 bytes further.
-fn pass(p: Part) -> Part
-    requires { ⌜ Long p ⌝ }
-    ensures { λ r. ⌜ Passed p r ⌝ }
+// A part in the same state, n bytes further.
+fn pass(p: Part, n: usize) -> Part
+    requires { ⌜ Long n p ⌝ }
+    ensures { λ r. ⌜ Passed n p r ⌝ }
 {
     Part {
-        at: p.at + BLOCK,
+        at: p.at + n,
         stop: p.stop,
         state: p.state,
     }
 }
 
-// Four parts are.
-fn pass_each(p: Parts) -> Parts
-    requires { ⌜ Each Long p ⌝ }
-    ensures { λ r. ⌜ Both Passed p r ⌝ }
+// Four parts in the same states, each n bytes further.
+fn pass_each(p: Parts, n: usize) -> Parts
+    requires { ⌜ Each (Long n) p ⌝ }
+    ensures { λ r. ⌜ Both (Passed n) p r ⌝ }
 {
     Parts {
-        a: pass(p.a),
-        b: pass(p.b),
-        c: pass(p.c),
-        d: pass(p.d),
+        a: pass(p.a, n),
+        b: pass(p.b, n),
+        c: pass(p.c, n),
+        d: pass(p.d, n),
     }
+}
+
+// Four parts, each 16 bytes further.
+fn walk_small_blocks(table: &[u8; 2304], s: &[u8], p: Parts) -> Parts
+    requires { ⌜ Each (Left (now s) 16) p × (now table ≡ nextStates) ⌝ }
+    ensures { λ r. ⌜ Both (Further (now (s .entry)) 16) p r ⌝ }
+{
+    if are_plain(s, p, SMALL_BLOCK) {
+        return pass_each(p, SMALL_BLOCK);
+    }
+    walk_each(table, s, p, SMALL_BLOCK)
 }
 
 // Four parts, each 64 bytes further.
@@ -140,10 +152,16 @@ fn walk_blocks(table: &[u8; 2304], s: &[u8], p: Parts) -> Parts
     requires { ⌜ Each (Left (now s) 64) p × (now table ≡ nextStates) ⌝ }
     ensures { λ r. ⌜ Both (Further (now (s .entry)) 64) p r ⌝ }
 {
-    if are_plain(s, p) {
-        return pass_each(p);
+    if are_plain(s, p, BLOCK) {
+        return pass_each(p, BLOCK);
     }
-    walk_each(table, s, p, BLOCK)
+    let mut r = p;
+    let mut i: usize = 0;
+    while i < BLOCK {
+        r = walk_small_blocks(table, s, r);
+        i += SMALL_BLOCK;
+    }
+    r
 }
 
 // One of four parts is ill-formed, whatever follows.
