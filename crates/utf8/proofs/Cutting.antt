@@ -5,17 +5,16 @@ use mathlib.Core.Bool.{Bool, true, false, cond, _&&_}
 use mathlib.Core.List.{List, [], _∷_}
 use Prim.Native.Nat.{ℕ, zero, suc, _+_, _-_, _<_, _≤_}
 use native.Mathlib.Omega.{arith}
-use native.Mathlib.Nat.{add-zero}
 use lib.Dec.{eqb, leb, eqb·suc-zero}
 use lib.ListN.{getD}
 use borrow.Author.Tests.{leb-true, leb-false, le-leb, lt-leb}
 use Rattle.image.specs.Bytes.{byteAt, bytesAt}
 use Rattle.image.specs.Ranges.{first}
-use Rattle.image.specs.Utf8.{Range, _to_, has, tail, Choice, _then_, choose, steps, nextState, walk, wellFormed}
+use Rattle.image.specs.Utf8.{_to_, has, tail, Choice, _then_, choose, steps, nextState, walk, wellFormed}
 use Rattle.image.proofs.Bools.{and-left, and-right, and-fails, fails-and}
 use Rattle.image.proofs.Ranges.{first-from, first-within}
 use Rattle.utf8.specs.Cuts.{begins, Cut}
-use Rattle.utf8.proofs.Steps.{all, all-at, walk-split}
+use Rattle.utf8.proofs.Steps.{all-at, walk-split}
 use Rattle.utf8.proofs.WalkAgrees.{walk-agrees}
 
 -- every range of the choices lies among the tails
@@ -88,10 +87,10 @@ pub part-formed : (s : List ℕ) (a n x m : ℕ) → a ≤ x → x + m ≤ a + n
 part-formed s a n x m from upto start end e =
     let whole : n ≡ a + n - a = omega arith in
     let part : x + m - x ≡ m = omega arith in
-    let back : wellFormed (bytesAt s x (a + n - x)) ≡ true =
-    and-right (wellFormed (bytesAt s a (x - a))) _ (sym (cut-at s a x (a + n) from (omega arith) start) ∙ rw whole at e) in
+    let here = sym (cut-at s a x (a + n) from (omega arith) start) ∙ rw whole at e in
+    let back = sym (cut-at s x (x + m) (a + n) (omega arith) upto end) ∙ and-right (wellFormed (bytesAt s a (x - a))) _ here in
     ap (λ (k : ℕ). wellFormed (bytesAt s x k)) (sym part)
-    ∙ and-left _ (wellFormed (bytesAt s (x + m) (a + n - (x + m)))) (sym (cut-at s x (x + m) (a + n) (omega arith) upto end) ∙ back)
+    ∙ and-left _ (wellFormed (bytesAt s (x + m) (a + n - (x + m)))) back
 
 -- the first of three places where no tail stands is near
 pub cut-near : (s : List ℕ) (x : ℕ) {r : ℕ} → r ≡ first (begins s) x 3 → (x ≤ r) × (r ≤ x + 3)

@@ -1,6 +1,6 @@
 -- The four parts of a text, and what is left to walk of them.
 use mathlib.Core.Path.{_≡_}
-use mathlib.Core.Bool.{Bool, true, not, _&&_, _||_}
+use mathlib.Core.Bool.{Bool, not, _&&_, _||_}
 use mathlib.Core.List.{List}
 use Prim.Native.Nat.{ℕ, _+_, _-_, _≤_, _<_}
 use lib.Dec.{eqb}

@@ -179,7 +179,15 @@ fn ends(table: &[u8; 2304], s: &[u8], p: Part) -> bool
     walk_bytes(table, s, p.at, p.stop - p.at, p.state) == 0
 }
 
-// Four parts that have n bytes at least end between characters.
+// What is left of each of four parts does.
+fn each_ends(table: &[u8; 2304], s: &[u8], p: Parts) -> bool
+    requires { ⌜ Each (Left (now s) 0) p × (now table ≡ nextStates) ⌝ }
+    ensures { λ r. ⌜ r ≡ allEnd (now (s .entry)) p ⌝ }
+{
+    ends(table, s, p.a) & ends(table, s, p.b) & ends(table, s, p.c) & ends(table, s, p.d)
+}
+
+// The same for four parts that have n bytes at least, which are walked side by side.
 fn all_end(table: &[u8; 2304], s: &[u8], p: Parts, n: usize) -> bool
     requires { ⌜ Each (Left (now s) n) p × (now table ≡ nextStates) ⌝ }
     ensures { λ r. ⌜ r ≡ allEnd (now (s .entry)) p ⌝ }
@@ -194,7 +202,7 @@ fn all_end(table: &[u8; 2304], s: &[u8], p: Parts, n: usize) -> bool
         i += BLOCK;
     }
     r = walk_each(table, s, r, n - i);
-    ends(table, s, r.a) & ends(table, s, r.b) & ends(table, s, r.c) & ends(table, s, r.d)
+    each_ends(table, s, r)
 }
 
 // The n bytes at a place are well-formed text. Where there are only tails at a quarter of it, it is walked in one.

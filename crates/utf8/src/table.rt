@@ -4,7 +4,8 @@ ghost use mathlib.Core.Path.{_≡_};
 ghost use Prim.Native.Nat.{_<_};
 ghost use Rattle.image.specs.Utf8.{nextState, nextStates};
 
-// 0 between characters; 1 to 3 where so many tails are to come; 4 after E0, 5 after ED, 6 after F0, 7 after F4; 8 ill-formed.
+// Eight lines of 32 entries for each state: 0 between characters; 1 to 3 where so many tails are to come; 4 after E0,
+// 5 after ED, 6 after F0, 7 after F4; 8 ill-formed.
 const NEXT: [u8; 2304] = *b"\
     \x00\x00\x00\x00\x00\x00\x00\x00\x00\x00\x00\x00\x00\x00\x00\x00\x00\x00\x00\x00\x00\x00\x00\x00\x00\x00\x00\x00\x00\x00\x00\x00\
     \x00\x00\x00\x00\x00\x00\x00\x00\x00\x00\x00\x00\x00\x00\x00\x00\x00\x00\x00\x00\x00\x00\x00\x00\x00\x00\x00\x00\x00\x00\x00\x00\

@@ -2,7 +2,6 @@
 -- Both loops keep that what is left to look at gives the answer; the measure is how much is left.
 use mathlib.Core.Path.{sym, _∙_}
 use Prim.Native.Nat.{_-_}
-use native.Mathlib.Omega.{arith}
 use borrow.Author.Needs.{needs}
 use Rattle.image.specs.Ranges.{any}
 use Rattle.image.proofs.Loops.{Rest, rest-none, any-jump, jump-found}

@@ -4,7 +4,7 @@ use mathlib.Core.Path.{sym, _∙_}
 use Prim.Native.Nat.{_-_, _≤_}
 use native.Mathlib.Omega.{arith}
 use borrow.Author.Needs.{needs}
-use Rattle.utf8.specs.Parts.{Both, Further, allEnd}
+use Rattle.utf8.specs.Parts.{Both, Further}
 use Rattle.utf8.proofs.FourParts.{each-none, each-then, each-after, each-rest, each-same, ill-ends}
 use Rattle.utf8.proofs.parts.all_end.Statement.{statement}
 use Rattle.utf8.proofs.parts.all_end.Tie as tie
@@ -45,21 +45,11 @@ sub-walk-each c = c .before .loop .inv .0
 walk-each-requires : tie.Need-walk-each-requires Inv-loop μ-loop
 walk-each-requires c κs = (each-after _ (omega (arith, c .before .loop .inv .0)) (c .before .before .before .pre .0) (c .before .loop .inv .1), c .before .before .before .pre .1)
 
-ends-requires : tie.Need-ends-requires Inv-loop μ-loop
-ends-requires c κs = (each-rest _ (c .before .before .loop .inv .0) (c .before .before .before .before .pre .0) (c .before .before .loop .inv .1) (c .walk-each .ensures) .a, c .before .before .before .before .pre .1)
-
-ends-requires-2 : tie.Need-ends-requires-2 Inv-loop μ-loop
-ends-requires-2 c κs = (each-rest _ (c .before .before .before .loop .inv .0) (c .before .before .before .before .before .pre .0) (c .before .before .before .loop .inv .1) (c .before .walk-each .ensures) .b, c .before .before .before .before .before .pre .1)
-
-ends-requires-3 : tie.Need-ends-requires-3 Inv-loop μ-loop
-ends-requires-3 c κs = (each-rest _ (c .before .before .before .before .loop .inv .0) (c .before .before .before .before .before .before .pre .0) (c .before .before .before .before .loop .inv .1) (c .before .before .walk-each .ensures) .c, c .before .before .before .before .before .before .pre .1)
-
-ends-requires-4 : tie.Need-ends-requires-4 Inv-loop μ-loop
-ends-requires-4 c κs = (each-rest _ (c .before .before .before .before .before .loop .inv .0) (c .before .before .before .before .before .before .before .pre .0) (c .before .before .before .before .before .loop .inv .1) (c .before .before .before .walk-each .ensures) .d, c .before .before .before .before .before .before .before .pre .1)
+each-ends-requires : tie.Need-each-ends-requires Inv-loop μ-loop
+each-ends-requires c κs = (each-rest _ (c .before .before .loop .inv .0) (c .before .before .before .before .pre .0) (c .before .before .loop .inv .1) (c .walk-each .ensures), c .before .before .before .before .pre .1)
 
 returns-2 : tie.Need-returns-2 Inv-loop μ-loop
-unfolding allEnd
-returns-2 c = rw (c .before .before .before .ends .ensures, c .before .before .ends2 .ensures, c .before .ends3 .ensures, c .ends4 .ensures) (each-same _ (each-then _ (c .before .before .before .before .before .before .loop .inv .1) (c .before .before .before .before .walk-each .ensures)))
+returns-2 c = c .each-ends .ensures ∙ each-same _ (each-then _ (c .before .before .before .loop .inv .1) (c .before .walk-each .ensures))
 
 pub all-end-spec : {M : Type 1} → statement M
 all-end-spec =
@@ -77,8 +67,5 @@ all-end-spec =
     loop-again
     sub-walk-each
     walk-each-requires
-    ends-requires
-    ends-requires-2
-    ends-requires-3
-    ends-requires-4
+    each-ends-requires
     returns-2)

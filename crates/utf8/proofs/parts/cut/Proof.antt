@@ -3,7 +3,6 @@
 use mathlib.Core.Path.{ap, sym, _∙_}
 use mathlib.Core.Bool.{not}
 use Prim.Native.Nat.{_-_}
-use native.Mathlib.Omega.{arith}
 use borrow.Author.Needs.{needs}
 use Rattle.image.specs.Ranges.{first}
 use Rattle.image.proofs.Loops.{Rest, rest-none, first-more, first-found, first-done}

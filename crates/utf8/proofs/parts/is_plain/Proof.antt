@@ -1,7 +1,5 @@
 -- `utf8::parts::is_plain` meets its contract.
 -- Assumes nothing.
-use mathlib.Core.Path.{ap}
-use mathlib.Core.Bool.{not}
 use borrow.Author.Needs.{needs}
 use borrow.Author.Tests.{ne-eqb, eq-eqb}
 use Rattle.utf8.specs.Parts.{plain}
