@@ -1,22 +1,23 @@
 -- Four parts of a text, walked side by side, end well exactly where the text is well-formed.
 -- Each walk keeps how its part ends; the text is cut at places where no tail stands.
 use mathlib.Core.Path.{_≡_, refl, sym, ap, _∙_}
-use mathlib.Core.Bool.{Bool, true, false, _&&_, _||_, false≢true}
+use mathlib.Core.Bool.{Bool, true, false, not, _&&_, _||_, false≢true}
 use mathlib.Core.List.{List}
 use Prim.Native.Nat.{ℕ, _+_, _-_, _<_, _≤_}
 use native.Mathlib.Omega.{arith}
 use lib.Dec.{eqb}
 use lib.ListN.{length}
-use borrow.Author.Tests.{eqb-true, not-true}
+use borrow.Author.Tests.{eqb-true}
 use Rattle.image.specs.Bytes.{byteAt, bytesAt}
 use Rattle.image.specs.Ranges.{any}
 use Rattle.image.specs.Utf8.{nextState, walk, wellFormed}
-use Rattle.image.proofs.Bools.{and-left, and-right, or-left, or-right}
+use Rattle.image.proofs.Bools.{or-left, or-right, facts}
+use Rattle.image.proofs.Loops.{any-snoc}
 use Rattle.utf8.specs.declared.parts.Part.{Part}
 use Rattle.utf8.specs.declared.parts.Parts.{Parts}
 use Rattle.utf8.specs.Ascii.{high}
 use Rattle.utf8.specs.Cuts.{Cut}
-use Rattle.utf8.specs.Parts.{Left, Further, Each, Both, endsWell, allEnd, plain, allPlain, Passed, ill}
+use Rattle.utf8.specs.Parts.{Left, Further, Each, Both, endsWell, allEnd, anyHigh, plain, Passed, ill}
 use Rattle.utf8.proofs.Cutting.{cut-at, ill-formed}
 use Rattle.utf8.proofs.Plain.{plain as plain-walk}
 use Rattle.utf8.proofs.Steps.{walk-split, walk-state}
@@ -41,12 +42,9 @@ module _ (s : List ℕ) where
   further-byte l moved kept e = further l moved kept e
 
   -- bytes up to 7F, between characters
-  further-plain : {n : ℕ} {p r : Part} → Left s n p → plain s n p ≡ true → Passed n p r → Further s n p r
-  unfolding plain
-  further-plain {n} {p} {r} l e f =
-      let between : p .state ≡ 0 = eqb-true _ _ (and-left (eqb (p .state) 0) _ e) in
-      let low : any (high s) (p .at) n ≡ false = not-true _ (and-right (eqb (p .state) 0) _ e) in
-      further l (f .moved) (f .kept) (f .state-kept ∙ between ∙ sym (rw between (plain-walk s (p .at) n low)))
+  further-plain : {n : ℕ} {p r : Part} → Left s n p → p .state ≡ 0 → any (high s) (p .at) n ≡ false → Passed n p r → Further s n p r
+  further-plain {n} {p} {r} l e low f =
+      further l (f .moved) (f .kept) (f .state-kept ∙ e ∙ sym (rw e (plain-walk s (p .at) n low)))
 
   pub further-none : {p : Part} → p .state < 9 → Further s 0 p p
   further-none lt = record { known = lt; moved = omega arith; kept = refl; same = refl }
@@ -94,16 +92,15 @@ module _ (s : List ℕ) where
   pub each-rest : {i n : ℕ} {p q r : Parts} → i ≤ n → Each (Left s n) p → Both (Further s i) p q → Both (Further s (n - i)) q r → Each (Left s 0) r
   each-rest {i} {n} le l f g = each-after (omega arith) l (each-then f g)
 
-  pub each-plain : {n : ℕ} {p r : Parts} → Each (Left s n) p → allPlain s n p ≡ true → Both (Passed n) p r → Both (Further s n) p r
-  unfolding allPlain
+  pub each-plain : {n : ℕ} {p r : Parts} → Each (Left s n) p → plain s n p ≡ true → Both (Passed n) p r → Both (Further s n) p r
+  unfolding plain anyHigh
   each-plain {n} {p} {r} l e f =
-      let abc : plain s n (p .a) && plain s n (p .b) && plain s n (p .c) ≡ true = and-left _ (plain s n (p .d)) e in
-      let ab : plain s n (p .a) && plain s n (p .b) ≡ true = and-left _ (plain s n (p .c)) abc in
+      let k = simp facts at e in
       record {
-        a = further-plain (l .a) (and-left _ (plain s n (p .b)) ab) (f .a);
-        b = further-plain (l .b) (and-right (plain s n (p .a)) _ ab) (f .b);
-        c = further-plain (l .c) (and-right (plain s n (p .a) && plain s n (p .b)) _ abc) (f .c);
-        d = further-plain (l .d) (and-right (plain s n (p .a) && plain s n (p .b) && plain s n (p .c)) _ e) (f .d);
+        a = further-plain (l .a) (k .0 .0 .0 .0) (k .1 .0 .0 .0) (f .a);
+        b = further-plain (l .b) (k .0 .0 .0 .1) (k .1 .0 .0 .1) (f .b);
+        c = further-plain (l .c) (k .0 .0 .1) (k .1 .0 .1) (f .c);
+        d = further-plain (l .d) (k .0 .1) (k .1 .1) (f .d);
       }
 
   pub each-same : {m : ℕ} {p r : Parts} → Both (Further s m) p r → allEnd s r ≡ allEnd s p
@@ -156,3 +153,27 @@ pub none-holds : {u v w x y z : Bool} → u ≡ x → v ≡ y → w ≡ z → u 
 none-holds {u} {v} {w} p q r e =
     let f : u || v ≡ false = or-left (u || v) w e in
     (sym p ∙ or-left u v f, sym q ∙ or-right u v f, sym r ∙ or-right (u || v) w e)
+
+-- tests of four parts, taken one byte further
+or-swap : (x y u v : Bool) → x || y || (u || v) ≡ x || u || (y || v)
+or-swap true y u v = refl
+or-swap false true true v = refl
+or-swap false true false v = refl
+or-swap false false u v = refl
+
+or-each : (x y z w a b c d : Bool) → x || a || (y || b) || (z || c) || (w || d) ≡ x || y || z || w || (a || b || c || d)
+or-each x y z w a b c d =
+    sym
+    (or-swap (x || y || z) w (a || b || c) d
+    ∙ ap (λ (t : Bool). t || (w || d)) (or-swap (x || y) z (a || b) c ∙ ap (λ (t : Bool). t || (z || c)) (or-swap x y a b)))
+
+pub high-more : (s : List ℕ) (a b c d i : ℕ)
+    → anyHigh s a b c d (i + 1) ≡ anyHigh s a b c d i || (high s (a + i) || high s (b + i) || high s (c + i) || high s (d + i))
+unfolding anyHigh
+high-more s a b c d i =
+    rw (any-snoc (high s) a i, any-snoc (high s) b i, any-snoc (high s) c i, any-snoc (high s) d i)
+    (or-each (any (high s) a i) (any (high s) b i) (any (high s) c i) (any (high s) d i) (high s (a + i)) (high s (b + i)) (high s (c + i)) (high s (d + i)))
+
+pub high-none : (s : List ℕ) (a b c d : ℕ) → false ≡ anyHigh s a b c d 0
+unfolding anyHigh any
+high-none s a b c d = refl

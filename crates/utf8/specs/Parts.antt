@@ -32,12 +32,17 @@ pub record Further (s : List ℕ) (m : ℕ) (p r : Part) : Type 0 where
   pub kept : r .stop ≡ p .stop
   pub same : endsWell s r ≡ endsWell s p
 
--- a part is between characters, and its next n bytes are none above 7F
-unfoldable pub plain : List ℕ → ℕ → Part → Bool
-plain s n p = eqb (p .state) 0 && not (any (high s) (p .at) n)
+-- four parts are between characters
+abbrev pub between : Parts → Bool
+between p = eqb (p .a .state) 0 && eqb (p .b .state) 0 && eqb (p .c .state) 0 && eqb (p .d .state) 0
 
-unfoldable pub allPlain : List ℕ → ℕ → Parts → Bool
-allPlain s n p = plain s n (p .a) && plain s n (p .b) && plain s n (p .c) && plain s n (p .d)
+-- one of the n bytes at four places is above 7F
+unfoldable pub anyHigh : List ℕ → ℕ → ℕ → ℕ → ℕ → ℕ → Bool
+anyHigh s a b c d n = any (high s) a n || any (high s) b n || any (high s) c n || any (high s) d n
+
+-- four parts are between characters, and none of their next n bytes is above 7F
+unfoldable pub plain : List ℕ → ℕ → Parts → Bool
+plain s n p = between p && not (anyHigh s (p .a .at) (p .b .at) (p .c .at) (p .d .at) n)
 
 -- a part of n bytes at least, and the same in the same state n bytes further
 abbrev pub Long : ℕ → Part → Type 0

@@ -2,7 +2,6 @@
 // It is cut where no tail stands, and is well-formed exactly where the four parts are (proofs/Cutting.antt).
 use crate::ascii::BLOCK;
 use crate::ascii::SMALL_BLOCK;
-use crate::ascii::high_among;
 use crate::table::next;
 use crate::walk::in_one;
 use crate::walk::walk_bytes;
@@ -13,7 +12,7 @@ ghost use Rattle.image.specs.Bytes.{bytesAt};
 ghost use Rattle.image.specs.Ranges.{first};
 ghost use Rattle.image.specs.Utf8.{has, tail, nextStates, wellFormed};
 ghost use Rattle.utf8.specs.Cuts.{begins};
-ghost use Rattle.utf8.specs.Parts.{Left, Further, Each, Both, endsWell, allEnd, plain, allPlain, Long, Passed, ill};
+ghost use Rattle.utf8.specs.Parts.{Left, Further, Each, Both, endsWell, allEnd, anyHigh, plain, Long, Passed, ill};
 
 // What is left of a part: the place that the walk has come to, the part's end, and the state.
 pub(crate) struct Part {
@@ -92,23 +91,30 @@ fn walk_each(table: &[u8; 2304], s: &[u8], p: Parts, n: usize) -> Parts
     r
 }
 
-// A part is between characters, and its next n bytes are none above 7F.
-fn is_plain(s: &[u8], p: Part, n: usize) -> bool
-    requires { ⌜ Left (now s) n p ⌝ }
-    ensures { λ r. ⌜ r ≡ plain (now (s .entry)) n p ⌝ }
+// One of the n bytes at four places is above 7F. As in `high_among`, the loop has no way out.
+fn high_among_four(s: &[u8], a: usize, b: usize, c: usize, d: usize, n: usize) -> bool
+    requires { ⌜ (a + n ≤ length (now s)) × (b + n ≤ length (now s)) × (c + n ≤ length (now s)) × (d + n ≤ length (now s)) ⌝ }
+    ensures { λ r. ⌜ r ≡ anyHigh (now (s .entry)) a b c d n ⌝ }
 {
-    if p.state != 0 {
-        return false;
+    let mut found = false;
+    let mut i: usize = 0;
+    while i < n {
+        found = found
+            | ((s[a + i] >= 128) | (s[b + i] >= 128) | (s[c + i] >= 128) | (s[d + i] >= 128));
+        i += 1;
     }
-    !high_among(s, p.at, n)
+    found
 }
 
-// Four parts are.
+// Four parts are between characters, and none of their next n bytes is above 7F.
 fn are_plain(s: &[u8], p: Parts, n: usize) -> bool
     requires { ⌜ Each (Left (now s) n) p ⌝ }
-    ensures { λ r. ⌜ r ≡ allPlain (now (s .entry)) n p ⌝ }
+    ensures { λ r. ⌜ r ≡ plain (now (s .entry)) n p ⌝ }
 {
-    is_plain(s, p.a, n) & is_plain(s, p.b, n) & is_plain(s, p.c, n) & is_plain(s, p.d, n)
+    if (p.a.state == 0) & (p.b.state == 0) & (p.c.state == 0) & (p.d.state == 0) {
+        return !high_among_four(s, p.a.at, p.b.at, p.c.at, p.d.at, n);
+    }
+    false
 }
 
 // A part in the same state, n bytes further.
