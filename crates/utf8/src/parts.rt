@@ -1,6 +1,5 @@
 // A long text, cut in four parts that are walked side by side, so that four loads from the table are waited for at once.
 // It is cut where no tail stands, and is well-formed exactly where the four parts are (proofs/Cutting.antt).
-use crate::ascii::BLOCK;
 use crate::ascii::SMALL_BLOCK;
 use crate::table::next;
 use crate::walk::in_one;
@@ -13,6 +12,9 @@ ghost use Rattle.image.specs.Ranges.{first};
 ghost use Rattle.image.specs.Utf8.{has, tail, nextStates, wellFormed};
 ghost use Rattle.utf8.specs.Cuts.{begins};
 ghost use Rattle.utf8.specs.Parts.{Left, Further, Each, Both, endsWell, allEnd, anyHigh, plain, Long, Passed, ill};
+
+// So many bytes of each part are looked at together.
+const BLOCK: usize = 64;
 
 // What is left of a part: the place that the walk has come to, the part's end, and the state.
 pub(crate) struct Part {

@@ -15,6 +15,7 @@ use utf8::ascii::has_high;
 use utf8::is_text;
 use utf8::parts::is_tail;
 use utf8::table::next_states;
+use utf8::walks_well;
 ghost use mathlib.Core.Path.{_≡_};
 ghost use mathlib.Core.Bool.{true, false};
 ghost use Prim.Native.Nat.{_+_, _<_, _≤_};
@@ -149,7 +150,7 @@ fn formed_together(image: &[u8], node: u32, at: TextsAt) -> bool
         return true;
     }
     let table = next_states();
-    if !is_text(&table, image, all.place, all.len) {
+    if !walks_well(&table, image, all.place, all.len) {
         return false;
     }
     !letter_split(image, node, at, all.place + all.len)

@@ -21,8 +21,8 @@ returns c = λ e. plain-together (c .before .before .before .before .pre .0) (c 
 next-states-requires : tie.Need-next-states-requires
 next-states-requires c κs = search needs
 
-is-text-requires : tie.Need-is-text-requires
-is-text-requires c κs = (c .before .before .before .before .stretch-of .ensures .inside, c .before .next-states .ensures)
+walks-well-requires : tie.Need-walks-well-requires
+walks-well-requires c κs = (c .before .before .before .before .stretch-of .ensures .inside, c .before .next-states .ensures)
 
 returns-2 : tie.Need-returns-2
 returns-2 c = λ e. absurd (false≢true e)
@@ -34,7 +34,7 @@ letter-split-requires : tie.Need-letter-split-requires
 letter-split-requires c κs = (c .before .before .before .before .before .before .before .before .before .pre .0, c .before .before .before .before .before .before .before .before .before .pre .1, c .before .before .before .before .before .before .before .before .before .pre .2, c .before .before .before .before .before .before .before .stretch-of .ensures .inside)
 
 returns-3 : tie.Need-returns-3
-returns-3 c = λ e. cut-together (c .before .before .before .before .before .before .before .before .before .before .pre .0) (c .before .before .before .before .before .before .before .before .before .before .pre .1) (c .before .before .before .before .before .before .before .before .before .before .pre .2) (c .before .before .before .before .before .before .before .before .stretch-of .ensures) (sym (c .letter-split .ensures) ∙ not-true _ e) (sym (c .before .before .before .is-text .ensures) ∙ not-false _ (c .before .before .if2 .left))
+returns-3 c = λ e. cut-together (c .before .before .before .before .before .before .before .before .before .before .pre .0) (c .before .before .before .before .before .before .before .before .before .before .pre .1) (c .before .before .before .before .before .before .before .before .before .before .pre .2) (c .before .before .before .before .before .before .before .before .stretch-of .ensures) (sym (c .letter-split .ensures) ∙ not-true _ e) (sym (c .before .before .before .walks-well .ensures) ∙ not-false _ (c .before .before .if2 .left))
 
 pub formed-together-spec : {M : Type 1} → statement M
 formed-together-spec =
@@ -44,7 +44,7 @@ formed-together-spec =
     has-high-requires
     returns
     next-states-requires
-    is-text-requires
+    walks-well-requires
     returns-2
     add-letter-split
     letter-split-requires
