@@ -1,4 +1,4 @@
-// The walk through a text by the table, from its first byte to its last.
+// The walk through a text by the table.
 use crate::ascii::SMALL_BLOCK;
 use crate::ascii::high_among;
 use crate::table::next;
@@ -35,7 +35,7 @@ fn walk_block(table: &[u8; 2304], s: &[u8], at: usize, q: u8) -> u8
     walk_bytes(table, s, at, SMALL_BLOCK, q)
 }
 
-// The n bytes at a place are well-formed text.
+// The n bytes at a place are well-formed text: one walk, from the first byte to the last.
 pub(crate) fn in_one(table: &[u8; 2304], s: &[u8], at: usize, n: usize) -> bool
     requires { ⌜ (at + n ≤ length (now s)) × (now table ≡ nextStates) ⌝ }
     ensures { λ r. ⌜ r ≡ wellFormed (bytesAt (now (s .entry)) at n) ⌝ }
