@@ -155,7 +155,7 @@ fn walk_small_blocks(table: &[u8; 2304], s: &[u8], p: Parts) -> Parts
     walk_each(table, s, p, SMALL_BLOCK)
 }
 
-// Four parts, each 64 bytes further.
+// Four parts, each 64 bytes further: all at once where they are plain, or else 16 at a time.
 fn walk_blocks(table: &[u8; 2304], s: &[u8], p: Parts) -> Parts
     requires { ⌜ Each (Left (now s) 64) p × (now table ≡ nextStates) ⌝ }
     ensures { λ r. ⌜ Both (Further (now (s .entry)) 64) p r ⌝ }
@@ -187,7 +187,7 @@ fn ends(table: &[u8; 2304], s: &[u8], p: Part) -> bool
     walk_bytes(table, s, p.at, p.stop - p.at, p.state) == 0
 }
 
-// What is left of each of four parts does.
+// What is left of each of four parts ends between characters.
 fn each_ends(table: &[u8; 2304], s: &[u8], p: Parts) -> bool
     requires { ⌜ Each (Left (now s) 0) p × (now table ≡ nextStates) ⌝ }
     ensures { λ r. ⌜ r ≡ allEnd (now (s .entry)) p ⌝ }
@@ -213,7 +213,7 @@ fn all_end(table: &[u8; 2304], s: &[u8], p: Parts, n: usize) -> bool
     each_ends(table, s, r)
 }
 
-// The n bytes at a place are well-formed text. Where there are only tails at a quarter of it, it is walked in one.
+// The n bytes at a place are well-formed text. Where nothing but tails stands at one of its quarters, it is walked in one.
 pub(crate) fn in_parts(table: &[u8; 2304], s: &[u8], at: usize, n: usize) -> bool
     requires { ⌜ (16 ≤ n) × (at + n ≤ length (now s)) × (now table ≡ nextStates) ⌝ }
     ensures { λ r. ⌜ r ≡ wellFormed (bytesAt (now (s .entry)) at n) ⌝ }

@@ -1,4 +1,4 @@
-// The walk through a text by the table, from its first byte to its last.
+// The walk through a text by the table.
 use crate::table::next;
 ghost use mathlib.Core.Path.{_≡_};
 ghost use Prim.Native.Nat.{_+_, _≤_, _<_};
@@ -20,7 +20,7 @@ pub(crate) fn walk_bytes(table: &[u8; 2304], s: &[u8], at: usize, n: usize, q: u
     state
 }
 
-// The n bytes at a place are well-formed text.
+// The n bytes at a place are well-formed text: one walk, from the first byte to the last.
 pub(crate) fn in_one(table: &[u8; 2304], s: &[u8], at: usize, n: usize) -> bool
     requires { ⌜ (at + n ≤ length (now s)) × (now table ≡ nextStates) ⌝ }
     ensures { λ r. ⌜ r ≡ wellFormed (bytesAt (now (s .entry)) at n) ⌝ }
