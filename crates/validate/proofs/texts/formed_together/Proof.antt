@@ -31,7 +31,7 @@ add-letter-split : tie.Need-add-letter-split
 add-letter-split c = omega (arith, c .before .before .before .before .before .before .before .stretch-of .ensures .inside, small-image (c .before .before .before .before .before .before .before .before .before .pre .0))
 
 letter-split-requires : tie.Need-letter-split-requires
-letter-split-requires c κs = (c .before .before .before .before .before .before .before .before .before .pre .0, c .before .before .before .before .before .before .before .before .before .pre .1, c .before .before .before .before .before .before .before .before .before .pre .2, c .before .before .before .before .before .before .before .stretch-of .ensures .inside)
+letter-split-requires c κs = (c .before .before .before .before .before .before .before .before .before .pre .0, c .before .before .before .before .before .before .before .before .before .pre .1, c .before .before .before .before .before .before .before .before .before .pre .2, omega (arith, c .before .before .before .before .before .before .before .stretch-of .ensures .inside))
 
 returns-3 : tie.Need-returns-3
 returns-3 c = λ e. cut-together (c .before .before .before .before .before .before .before .before .before .before .pre .0) (c .before .before .before .before .before .before .before .before .before .before .pre .1) (c .before .before .before .before .before .before .before .before .before .before .pre .2) (c .before .before .before .before .before .before .before .before .stretch-of .ensures) (sym (c .letter-split .ensures) ∙ not-true _ e) (sym (c .before .before .before .walks-well .ensures) ∙ not-false _ (c .before .before .if2 .left))
