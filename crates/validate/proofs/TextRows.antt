@@ -9,14 +9,14 @@ use mathlib.Core.Logic.{_⊎_, inl, inr}
 use native.Mathlib.Omega.{arith}
 use lib.Dec.{eqb, ltb}
 use lib.ListN.{length}
-use borrow.Author.Tests.{eqb-true, lt-ltb, le-ltb}
+use borrow.Author.Tests.{eqb-true, lt-ltb, le-ltb, lt-leb}
 use Rattle.image.specs.declared.type_code.Layout.the-variants.{VariableSize, View}
 use Rattle.image.specs.Ranges.{any}
 use Rattle.image.specs.Bytes.{byteAt, bytesAt, numberAt}
 use Rattle.image.specs.Reads.{Packed}
 use Rattle.image.specs.Record.{nodeCount, codeOf, lengthOf, offsetOf, elementsOf, bufferPlace, bufferLength, bufferCount}
 use Rattle.image.specs.TypeCode.{layoutOf, entryOf, entries, isText}
-use Rattle.image.specs.Element.{valid, elementWidth, elementPlace, elementAt, viewLength, textAt}
+use Rattle.image.specs.Element.{valid, elementWidth, elementPlace, elementAt, viewLength, viewBuffer, viewOffset, viewData, textAt}
 use Rattle.image.specs.Faults.{textRowFault, fault19}
 use Rattle.image.specs.Utf8.{wellFormed, has, tail}
 use Rattle.image.proofs.Bools.{and-fails}
@@ -33,7 +33,7 @@ use Rattle.validate.specs.declared.texts.TextsAt.{TextsAt}
 use Rattle.validate.specs.declared.texts.Span.{Span}
 use Rattle.validate.specs.Numbers.{Holds}
 use Rattle.validate.specs.Views.{ViewsInside}
-use Rattle.validate.specs.Texts.{TextNode, TextsRead, TextRow, TextSpan, textStart, splits, Stretch}
+use Rattle.validate.specs.Texts.{TextNode, TextsRead, TextRow, TextSpan, BuffersFormed, textStart, splits, Stretch}
 use Rattle.validate.proofs.Elements.{shift}
 use Rattle.validate.proofs.Lower.{text-offsets, views}
 
@@ -92,6 +92,50 @@ module _ {s : List ℕ} {k : ℕ} (t : TextNode s k) {at : TextsAt} (r : TextsRe
     pub view-span : {p : ℕ} → ViewBytes s k (at .place + i * 16) len p → TextSpan s k i (record { place = p; len = len })
     unfolding textAt viewLength
     view-span b = record { text = rw (is-view, ← view-element, b .place, el); inside = b .inside }
+
+  -- a long view is a part of its data buffer
+  module _ {len : ℕ} (el : len ≡ numberAt 4 s (at .place + i * 16)) (lt : i < lengthOf s k) (set : valid s k i ≡ true) (long : 12 < len) {b : ℕ} (eb : b ≡ numberAt 4 s (at .place + i * 16 + 8)) where
+    data-buffer : 1 + b < bufferCount s k
+    unfolding viewBuffer
+    data-buffer = rw eb (viewed el lt set .view .buffer (rw (← viewed el lt set .size) long))
+
+    pub few-buffers : 1 + b < 2 ^ 16
+    few-buffers = omega (arith, data-buffer, tables (t .below) .few-buffers, after-14 (t .below) k (t .node) (omega arith) .ends)
+
+    pub buffer-inside : bufferPlace s k (1 + b) + bufferLength s k (1 + b) ≤ length s
+    buffer-inside = after-14 (t .below) k (t .node) (omega arith) .inside (1 + b) data-buffer
+
+    -- where the buffer is well-formed and no tail stands at either end of the text, the text is well-formed
+    pub cut-view : {p x y : ℕ} → ViewBytes s k (at .place + i * 16) len p → x ≡ bufferPlace s k (1 + b) → y ≡ bufferLength s k (1 + b) → BuffersFormed s k
+        → Cut s (x + y) p → Cut s (x + y) (p + len) → wellFormed (textAt s k (offsetOf s k + i)) ≡ true
+    unfolding viewData viewBuffer
+    cut-view {p} {x} {y} at-bytes ex ey formed start end =
+        let size : len ≡ viewLength s (at .place + i * 16) = viewed el lt set .size in
+        let place : p ≡ bufferPlace s k (1 + b) + viewOffset s (at .place + i * 16) = at-bytes .place ∙ rw (← size, lt-leb len 12 long, eb) in
+        let inside : viewOffset s (at .place + i * 16) + len ≤ bufferLength s k (1 + b) = rw (size, eb) (viewed el lt set .view .inside (rw (← size) long)) in
+        ap wellFormed (sym (view-span el at-bytes .text))
+        ∙ part-formed s (bufferPlace s k (1 + b)) (bufferLength s k (1 + b)) p len (omega arith) (omega arith) (rw (← ex, ← ey) start) (rw (← ex, ← ey) end) (formed .each (1 + b) (omega arith) data-buffer)
+
+-- the data buffers before number j are well-formed
+pub record FormedBefore (s : List ℕ) (k j : ℕ) : Type 0 where
+  pub each : (m : ℕ) → 1 ≤ m → m < j → wellFormed (bytesAt s (bufferPlace s k m) (bufferLength s k m)) ≡ true
+
+pub formed-none : (s : List ℕ) (k : ℕ) → FormedBefore s k 1
+formed-none s k = record { each = λ m low lt. absurd (omega arith) }
+
+pub formed-more : {s : List ℕ} {k j p n : ℕ} {b : Bool} → FormedBefore s k j → p ≡ bufferPlace s k j → n ≡ bufferLength s k j → b ≡ wellFormed (bytesAt s p n) → b ≡ true → FormedBefore s k (j + 1)
+formed-more {s} {k} {j} f ep en eb is = record { each = λ m low lt. cases m low (eq-or-lt-of-le {n = m} {m = j} (omega arith)) }
+  where
+    cases : (m : ℕ) → 1 ≤ m → (m ≡ j) ⊎ (m < j) → wellFormed (bytesAt s (bufferPlace s k m) (bufferLength s k m)) ≡ true
+    cases m low (inl e) = rw (e, ← ep, ← en) (sym eb ∙ is)
+    cases m low (inr before) = f .each m low before
+
+pub formed-all : {s : List ℕ} {k j : ℕ} → FormedBefore s k j → bufferCount s k ≤ j → BuffersFormed s k
+formed-all f le = record { each = λ m low lt. f .each m low (omega arith) }
+
+-- a buffer of the node lies inside
+pub data-inside : {s : List ℕ} {k j p n : ℕ} → TextNode s k → j < bufferCount s k → p ≡ bufferPlace s k j → n ≡ bufferLength s k j → p + n ≤ length s
+data-inside {s} {k} {j} t lt ep en = rw (ep, en) (after-14 (t .below) k (t .node) (omega arith) .inside j lt)
 
 -- texts by offsets
 module _ {s : List ℕ} {k : ℕ} (t : TextNode s k) (isnt : eqb (codeOf s k) 31 ≡ false) where

@@ -6,10 +6,10 @@ use Prim.Native.Nat.{ℕ, _+_, _*_, _<_, _≤_, _^_}
 use lib.Dec.{eqb, ltb}
 use lib.ListN.{length}
 use Rattle.image.specs.Bytes.{byteAt, bytesAt}
-use Rattle.image.specs.Record.{nodeCount, codeOf, lengthOf, offsetOf, bufferPlace}
+use Rattle.image.specs.Record.{nodeCount, codeOf, lengthOf, offsetOf, bufferCount, bufferPlace, bufferLength}
 use Rattle.image.specs.TypeCode.{isText}
 use Rattle.image.specs.Element.{valid, elementWidth, elementAt, textAt}
-use Rattle.image.specs.Utf8.{has, tail}
+use Rattle.image.specs.Utf8.{has, tail, wellFormed}
 use Rattle.laws.specs.Accepted.{NoneBelow}
 use Rattle.validate.specs.declared.texts.TextsAt.{TextsAt}
 use Rattle.validate.specs.declared.texts.Span.{Span}
@@ -39,6 +39,14 @@ pub record TextRow (s : List ℕ) (k : ℕ) (r : TextsAt) (i : ℕ) : Type 0 whe
 pub record TextSpan (s : List ℕ) (k i : ℕ) (r : Span) : Type 0 where
   pub text : bytesAt s (r .place) (r .len) ≡ textAt s k (offsetOf s k + i)
   pub inside : r .place + r .len ≤ length s
+
+-- the data buffers of views are well-formed, each as one text
+pub record BuffersFormed (s : List ℕ) (k : ℕ) : Type 0 where
+  pub each : (j : ℕ) → 1 ≤ j → j < bufferCount s k → wellFormed (bytesAt s (bufferPlace s k j) (bufferLength s k j)) ≡ true
+
+pub record WholeBuffers (s : List ℕ) (k : ℕ) (r : TextsAt) : Type 0 where
+  pub views : r .views ≡ true
+  pub formed : BuffersFormed s k
 
 -- where the text of row i starts, by its offset
 abbrev pub textStart : List ℕ → ℕ → ℕ → ℕ

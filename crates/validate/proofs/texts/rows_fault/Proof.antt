@@ -14,10 +14,10 @@ use Rattle.validate.proofs.texts.rows_fault.Statement.{statement}
 use Rattle.validate.proofs.texts.rows_fault.Tie as tie
 
 abbrev Inv-loop : tie.InvT-loop
-Inv-loop image node at table rows mask i₀ i = Rest (any (textRowFault image node)) 0 rows i
+Inv-loop image node at whole table rows mask i₀ i = Rest (any (textRowFault image node)) 0 rows i
 
 abbrev μ-loop : tie.MeasureT-loop
-μ-loop image node at table rows mask i₀ i = rows - i
+μ-loop image node at whole table rows mask i₀ i = rows - i
 
 next-states-requires : tie.Need-next-states-requires Inv-loop μ-loop
 next-states-requires c κs = search needs
@@ -35,7 +35,7 @@ is-kept-requires : tie.Need-is-kept-requires Inv-loop μ-loop
 is-kept-requires c κs = (c .before .before .mask-of .ensures, omega (arith, c .before .before .before .length .ensures .small))
 
 is-formed-requires : tie.Need-is-formed-requires Inv-loop μ-loop
-is-formed-requires c κs = (record { node = c .before .before .before .before .before .before .before .before .before .pre .0; read = c .before .before .before .before .before .before .before .before .before .pre .1; row = omega (arith, c .before .before .before .before .before .before .length .ensures .value); not-null = sym (c .before .before .is-kept .ensures) ∙ c .before .if1 .taken }, c .before .before .before .before .before .before .before .next-states .ensures)
+is-formed-requires c κs = (record { node = c .before .before .before .before .before .before .before .before .before .pre .0; read = c .before .before .before .before .before .before .before .before .before .pre .1; row = omega (arith, c .before .before .before .before .before .before .length .ensures .value); not-null = sym (c .before .before .is-kept .ensures) ∙ c .before .if1 .taken }, c .before .before .before .before .before .before .before .next-states .ensures, c .before .before .before .before .before .before .before .before .before .pre .2)
 
 returns : tie.Need-returns Inv-loop μ-loop
 returns c = rw (← c .before .before .before .before .before .before .before .before .length .ensures .value) (any-found _ _ _ _ (c .before .before .before .before .before .loop-test .taken) (c .before .before .before .before .before .before .loop .inv) (text-row _ _ _ _ _ (c .before .before .before .before .is-kept .ensures) (c .before .before .before .if1 .taken) (c .before .is-formed .ensures) ∙ c .if2 .taken))
