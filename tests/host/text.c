@@ -1,6 +1,6 @@
 /* Text that is UTF-8 and text that is not, asked of editions_check: every string of one, two and three bytes and many of four,
- * alone and with letters around it; each way to be ill-formed at each place of texts of many lengths; and columns of text of
- * which each offset is moved. Which strings are well-formed the model says (tests/host/strings.py). */
+ * alone and with letters around it; each way to be ill-formed at each place of texts of many lengths; columns of text of which
+ * each offset is moved; and views that share their bytes. Which strings are well-formed the model says (tests/host/strings.py). */
 #define _DEFAULT_SOURCE
 #include "../../host/editions.h"
 #include "../image.h"
@@ -272,6 +272,66 @@ static void every_offset(void)
     }
 }
 
+/* Views of one text, all of it each, so that they have many more bytes in all than the image. The text is letters of `width`
+ * bytes, and behind it stand `extra` bytes of the same buffer that are in no letter and that no view has. */
+struct sharing {
+    struct image image;
+    uint32_t views, rows, data, size;
+};
+
+static void put_view(struct sharing *x, uint32_t row, uint32_t from, uint32_t length)
+{
+    uint32_t at = x->views + row * VIEW;
+    image_put(&x->image, at, length, 4);
+    memcpy(x->image.bytes + at + VIEW_TEXT, x->image.bytes + x->data + from, 4);
+    image_put(&x->image, at + 8, 0, 4);
+    image_put(&x->image, at + 12, from, 4);
+}
+
+static struct sharing share(uint8_t *bytes, size_t most, uint32_t rows, uint32_t size, uint32_t width, uint32_t extra)
+{
+    struct sharing x = {image_in(bytes, most, 1, 2), 0, rows, 0, size};
+    image_node(&x.image, UTF8_VIEW, 0, rows, 0, 2);
+    x.views = image_buffer(&x.image, rows * VIEW);
+    x.data = image_buffer(&x.image, size + extra);
+    fill(bytes + x.data, size, width);
+    memset(bytes + x.data + size, 0x80, extra);
+    for (uint32_t row = 0; row < rows; row++)
+        put_view(&x, row, 0, size);
+    return x;
+}
+
+/* One view more is each part of the data that is long enough for a view of a buffer: it is well-formed exactly if it begins and
+ * ends between letters. */
+static void views_that_share(void)
+{
+    enum { SHARING = 60, DATA = 96 };
+    for (uint32_t width = 1; width <= WIDEST; width++)
+        for (uint32_t extra = 0; extra <= 2; extra++) {
+            size_t length = IMAGE_TABLES(1, 2) + SHARING * VIEW + DATA + extra;
+            struct sharing x = share(lent_bytes(memory, length, 1), length, SHARING, DATA, width, extra);
+            for (uint32_t from = 0; from + VIEW_MOST < DATA; from++)
+                for (uint32_t to = from + VIEW_MOST + 1; to <= DATA; to++) {
+                    put_view(&x, SHARING / 2, from, to - from);
+                    expect_text("a view of bytes that others share", from * 1000 + to, x.image.bytes, length,
+                                from % width == 0 && to % width == 0);
+                }
+        }
+}
+
+/* So many views of so long a text that to walk each of them would take hours; the last one ends inside a letter. */
+static void many_views_of_one_text(void)
+{
+    enum { MANY = 500000, LONG_TEXT = 8000000 };
+    size_t length = IMAGE_TABLES(1, 2) + MANY * VIEW + LONG_TEXT;
+    uint8_t *bytes = calloc(1, length);
+    struct sharing x = share(bytes, length, MANY, LONG_TEXT, 2, 0);
+    expect_text("many views of one text", MANY, bytes, length, 1);
+    put_view(&x, MANY - 1, 0, LONG_TEXT - 1);
+    expect_text("the last of many views cut", MANY, bytes, length, 0);
+    free(bytes);
+}
+
 int main(int argc, char **argv)
 {
     if (argc != 2) {
@@ -285,5 +345,7 @@ int main(int argc, char **argv)
     read_pieces(&c);
     every_place();
     every_offset();
+    views_that_share();
+    many_views_of_one_text();
     return tally("text");
 }
