@@ -12,13 +12,14 @@
  * where the last row is null on one side alone, and where row 0 has another value. Each ratio is to the comparison of equal
  * rows, of medians of 31, the two calls taken in turn on the same memory; for the row that is null on one side alone the equal
  * rows have a bitmap too. Where row 0 differs, the figures are the least of 301: the call, `editions_check` of both images, the
- * call on no rows, which checks both images and compares their types, and the first less the last, which is the search. */
+ * call on no rows, which checks both images and compares their types, and the first less the last, which is the search.
+ *
+ * The third table, of text, is that of text.c. */
 #include "../host/editions_calls.h"
-#include "../tests/image.h"
+#include "bench.h"
 
 #include <stdio.h>
 #include <string.h>
-#include <time.h>
 
 #ifdef RUST
 extern void *rust_load(const uint8_t *image, size_t length);
@@ -33,22 +34,7 @@ static void rust_free(void *array) { (void)array; }
 /* what a comparison that says yes answers */
 #define YES ((uint64_t)1 << 8)
 
-enum { ROWS = 1000000, TIMES = 31, SHORT_TIMES = 301 };
-
-/* no row */
-#define NONE UINT32_MAX
-
-/* How one side is laid out: elements before the first row; whether every tenth row is null; whether it is laid out
- * otherwise where the layout leaves a choice (bytes under nulls, order of keys and of what is stored, cuts of runs); whether
- * it has a bitmap, as where rows are null; a row that has another value, or none; a row that the bitmap has null where it would
- * not be, or the other way round, or none. */
-struct side {
-    uint32_t before;
-    int nulls, other, bitmap;
-    uint32_t changed, turned;
-};
-
-static const struct side PLAIN = {0, 0, 0, 0, NONE, NONE};
+enum { SHORT_TIMES = 301 };
 
 static struct side side(int nulls, int other)
 {
@@ -56,27 +42,11 @@ static struct side side(int nulls, int other)
     return x;
 }
 
-static uint64_t mix(uint64_t i) { return (i + 1) * 0x9e3779b97f4a7c15u; }
-
-static int is_null(struct side x, uint32_t i) { return x.nulls && i % 10 == 9; }
-
 /* The value of a row: this one, or another. */
 static uint64_t value(struct side x, uint32_t row, uint64_t v) { return row == x.changed ? ~v : v; }
 
-static struct image begin(uint32_t nodes, uint32_t buffers) { return image_begin(nodes, buffers, IMAGE_LONGEST); }
-
 /* What stands where no row of the side is read: other bytes on the other side. */
 static uint64_t unread(struct side x, uint32_t i) { return x.other ? ~mix(i) : mix(i); }
-
-static void nulls(struct image *m, uint32_t record, struct side x, uint32_t rows)
-{
-    if (!x.bitmap)
-        return;
-    uint32_t first = x.other ? 5 : 0, at = image_bitmap(m, record, rows, first);
-    for (uint32_t i = 0; i < rows; i++)
-        if (is_null(x, i) == (i == x.turned))
-            image_set(m, at, first + i);
-}
 
 /* The elements of a fixed-width node, those before its first row too. */
 static void elements(struct image *m, uint32_t record, struct side x, uint32_t width, uint32_t rows, uint32_t seed)
@@ -356,25 +326,6 @@ static struct image runs(struct side x)
     return m;
 }
 
-static int by_value(const void *a, const void *b)
-{
-    double x = *(const double *)a, y = *(const double *)b;
-    return (x > y) - (x < y);
-}
-
-static double now(void)
-{
-    struct timespec t;
-    clock_gettime(CLOCK_MONOTONIC, &t);
-    return 1e9 * (double)t.tv_sec + (double)t.tv_nsec;
-}
-
-static double median(double *times)
-{
-    qsort(times, TIMES, sizeof *times, by_value);
-    return times[TIMES / 2];
-}
-
 static void measure(const char *name, const char *laid, struct image a, struct image b)
 {
     double compare[TIMES], check[TIMES], rust[TIMES], bytes[TIMES];
@@ -597,7 +548,7 @@ static void measure_search(const struct layout *l)
     free(c.bytes);
 }
 
-int main(void)
+static void compare_table(void)
 {
     printf("| layout, about a million values | the two sides | check and compare, us | check alone, us | the Rust, us | to the Rust | memcmp, us |\n");
     printf("|---|---|---|---|---|---|---|\n");
@@ -606,9 +557,32 @@ int main(void)
         measure(l->name, "alike", l->lay(side(l->nulls, 0)), l->lay(side(l->nulls, 0)));
         measure(l->name, l->otherwise, l->lay(side(l->nulls, 0)), l->lay(side(l->nulls, 1)));
     }
-    printf("\n| layout, about a million values | the two sides | range compared, us | no row differs, us | to the comparison | the last differs, us | to the comparison | the last in nullness, us | to the comparison | row 0 differs, us | both checked, us | no rows asked for, us | the search, us |\n");
+}
+
+static void search_table(void)
+{
+    printf("| layout, about a million values | the two sides | range compared, us | no row differs, us | to the comparison | the last differs, us | to the comparison | the last in nullness, us | to the comparison | row 0 differs, us | both checked, us | no rows asked for, us | the search, us |\n");
     printf("|---|---|---|---|---|---|---|---|---|---|---|---|---|\n");
     for (int i = 0; i < COUNT; i++)
         measure_search(&LAYOUTS[i]);
-    return 0;
+}
+
+static const struct table {
+    const char *name;
+    void (*print)(void);
+} TABLES[] = {{"compare", compare_table}, {"search", search_table}, {"text", text_table}};
+
+enum { TABLE_COUNT = sizeof TABLES / sizeof TABLES[0] };
+
+/* Prints the table that is named, or all of them; 2 where there is none of that name. */
+int main(int argc, char **argv)
+{
+    int printed = 0;
+    for (int i = 0; i < TABLE_COUNT; i++)
+        if (argc < 2 || strcmp(argv[1], TABLES[i].name) == 0) {
+            if (printed++)
+                printf("\n");
+            TABLES[i].print();
+        }
+    return printed ? 0 : 2;
 }

@@ -19,15 +19,15 @@
 extern "C" {
 #endif
 
-/* Whether an image may be compared and written: 0, or refused by 10 to 18 with the node that is at fault. */
+/* Whether an image may be compared and written: 0, or refused by 10 to 19 with the node that is at fault. */
 uint64_t editions_check(const uint8_t *image, size_t image_length);
 
 /* Whether two tables are equal: types and lengths agree, and each row in nullness and value. The answer's value is 1 for
- * yes and 0 for no. Both images are checked first: refused by 10 to 18, with the side and the node, left before right. */
+ * yes and 0 for no. Both images are checked first: refused by 10 to 19, with the side and the node, left before right. */
 uint64_t editions_compare(const uint8_t *left, size_t left_length, const uint8_t *right, size_t right_length);
 
 /* Writes `count` rows from row `start` on to the front of `out`, and answers how many bytes that are. Two ranges of equally
- * many rows of tables of equal type give the same bytes exactly when they are equal. Refused by 10 to 18 as editions_check,
+ * many rows of tables of equal type give the same bytes exactly when they are equal. Refused by 10 to 19 as editions_check,
  * by 21 where start + count exceeds the table's length, by 43 where the bytes do not fit. A refusal changes no byte of
  * `out`; bytes past those written are never changed. */
 uint64_t editions_write(const uint8_t *image, size_t image_length, uint32_t start, uint32_t count, uint8_t *out,
@@ -40,8 +40,8 @@ uint64_t editions_write(const uint8_t *image, size_t image_length, uint32_t star
 /* The refusals; editions_refusal_text says what each is. The three calls above never answer EDITIONS_TYPES. */
 enum {
     EDITIONS_SIZE = 10, EDITIONS_CODE = 11, EDITIONS_TREE = 12, EDITIONS_NAME = 13, EDITIONS_BUFFER = 14,
-    EDITIONS_TOO_FEW = 15, EDITIONS_CHILD = 16, EDITIONS_OFFSETS = 17, EDITIONS_ROWS = 18, EDITIONS_TYPES = 20,
-    EDITIONS_RANGE = 21, EDITIONS_OUTPUT = 43
+    EDITIONS_TOO_FEW = 15, EDITIONS_CHILD = 16, EDITIONS_OFFSETS = 17, EDITIONS_ROWS = 18, EDITIONS_TEXT = 19,
+    EDITIONS_TYPES = 20, EDITIONS_RANGE = 21, EDITIONS_OUTPUT = 43
 };
 
 enum { EDITIONS_LEFT = 0, EDITIONS_RIGHT = 1 };
@@ -52,7 +52,7 @@ static inline unsigned editions_refusal(uint64_t answer) { return (unsigned)(ans
 /* The side of a refused image or range: EDITIONS_LEFT or EDITIONS_RIGHT. A call on one image takes it as left. */
 static inline unsigned editions_side(uint64_t answer) { return (unsigned)(answer >> 8 & 255u); }
 
-/* The node of a refusal by 10 to 18. */
+/* The node of a refusal by 10 to 19. */
 static inline unsigned editions_node(uint64_t answer) { return (unsigned)(answer >> 16 & 65535u); }
 
 /* The value of a call that is not refused: 1 or 0 for a comparison, the number of bytes for a write. */
@@ -72,6 +72,7 @@ static inline const char *editions_refusal_text(unsigned refusal)
     case EDITIONS_CHILD: return "A child has too few rows, or run ends and run values are not equally many.";
     case EDITIONS_OFFSETS: return "Offsets are negative, fall or pass the end, or a list view lies outside its child.";
     case EDITIONS_ROWS: return "A row's type id, dense offset, key or view is not allowed, or run ends are not.";
+    case EDITIONS_TEXT: return "A text of a row that is not null is not well-formed UTF-8.";
     case EDITIONS_TYPES: return "Ranges of tables of unequal type are not compared.";
     case EDITIONS_RANGE: return "The range passes the table's last row.";
     case EDITIONS_OUTPUT: return "The output is longer than the buffer.";

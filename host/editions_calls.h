@@ -5,7 +5,7 @@
  * beside libeditions_c.a.
  *
  * A range is `count` rows of a table from row `start` on. Both calls are refused alike, by the first of these that holds:
- *   - 10 to 18, with the side and the node, as editions_compare refuses an image, left before right;
+ *   - 10 to 19, with the side and the node, as editions_compare refuses an image, left before right;
  *   - EDITIONS_TYPES, where the tables' types do not agree, also where count is 0;
  *   - EDITIONS_RANGE, with the side, where start + count exceeds the table's length, left before right. The sum does not wrap,
  *     and a start that is the length, with count 0, is no fault. */

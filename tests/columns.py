@@ -1,19 +1,23 @@
 """Random columns: a type, rows of that type, and the many layouts that an image may give them.
 
-A `Type` is what two images must have in common to be comparable; a row is a plain value (None, bytes, lists, pairs); `lay`
-gives rows a layout: offsets, first bits, garbage under nulls, keys and runs and views in any order. Two layouts of the same
-rows make equal tables.
+A `Type` is what two images must have in common to be comparable; a row is a plain value (None, bytes, lists, pairs), texts
+being UTF-8 where they are to be; `lay` gives rows a layout: offsets, first bits, garbage under nulls, keys and runs and views
+in any order. Two layouts of the same rows make equal tables.
 """
 
+import letters
 from image import FIELDS, INLINE, LONGEST_NAME, VIEW, by_level, flags, number, tables, tables_size, view
 from model import BOOLEAN, DENSE_UNION, DICTIONARY, FIXED_SIZE_BINARY, FIXED_SIZE_LIST, LIST, LIST_VIEWS, LISTS, MAP, NULL
-from model import OFFSET_WIDTH, P1, RUN_END_ENCODED, SPARSE_UNION, STRUCT, TEXTS, UNIONS, VIEWS, WIDTHS
+from model import OFFSET_WIDTH, P1, RUN_END_ENCODED, SPARSE_UNION, STRUCT, TEXTS, UNIONS, UTF8S, VIEWS, WIDTHS
 
 LEAVES = [NULL, BOOLEAN, *range(2, LIST)]
 NESTED = [*range(LIST, RUN_END_ENCODED + 1)]
 
 # how long texts that are not among the usual few are
 TEXT_LENGTHS = [1, 4, 12, 13, 20]
+
+# how many of these are ill-formed where they are to be UTF-8
+ILL_FORMED = 0.0
 
 
 class Type:
@@ -73,7 +77,9 @@ def random_row(rng, type, nulls=0.2):
     if code == BOOLEAN:
         return rng.randint(0, 1)
     if code in TEXTS or code in VIEWS:
-        return rng.choice([b"", b"a", b"b", b"ab", rng.randbytes(rng.choice(TEXT_LENGTHS))])
+        made = letters.ill_formed if rng.random() < ILL_FORMED else letters.text
+        size = rng.choice(TEXT_LENGTHS)
+        return rng.choice([b"", b"a", b"b", b"ab", made(rng, size) if code in UTF8S else rng.randbytes(size)])
     if code in LISTS or code in LIST_VIEWS:
         return [random_row(rng, type.children[0], nulls) for _ in range(rng.choice([0, 1, 2, 3]))]
     if code == FIXED_SIZE_LIST:
@@ -87,6 +93,11 @@ def random_row(rng, type, nulls=0.2):
         return [random_row(rng, type.children[-1], nulls)]
     few = [bytes(type.width()), b"\x01".ljust(type.width(), b"\x00")[: type.width()], b"\x80".rjust(type.width(), b"\x00")[: type.width()]]
     return rng.choice(few + [rng.randbytes(type.width())])
+
+
+def unread_row(rng, type):
+    """What stands under a null or before the offset: any value of the type, and any bytes where it is text."""
+    return letters.garbage(rng, rng.choice(TEXT_LENGTHS)) if type.code in UTF8S else random_row(rng, type, 0.0)
 
 
 class Node:
@@ -103,9 +114,7 @@ def lay(rng, type, rows, plain=False):
     code = type.code
     odd = 0.0 if plain else 0.5
     offset = rng.choice([1, 2, 5, 9]) if rng.random() < odd else 0
-    before = [random_row(rng, type, 0.0) for _ in range(offset)]
-    # what stands under a null: any value of the type
-    stored = before + [random_row(rng, type, 0.0) if row is None else row for row in rows]
+    stored = [unread_row(rng, type) for _ in range(offset)] + [unread_row(rng, type) if row is None else row for row in rows]
     e = len(stored)
     bitmap, first_bit = None, 0
     if has_bitmap(type) and (None in rows or rng.random() < odd):
@@ -312,8 +321,7 @@ def change_row(rng, type, row):
         return 1 - row
     if code in TEXTS or code in VIEWS:
         if row and rng.random() < 0.7:
-            k = rng.randrange(len(row))
-            return row[:k] + bytes([row[k] ^ (1 << rng.randrange(8))]) + row[k + 1 :]
+            return letters.changed(rng, row) if code in UTF8S else change_byte(rng, row)
         return row + b"x"
     if code in LISTS or code in LIST_VIEWS:
         if row and rng.random() < 0.7:
@@ -332,8 +340,10 @@ def change_row(rng, type, row):
         k = rng.randrange(len(row))
         child = type.children[k] if code == STRUCT else type.children[-1]
         return row[:k] + [change_row(rng, child, row[k])] + row[k + 1 :]
-    if not row:
-        return row
+    return change_byte(rng, row) if row else row
+
+
+def change_byte(rng, row):
     k = rng.randrange(len(row))
     return row[:k] + bytes([row[k] ^ (1 << rng.randrange(8))]) + row[k + 1 :]
 

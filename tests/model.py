@@ -1,5 +1,5 @@
-"""A model of document 01, written from its sentences: the image check, types, rows, row bytes, and the session; and of the
-first unequal row of two ranges, which is document 02's.
+"""A model of document 01, written from its sentences: the image check, types, rows, row bytes, and the session; and of two
+things that document 02 adds, the first unequal row of two ranges, and text that is UTF-8 (RFC 3629).
 
 It is the second opinion that the proved program is held to, so it shares nothing with it: numbers are Python's, rows are
 tuples, and speed is no aim.
@@ -60,9 +60,50 @@ OFFSET_WIDTH = {UTF8: 4, BINARY: 4, LARGE_UTF8: 8, LARGE_BINARY: 8, LIST: 4, LAR
 
 TEXTS = {UTF8, BINARY, LARGE_UTF8, LARGE_BINARY}
 VIEWS = {UTF8_VIEW, BINARY_VIEW}
+# the texts that are UTF-8
+UTF8S = {UTF8, LARGE_UTF8, UTF8_VIEW}
 LISTS = {LIST, LARGE_LIST, MAP}
 LIST_VIEWS = {LIST_VIEW, LARGE_LIST_VIEW}
 UNIONS = {DENSE_UNION, SPARSE_UNION}
+
+
+# RFC 3629, section 4: the letters (UTF8-char), for each alternative the range of each byte.
+TAIL = (0x80, 0xBF)
+LETTERS = [
+    # UTF8-1
+    [(0x00, 0x7F)],
+    # UTF8-2
+    [(0xC2, 0xDF), TAIL],
+    # UTF8-3
+    [(0xE0, 0xE0), (0xA0, 0xBF), TAIL],
+    [(0xE1, 0xEC), TAIL, TAIL],
+    [(0xED, 0xED), (0x80, 0x9F), TAIL],
+    [(0xEE, 0xEF), TAIL, TAIL],
+    # UTF8-4
+    [(0xF0, 0xF0), (0x90, 0xBF), TAIL, TAIL],
+    [(0xF1, 0xF3), TAIL, TAIL, TAIL],
+    [(0xF4, 0xF4), (0x80, 0x8F), TAIL, TAIL],
+]
+
+
+def letter_at(text, at):
+    """How many bytes the letter has that begins at a place of a text; 0 where none does."""
+    for letter in LETTERS:
+        part = text[at : at + len(letter)]
+        if len(part) == len(letter) and all(low <= byte <= high for byte, (low, high) in zip(part, letter)):
+            return len(letter)
+    return 0
+
+
+def well_formed(text):
+    """Whether a text is letters, one after the other (UTF8-octets)."""
+    at = 0
+    while at < len(text):
+        size = letter_at(text, at)
+        if size == 0:
+            return False
+        at += size
+    return True
 
 
 def unsigned(data, at, width):
@@ -74,7 +115,7 @@ def signed(data, at, width):
 
 
 class Fault(Exception):
-    """A refusal: its number, and the node of 10 to 18."""
+    """A refusal: its number, and the node of 10 to 19."""
 
     def __init__(self, number, node=0):
         super().__init__(number, node)
@@ -320,6 +361,10 @@ class Image:
         place, size = self.buffer(node, 1 + buffer)
         return offset + length > size or data[at + 4 : at + 8] != data[place + offset : place + offset + 4]
 
+    def fault_19(self, node):
+        r = self.nodes[node]
+        return r.code in UTF8S and any(not well_formed(row[1]) for row in self.rows(node, 0, r.length) if row is not None)
+
     def run_ends(self, node):
         child = self.nodes[node].first_child
         r = self.nodes[child]
@@ -327,7 +372,7 @@ class Image:
         return [signed(self.data, place + (r.offset + k) * width, width) for k in range(r.length)]
 
     def check(self):
-        for number in range(11, 19):
+        for number in range(11, 20):
             for node in range(len(self.nodes)):
                 if getattr(self, f"fault_{number}")(node):
                     raise Fault(number, node)
@@ -543,7 +588,7 @@ class Session:
             return self.obey(frame_of(line)).hex()
         except Fault as fault:
             number, node = fault.number, fault.node
-            tail = node.to_bytes(2, "little") if 10 <= number <= 18 else bytes([node]) if number == 21 else b""
+            tail = node.to_bytes(2, "little") if 10 <= number <= 19 else bytes([node]) if number == 21 else b""
             return (bytes([number]) + tail).hex()
 
     def obey(self, frame):

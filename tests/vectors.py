@@ -3,8 +3,9 @@
 
 The lines are made here; the replies are those of the model (tests/model.py), which is written from document 01 and shares
 nothing with the program. In turn: document 01's session; lines that are no frames; every frame in every state of the two
-sides; document 01's pairs; rows of each layout, written; images with each fault; random tables of every type code, compared
-and written in two layouts; and the fixed list of the Rust's answers (tests/rust/answers.txt), whose replies are the Rust's.
+sides; document 01's pairs; rows of each layout, written; images with each fault; texts that are UTF-8 and texts that are not;
+random tables of every type code, compared and written in two layouts; and the fixed list of the Rust's answers
+(tests/rust/answers.txt), whose replies are the Rust's.
 
     python3 tests/vectors.py            write the two files
     python3 tests/vectors.py --check    say whether they are as written
@@ -17,6 +18,7 @@ import sys
 import columns
 import model
 import pairs
+import texts
 from image import CODES, DEEPEST, number
 
 CRATE = os.path.join(os.path.dirname(os.path.abspath(__file__)), "..", "crates", "editions")
@@ -188,7 +190,7 @@ def written(script):
 def faults(script):
     """Images that are refused: six or more of each number that damage finds."""
     rng = random.Random(18)
-    found = {fault: 0 for fault in range(10, 19)}
+    found = {fault: 0 for fault in range(10, 20)}
     for _ in range(200_000):
         kind = columns.random_type(rng, rng.choice([1, 2, 3]))
         rows = [columns.random_row(rng, kind) for _ in range(rng.choice([1, 3]))]
@@ -203,6 +205,21 @@ def faults(script):
         if min(found.values()) >= 8:
             break
     assert min(found.values()) >= 6, found
+
+
+def utf8(script):
+    """Texts on purpose, on either side in turn: a side that is refused by 19 is empty and open, one that is accepted is
+    written."""
+    good = b"".join(pairs.session(0))
+    for k, (words, image, answer) in enumerate(texts.IMAGES + [case for case in texts.ALONE if case[0].endswith(" Utf8")]):
+        assert model.check(image) == answer, words
+        side = k % 2
+        script.store(side, image)
+        if answer[0]:
+            script.compare()
+            script.pieces(side, good)
+            script.close(side)
+        script.write(side, 0, 1)
 
 
 def tables(script):
@@ -256,7 +273,7 @@ def rust(script):
 
 def script():
     made = Script()
-    for part in (document, bad_lines, every_state, full_store, desk, written, faults, tables, rust):
+    for part in (document, bad_lines, every_state, full_store, desk, written, faults, utf8, tables, rust):
         part(made)
     # the last line ends with the input
     made.line("04")

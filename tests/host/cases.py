@@ -1,6 +1,6 @@
 #!/usr/bin/env python3
-"""Writes calls with their answers for the host tests: document 01's pairs with its answers, and random images, good and
-damaged, with what the model says of them.
+"""Writes calls with their answers for the host tests: document 01's pairs and the texts of tests/texts.py with their answers,
+and random images, good and damaged, with what the model says of them.
 
     python3 tests/host/cases.py FILE COUNT SEED [CORPUS]
 
@@ -21,6 +21,7 @@ sys.path.insert(0, os.path.join(os.path.dirname(os.path.abspath(__file__)), ".."
 import columns
 import model
 import pairs
+import texts
 from image import CODES, number
 
 # the largest start and count
@@ -28,6 +29,12 @@ LARGEST = 0xFFFFFFFF
 
 # the longest input that a fuzzer starts from
 LONGEST_INPUT = 4096
+
+# how long texts are: some longer than the blocks of 16 and of 64 bytes that are looked at at once, and than four parts
+columns.TEXT_LENGTHS = [1, 4, 12, 13, 20] * 4 + [15, 16, 17, 33, 64, 65, 130, 300, 520]
+
+# how many of them are ill-formed, in one table of so many
+ILL_FORMED, TABLES = 0.05, 5
 
 # an image that is asked about several times is checked once
 model.checked = functools.lru_cache(maxsize=8)(model.checked)
@@ -43,6 +50,7 @@ def packed(answer):
 
 
 def table(rng, seed):
+    columns.ILL_FORMED = ILL_FORMED if seed % TABLES == 0 else 0.0
     kind = columns.random_type(rng, rng.choice([1, 2, 3, 4]), seed % CODES)
     return kind, [columns.random_row(rng, kind) for _ in range(rng.choice([0, 1, 3, 9, 40, 70, 150]))]
 
@@ -84,6 +92,19 @@ def document_calls():
         else:
             assert model.compare_range(*lent, *rest) == answer
             yield ranges_call(*lent, [rest])
+
+
+def text_calls():
+    """The images of tests/texts.py, each checked and written, and compared with itself, with no image, and behind a table of
+    another type."""
+    other = b"".join(pairs.session(0))
+    for words, image, answer in texts.IMAGES + texts.ALONE:
+        assert model.check(image) == answer, words
+        yield b"\x00" + sized(image) + packed(answer)
+        yield write_call(image, 0, 1, 64, *model.write(image, 0, 1, 64))
+        for left, right in ((image, image), (image, b""), (other, image)):
+            yield b"\x01" + sized(left) + sized(right) + packed(model.compare(left, right))
+            yield ranges_call(left, right, [(0, 0, 1)])
 
 
 def calls(rng, seed):
@@ -162,15 +183,19 @@ def range_calls(rng, seed):
         yield ranges_call(other, one, [(j, i, n) for i, j, n in ranges])
 
 
+def two_images(rng, left, right):
+    """Two images and any starts and count, as tests/host/fuzz.c reads them."""
+    return b"".join(number(2, x) for x in (len(left), *(rng.randrange(1 << 16) for _ in range(3)))) + left + right
+
+
 def fuzz_input(rng, seed):
-    """Two layouts of a table, in half of them with one row changed, and any starts and count, as tests/host/fuzz.c reads them."""
+    """Two layouts of a table, in half of them with one row changed, of which some have ill-formed text."""
     kind, rows = table(rng, seed)
     other = list(rows)
     if rows and rng.random() < 0.5:
         k = rng.randrange(len(rows))
         other[k] = changed(rng, kind, rows[k])
-    left, right = laid(rng, kind, rows), laid(rng, kind, other)
-    return b"".join(number(2, x) for x in (len(left), *(rng.randrange(1 << 16) for _ in range(3)))) + left + right
+    return two_images(rng, laid(rng, kind, rows), laid(rng, kind, other))
 
 
 def records(rng, seed):
@@ -180,14 +205,22 @@ def records(rng, seed):
         yield from range_calls(rng, seed)
 
 
-def write_corpus(corpus, seeds):
+def fuzz_inputs(seeds):
+    """Random tables, and each text of tests/texts.py beside the one after it."""
     for seed in seeds:
         try:
-            data = fuzz_input(random.Random(seed), seed)
+            yield fuzz_input(random.Random(seed), seed)
         except NoLayout:
             continue
+    images = [image for _, image, _ in texts.IMAGES]
+    for k, (left, right) in enumerate(zip(images, images[1:])):
+        yield two_images(random.Random(k), left, right)
+
+
+def write_corpus(corpus, seeds):
+    for k, data in enumerate(fuzz_inputs(seeds)):
         if len(data) <= LONGEST_INPUT:
-            with open(os.path.join(corpus, f"{seed}"), "wb") as file:
+            with open(os.path.join(corpus, f"{k}"), "wb") as file:
                 file.write(data)
 
 
@@ -196,6 +229,7 @@ def main():
     seeds = range(first, first + count)
     with open(path, "wb") as file:
         file.write(b"".join(document_calls()))
+        file.write(b"".join(text_calls()))
         for seed in seeds:
             try:
                 file.write(b"".join(records(random.Random(seed), seed)))

@@ -266,7 +266,7 @@ static unsigned read_seeds(const char *path)
 
 static void mutate(uint8_t *image, size_t length)
 {
-    static const uint8_t odd[] = {0, 1, 2, 3, 12, 13, IMAGE_DEEPEST, IMAGE_CODES - 1, IMAGE_CODES, IMAGE_LONGEST_NAME, 127, 128, 255};
+    static const uint8_t odd[] = {0, 1, 2, 3, 12, 13, IMAGE_DEEPEST, IMAGE_CODES - 1, IMAGE_CODES, IMAGE_LONGEST_NAME, 127, 128, 0xc2, 0xed, 0xf4, 255};
     for (uint32_t turns = next(4); turns > 0 && length > 0; turns--) {
         size_t tables = IMAGE_TABLES(image[HEADER_NODES], 1u);
         size_t end = next(3) != 0 && tables < length ? tables : length;

@@ -4,54 +4,13 @@
 #include "../../host/editions.h"
 #include "../../host/editions_calls.h"
 #include "../image.h"
+#include "expect.h"
 #include "memory.h"
 
 #define MOST 65536u
 
 /* The type codes that are laid out here. */
 enum { NULLS = 0, BOOLEAN = 1, INT8 = 2, INT32 = 4, INT64 = 5, FIXED_SIZE_BINARY = 30, LIST_VIEW = 35, SPARSE_UNION = 40, RUN_END_ENCODED = 43 };
-
-static unsigned long failures, calls;
-
-static void expect(const char *what, unsigned long which, uint64_t got, uint64_t wanted)
-{
-    calls++;
-    if (got != wanted && ++failures < 20)
-        printf("%s %lu: %016llx and not %016llx\n", what, which, (unsigned long long)got, (unsigned long long)wanted);
-}
-
-/* A test that is no call. */
-static void must(const char *what, unsigned long which, int holds)
-{
-    if (!holds && ++failures < 20)
-        printf("%s %lu\n", what, which);
-}
-
-static uint64_t answer_of(unsigned refusal, unsigned side, unsigned node, uint64_t value)
-{
-    return refusal ? refusal | (uint64_t)side << 8 | (uint64_t)node << 16 : value << 8;
-}
-
-/* Reading the file of cases. */
-struct cursor {
-    const uint8_t *at;
-};
-
-static uint64_t number(struct cursor *c, unsigned width)
-{
-    uint64_t value = 0;
-    for (unsigned k = 0; k < width; k++)
-        value |= (uint64_t)*c->at++ << 8 * k;
-    return value;
-}
-
-static const uint8_t *bytes(struct cursor *c, size_t *length)
-{
-    *length = number(c, 4);
-    const uint8_t *start = c->at;
-    c->at += *length;
-    return start;
-}
 
 /* Memory for two images and an output. */
 static struct lent memory[3];
@@ -137,19 +96,8 @@ static void ranges_case(struct cursor *c, unsigned long which, int at_end)
 static void model_cases(const char *path)
 {
     static void (*const cases[])(struct cursor *, unsigned long, int) = {check_case, compare_case, write_case, ranges_case};
-    FILE *file = fopen(path, "rb");
-    if (!file || fseek(file, 0, SEEK_END) != 0) {
-        perror(path);
-        exit(1);
-    }
-    long size = ftell(file);
-    rewind(file);
-    uint8_t *whole = malloc((size_t)size);
-    if (!whole || fread(whole, 1, (size_t)size, file) != (size_t)size) {
-        perror(path);
-        exit(1);
-    }
-    fclose(file);
+    size_t size;
+    uint8_t *whole = whole_file(path, &size);
     struct cursor c = {whole};
     for (unsigned long which = 0; c.at < whole + size; which++)
         cases[number(&c, 1)](&c, which, which % 4 != 0);
@@ -462,7 +410,7 @@ static void unions(void)
 /* Every number has a sentence of its own; all those that no call answers share one. */
 static void texts(void)
 {
-    static const unsigned numbers[] = {0, 10, 11, 12, 13, 14, 15, 16, 17, 18, 20, 21, 43};
+    static const unsigned numbers[] = {0, 10, 11, 12, 13, 14, 15, 16, 17, 18, 19, 20, 21, 43};
     enum { COUNT = sizeof numbers / sizeof numbers[0] };
     const char *other = editions_refusal_text(255);
     for (unsigned k = 0; k < COUNT; k++) {
@@ -496,6 +444,5 @@ int main(int argc, char **argv)
     places();
     unions();
     texts();
-    printf("host: %lu calls, %lu failed\n", calls, failures);
-    return failures != 0;
+    return tally("host");
 }

@@ -8,19 +8,17 @@
     answers.py session    the list as lines for the session program
     answers.py replies    what the session program must print for them
 
-The list has document 01's pairs (tests/pairs.py), pairs for its misreadings, those of suspects.py, and random small ones for
-each type code.
+The list has document 01's pairs (tests/pairs.py), pairs for its misreadings, those of suspects.py, and random small ones of
+each type code, which were laid out once and are kept as they stand in it.
 """
 
 import os
-import random
 import sys
 
-from cases import KINDS, Case, random_case
-from columns import image
+from cases import Case
 from compare import BOTH, answers, word
-from image import CODES
-from suspects import NO, SUSPECTS, YES, item, lists, numbers, structs
+from nodes import image, item, lists, numbers, structs
+from suspects import NO, SUSPECTS, YES
 
 import model
 import pairs
@@ -34,8 +32,8 @@ HEAD = """\
 # A line that starts with # names what follows.
 """
 
-# small images have at most so many bytes, a Map's more; so many pairs of each code
-SMALL, MAP_SMALL, EACH = 260, 400, 6
+# the title of the random pairs
+SMALL = "Small pairs of each code"
 
 
 def desk():
@@ -52,7 +50,7 @@ def misreadings():
     """Pairs on which a misreading of document 01 gives the other answer."""
 
     def pair(words, left, right, answer, range=None):
-        return words, Case(image(None, left, plain=True), image(None, right, plain=True), range), answer
+        return words, Case(image(left), image(right), range), answer
 
     words = "Indexing the bitmap by the node's offset"
     yield pair(words, numbers([9, 5, 6, 7], offset=1, bits="1011"), numbers([5, 8, 7], bits="101"), YES)
@@ -73,25 +71,28 @@ def misreadings():
     yield pair(words + ", Float64", numbers([1 << 63], 12, 8), numbers([0], 12, 8), NO)
 
 
-def small(code):
-    """Random small pairs of a code, of every kind in turn, yes and no about as often."""
-    rng, given = random.Random(code), []
-    while len(given) < EACH:
-        kind = KINDS[len(given) % len(KINDS)]
-        case = random_case(rng, code, kind)
-        if case and max(len(case.left), len(case.right)) <= (MAP_SMALL if code == model.MAP else SMALL):
-            answer = case.model()[3]
-            if kind in ("difference", "range with a difference") and answer == YES and code != model.NULL and rng.random() < 0.9:
-                continue
-            given.append(("code %d, %s" % (code, kind), case, answer))
-    return given
+def entries():
+    """The list as it stands: of each entry the title that it stands under, its words, its pair or none, and the answer."""
+    title = words = None
+    with open(FILE, encoding="ascii") as lines:
+        for line in lines:
+            if not line.strip():
+                title = words = None
+            elif not line.startswith("#"):
+                left, right, *starts, kind, answer = line.split()
+                asked = tuple(map(int, starts)) if kind == "range" else None
+                yield title, words, Case(bytes.fromhex(left), bytes.fromhex(right), asked), int(answer)
+            else:
+                title, words = title or line[2:-1], line[2:-1]
+                if words.endswith("Not asked."):
+                    yield title, words, None, None
 
 
 def groups():
     yield "Pairs from the proof desk", list(desk())
     yield "Misreadings that pass a light test", list(misreadings())
     yield "Places where the Rust might depart from the format", [("%s: %s" % (file, about), case, answer) for file, about, case, answer in SUSPECTS]
-    yield "Small pairs of each code", [entry for code in range(CODES) for entry in small(code)]
+    yield SMALL, [entry for title, *entry in entries() if title == SMALL]
 
 
 def counted(case):
@@ -119,16 +120,11 @@ def write():
 
 
 def read():
-    with open(FILE, encoding="ascii") as lines:
-        for line in lines:
-            if line.strip() and not line.startswith("#"):
-                left, right, *starts, kind, answer = line.split()
-                asked = tuple(map(int, starts)) if kind == "range" else None
-                yield Case(bytes.fromhex(left), bytes.fromhex(right), asked), int(answer)
+    return [(case, answer) for _, _, case, answer in entries() if case]
 
 
 def rust():
-    listed = list(read())
+    listed = read()
     wrong = 0
     for program in ("release/beside", "checked/beside"):
         given = answers(program, [case for case, _ in listed])
@@ -138,7 +134,7 @@ def rust():
 
 
 def library():
-    listed = list(read())
+    listed = read()
     wrong = 0
     for line, (case, answer) in zip(answers(BOTH, [case for case, _ in listed]), listed):
         whole, ranged, first, _ = line.split()

@@ -7,7 +7,8 @@ Our side is the model of document 01 (tests/model.py) and, where they are built,
 `both`, and the session program, asked about ranges. The Rust is asked as users build it and with its own assertions. All are
 asked whether the tables or the ranges are equal; the model and the library also for the first unequal row of the range, and
 the Rust about its rows one at a time up to the first that it finds unequal. Whole tables are asked about as the range of the
-left one's rows too. All answers must be the same. The exit status is 1 on a disagreement.
+left one's rows too. All answers must be the same. A pair of which an image is refused for its text (19) is not held to the
+Rust, which does not look at that; our side is held to the refusal. The exit status is 1 on a disagreement.
 """
 
 import collections
@@ -33,6 +34,9 @@ BATCH = 20000
 # tables of so many rows and more are counted, and first unequal rows past these
 LONG = [64, 1023]
 PAST = [0, 63]
+
+# the refusal for ill-formed text, and what the session says to a comparison with a side that is not closed
+ILL_FORMED, NOT_CLOSED = 19, "2a"
 
 # what a program is asked, in the order of its words
 QUESTIONS = ["whether they are equal", "whether the ranges are", "the first unequal row, plus 1"]
@@ -102,6 +106,8 @@ class Tally:
     def add(self, kind, case, first, given, reply):
         """`first` is the model's first unequal row; `given` maps each program to its line; `reply` is the session's, or None."""
         number, _, node, value = answer = case.model()
+        if number == ILL_FORMED:
+            return self.add_refused(case, answer, given.get(BOTH), reply)
         if number:
             return self.disagreement("the model refuses a pair that the generator means to be accepted: %d, node %d" % (number, node), case)
         ranged = answer if case.range else case.range_model()
@@ -121,6 +127,15 @@ class Tally:
             self.session += 1
             self.hold("the session", [reply], ["00%02x" % value], case)
 
+    def add_refused(self, case, answer, line, reply):
+        """A pair that is refused for its text: the library's line, if any, and the session's reply are held to the model."""
+        self.refused[answer[0]] += 1
+        if line is not None:
+            ours = ["-" if case.range else word(answer), word(answer), word(answer)]
+            self.hold("the library", line.split()[: len(QUESTIONS)], ours, case)
+        if reply is not None:
+            self.hold("the session", [reply], [NOT_CLOSED], case)
+
     def count(self, kind, case, value, first):
         self.kinds[kind, value] += 1
         self.ranges += case.range is not None
@@ -137,6 +152,7 @@ class Tally:
             print("  %-24s %8d yes %8d no" % (kind, self.kinds[kind, 1], self.kinds[kind, 0]))
         print("  " + ", ".join("%d of %d rows and more" % (self.long[least], least) for least in LONG))
         print("  %d of them ranges; the Rust was asked row by row about %d pairs; by 20 are refused %d, by 21 %d" % (self.ranges, self.by_rows, self.refused[20], self.refused[21]))
+        print("  %d have ill-formed text (19), and are none of these" % self.refused[ILL_FORMED])
         print("  %d have a first unequal row, %s" % (self.differences, ", ".join("%d past row %d" % (self.past[row], row) for row in PAST)))
         print("  the library was asked about %d whole tables, %d ranges and %d first unequal rows, the session about %d ranges" % (*self.ours, self.session))
 

@@ -5,17 +5,17 @@ The left image is the refused one. After tests/rust/run has built the programs.
 """
 
 from cases import Case
-from columns import image
 from compare import answers
 from image import DEEPEST, number, view
-from suspects import INT8, INT16, INT32, LARGE_LIST_VIEW, LONG, MAP, RUNS, UTF8
-from suspects import column, dense, dictionary, item, list_views, lists, numbers, runs, sparse, structs, texts, views, wide
+from nodes import INT8, INT16, INT32, LARGE_LIST_VIEW, LARGE_UTF8, MAP, RUNS, UTF8
+from nodes import column, dense, dictionary, image, item, list_views, lists, numbers, runs, sparse, structs, texts, views, wide
+from suspects import LONG
 
 REFUSED = []
 
 
 def refused(about, left, right=None):
-    REFUSED.append((about, Case(image(None, left, plain=True), image(None, right or left, plain=True))))
+    REFUSED.append((about, Case(image(left), image(right or left))))
 
 
 def deep(levels):
@@ -56,6 +56,14 @@ refused("a pad byte that is not 0", views([number(4, 5) + b"hello" + b"\0\0\0\0\
 refused("a stored prefix that is wrong", views([WRONG_PREFIX], [LONG]), views([WRONG_PREFIX], [b"THIR" + LONG[4:]]))
 refused("run ends that fall, the last rows' value passed over", runs(4, [2, 1, 4], item([1, 2, 3])), runs(4, [2, 4], item([1, 2])))
 refused("a last run end below e", runs(4, [2], item([1])))
+refused("a text that is no letter", texts([b"\xff\xfe"]))
+refused("a text that ends inside a letter, which the next row goes on with", texts([b"\xc3", b"\xa9"]))
+refused("an overlong form, beside the letter", texts([b"\xc0\x80"]), texts([b"\0"]))
+refused("a surrogate, of eight-byte offsets", texts([b"\xed\xa0\x80"], LARGE_UTF8))
+refused("a view of a letter above U+10FFFF", views([view(b"\xf4\x90\x80\x80")]))
+refused("a long view that begins inside a letter", views([view(b"\xa9 and so on, on", 0, 1)], [b"\xc3\xa9 and so on, on"]))
+refused("half a letter under a null Struct, beside another text", structs(1, texts([b"\xc3"], name=b"i"), bits="0"), structs(1, texts([b"a"], name=b"i"), bits="0"))
+refused("half a letter in a value that no key names, beside none", dictionary([0], texts([b"a", b"\xc3"])), dictionary([0], texts([b"a"])))
 
 
 def main():

@@ -4,102 +4,17 @@ Each entry: the Rust's file, what the pair is about, the case, the answer.
 """
 
 from cases import Case
-from columns import Node, Type, image
 from image import MOST_ELEMENTS as MOST
 from image import VIEW, number, view
+from nodes import BINARY, BINARY_VIEW, FIXED_SIZE_BINARY, FLOAT32, FLOAT64, INT16, INT32, INT64, LARGE_LIST, LARGE_LIST_VIEW, LARGE_UTF8, NULL, RUNS, UINT8
+from nodes import booleans, column, dense, dictionary, fixed_lists, image, item, list_views, lists, maps, numbers, runs, sparse, structs, texts, views, wide
 
 YES, NO = 1, 0
-
-NULL, BOOLEAN, INT8, INT16, INT32, INT64, UINT8 = 0, 1, 2, 3, 4, 5, 6
-FLOAT32, FLOAT64, UTF8, BINARY, LARGE_UTF8, FIXED_SIZE_BINARY, UTF8_VIEW, BINARY_VIEW = 11, 12, 26, 27, 28, 30, 31, 32
-LIST, LARGE_LIST, LIST_VIEW, LARGE_LIST_VIEW, FIXED_SIZE_LIST, STRUCT = 33, 34, 35, 36, 37, 38
-DENSE, SPARSE, DICTIONARY, MAP, RUNS = 39, 40, 41, 42, 43
-
-
-def packed(bits):
-    """Bits given as text, the first bit first."""
-    return number((len(bits) + 7) // 8, sum(int(bit) << place for place, bit in enumerate(bits)))
-
-
-def column(code, rows, buffers=(), children=(), p1=0, p2=0, name=b"", nullable=False, id=0, offset=0, bits=None, first_bit=0):
-    """A node. Its bitmap is given from bit 0 on, bits before the first included."""
-    type = Type(code, p1, p2, [child.type for child in children], name, nullable, id)
-    return Node(type, rows, offset, buffers, children, None if bits is None else packed(bits), first_bit)
-
-
-def numbers(values, code=INT8, width=1, offset=0, **field):
-    return column(code, len(values) - offset, [b"".join(number(width, value) for value in values)], offset=offset, **field)
-
-
-def booleans(values, offset=0, rows=None, **field):
-    return column(BOOLEAN, len(values) - offset if rows is None else rows, [packed(values)], offset=offset, **field)
-
-
-def wide(values, width, offset=0, **field):
-    return column(FIXED_SIZE_BINARY, len(values) - offset, [b"".join(values)], p1=width, offset=offset, **field)
-
-
-def texts(values, code=UTF8, before=b"", after=b"", offset=0, **field):
-    ends, data = [len(before)], before
-    for value in values:
-        data += value
-        ends.append(len(data))
-    width = 8 if code in (28, 29) else 4
-    return column(code, len(values) - offset, [b"".join(number(width, end) for end in ends), data + after], offset=offset, **field)
-
-
-def views(rows, data=(), offset=0, code=UTF8_VIEW, **field):
-    return column(code, len(rows) - offset, [b"".join(rows), *data], offset=offset, **field)
-
-
-def lists(offsets, child, code=LIST, offset=0, **field):
-    width = 8 if code == LARGE_LIST else 4
-    return column(code, len(offsets) - 1 - offset, [b"".join(number(width, x) for x in offsets)], [child], offset=offset, **field)
-
-
-def list_views(places, child, code=LIST_VIEW, offset=0, **field):
-    """Places are pairs of offset and size."""
-    width = 8 if code == LARGE_LIST_VIEW else 4
-    buffers = [b"".join(number(width, place[k]) for place in places) for k in (0, 1)]
-    return column(code, len(places) - offset, buffers, [child], offset=offset, **field)
-
-
-def fixed_lists(rows, size, child, **field):
-    return column(FIXED_SIZE_LIST, rows, (), [child], p1=size, **field)
-
-
-def structs(rows, *children, **field):
-    return column(STRUCT, rows, (), children, **field)
-
-
-def sparse(ids, *children, offset=0, **field):
-    return column(SPARSE, len(ids) - offset, [bytes(ids)], children, offset=offset, **field)
-
-
-def dense(ids, places, *children, offset=0, **field):
-    return column(DENSE, len(ids) - offset, [bytes(ids), b"".join(number(4, x) for x in places)], children, offset=offset, **field)
-
-
-def dictionary(keys, values, key=INT8, width=1, offset=0, **field):
-    buffers = [b"".join(number(width, x) for x in keys)]
-    return column(DICTIONARY, len(keys) - offset, buffers, [values], p1=key, offset=offset, **field)
-
-
-def runs(rows, ends, values, code=INT16, width=2, ends_offset=0, **field):
-    return column(RUNS, rows, (), [numbers(ends, code, width, offset=ends_offset, name=b"run_ends"), values], **field)
-
-
-def maps(offsets, keys, values, entries=b"entries", flag=False, rows=None, **field):
-    return lists(offsets, structs(offsets[-1], keys, values, name=entries, nullable=flag), MAP, **field)
 
 
 def a_map(key=b"key", value=b"value", key_flag=False, value_flag=True, **field):
     """One row of two entries."""
     return maps([0, 2], texts([b"a", b"b"], name=key, nullable=key_flag), numbers([1, 2], name=value, nullable=value_flag), **field)
-
-
-def item(values, **field):
-    return numbers(values, name=b"i", **field)
 
 
 def under_list(child):
@@ -112,7 +27,7 @@ SUSPECTS = []
 
 
 def suspect(file, about, left, right, answer, range=None):
-    case = Case(image(None, left, plain=True), image(None, right, plain=True), range)
+    case = Case(image(left), image(right), range)
     SUSPECTS.append((file, about, case, answer))
 
 
@@ -221,7 +136,12 @@ suspect(f, "other texts under nulls", texts([b"a", b"long", b"b"], bits="101"), 
 suspect(f, "an empty text and a null", texts([b""]), texts([b""], bits="0"), NO)
 suspect(f, "an empty text and a zero byte", texts([b""]), texts([b"\0"]), NO)
 suspect(f, "offsets of eight bytes", texts([b"xyz", b"ab", b"c"], LARGE_UTF8, offset=1), texts([b"ab", b"c"], LARGE_UTF8, before=b"q"), YES)
-suspect(f, "bytes that are not UTF-8", texts([b"\xff\xfe"]), texts([b"\xff\xfe"]), YES)
+suspect(f, "a letter of two bytes beside two letters that look the same", texts([b"\xc3\xa9"]), texts([b"e\xcc\x81"]), NO)
+suspect(f, "a letter of four bytes, its last byte", texts([b"\xf0\x9f\x98\x80"]), texts([b"\xf0\x9f\x98\x81"]), NO)
+suspect(f, "U+FEFF in front, and none", texts([b"\xef\xbb\xbfa"]), texts([b"a"]), NO)
+suspect(f, "U+0000, U+FEFF, U+FFFF and U+10FFFF", texts([b"\0", b"\xef\xbb\xbf\xef\xbf\xbf", b"\xf4\x8f\xbf\xbf"]), texts([b"z", b"\0", b"\xef\xbb\xbf\xef\xbf\xbf", b"\xf4\x8f\xbf\xbf"], offset=1), YES)
+suspect(f, "no letters where no row is", texts([b"\xff", b"a", b"\xc3", b"b"], before=b"\x80", after=b"\xf5", offset=1, bits="101"), texts([b"a", b"\xed\xa0\x80", b"b"], bits="101"), YES)
+suspect(f, "no letters in Binary", texts([b"\xff\xfe"], BINARY), texts([b"\xff\xfe"], BINARY, before=b"\xff"), YES)
 suspect(f, "a range of no rows at the end", texts([b"a", b"b"]), texts([]), YES, (2, 0, 0))
 suspect(f, "a range that starts at a null", texts([b"a", b"q", b"b"], bits="101"), texts([b"", b"b"], bits="01"), YES, (1, 0, 2))
 

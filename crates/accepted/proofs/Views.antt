@@ -33,17 +33,17 @@ module _ {s : List ℕ} {k v len : ℕ} (r : Viewed s k v len) (long : 12 < len)
 
   pub entry-inside : e + (1 + b) * entrySize + 4 ≤ length s
   unfolding tablesEnd entryPlace
-  entry-inside = omega (arith, ee, data-buffer, r .image .tables .inside, r .image .node k (r .node) .buffers .ends)
+  entry-inside = omega (arith, ee, data-buffer, r .tables .inside, r .buffers .ends)
 
   pub entry-small : e + (1 + b) * entrySize < 2 ^ 64
-  entry-small = omega (arith, entry-inside, r .image .tables .size)
+  entry-small = omega (arith, entry-inside, r .tables .size)
 
   pub shown-long : {p o : ℕ} → p ≡ numberAt 4 s (e + (1 + b) * entrySize) → o ≡ numberAt 4 s (v + 12) → ViewBytes s k v len (p + o)
   unfolding viewData viewBuffer viewOffset bufferPlace
   shown-long {p} {o} ep eo =
       let place : p ≡ bufferPlace s k (1 + b) = rw (entry-from s k (1 + b) ee) ep in
       let stored : o + len ≤ bufferLength s k (1 + b) = rw (eo, eb, r .size) (r .view .inside (rw (← r .size) long)) in
-      let buffer : bufferPlace s k (1 + b) + bufferLength s k (1 + b) ≤ length s = r .image .node k (r .node) .buffers .inside (1 + b) data-buffer in
+      let buffer : bufferPlace s k (1 + b) + bufferLength s k (1 + b) ≤ length s = r .buffers .inside (1 + b) data-buffer in
       record { place = rw (← r .size, lt-leb len 12 long, place, eo, eb); inside = omega arith }
 
 -- where the entries start, as it is read
@@ -64,4 +64,4 @@ module _ {s : List ℕ} {k j : ℕ} (r : Part s k j 1) (views : layoutOf (codeOf
       let some : 1 ≤ bufferCount s k = node .buffers .at-least 1 (rw views) in
       let buffer : bufferPlace s k 0 + bufferLength s k 0 ≤ length s = node .buffers .inside 0 (omega arith) in
       let enough : elementsOf s k * 16 ≤ bufferLength s k 0 = rw (node .widths .view views) at (node .enough .view views) in
-      record { image = r .image; node = r .node; fits = omega (arith, r .high); size = el; view = rw view-place inside }
+      record { tables = r .image .tables; buffers = node .buffers; fits = omega (arith, r .high); size = el; view = rw view-place inside }

@@ -9,7 +9,7 @@ use Rattle.image.specs.declared.type_code.Layout.the-variants.{FixedWidth, Runs
 use Rattle.image.specs.Record.{nodeCount, codeOf, lengthOf, offsetOf, elementsOf}
 use Rattle.image.specs.TypeCode.{layoutOf}
 use Rattle.image.specs.Element.{valid, elementWidth, elementPlace, viewLength, viewData}
-use Rattle.laws.specs.Accepted.{AcceptedImage, ViewInside}
+use Rattle.laws.specs.Accepted.{Tables, Buffers, AcceptedImage, ViewInside}
 
 -- n rows from row i on of a node of an accepted image
 pub record Side (s : List ℕ) (k i n : ℕ) : Type 0 where
@@ -38,10 +38,10 @@ pub record Spanned (s : List ℕ) (k j n at len : ℕ) : Type 0 where
   pub size : len ≡ n * elementWidth s k
   pub inside : at + len ≤ length s
 
--- the view at v of a node of an accepted image, of a row that is not null
+-- the view at v of a node, of a row that is not null, where the image has none of the faults up to 18
 pub record Viewed (s : List ℕ) (k v len : ℕ) : Type 0 where
-  pub image : AcceptedImage s
-  pub node : k < nodeCount s
+  pub tables : Tables s
+  pub buffers : Buffers s k
   pub fits : v + 16 ≤ length s
   pub size : len ≡ viewLength s v
   pub view : ViewInside s k v

@@ -39,7 +39,7 @@ compareAnswer s t =
     let rest = yesOrNo (tablesEqual s t) in
     afterChecks (checkImage s) (checkImage t) rest
 
--- What every call on ranges of two tables begins with: 10 to 18 of the left image, then of the right, then 20.
+-- What every call on ranges of two tables begins with: 10 to 19 of the left image, then of the right, then 20.
 abbrev pub pairedAfter : Checked → Checked → Bool → Paired
 pairedAfter (Refused f) r agree = PairRefused Left f
 pairedAfter Accepted (Refused f) agree = PairRefused Right f
@@ -98,7 +98,7 @@ differenceAnswer s t i j n =
 unfoldable pub writeRange : List ℕ → ℕ → ℕ → List ℕ → Written
 writeRange s i n out = cond (ltb (length out) (length (rangeBytes s i n))) TooLong (Bytes (length (rangeBytes s i n)))
 
--- a write: 10 to 18, then 21, then 43
+-- a write: 10 to 19, then 21, then 43
 abbrev pub afterCheck : Checked → Written → Written
 afterCheck (Refused f) w = WriteRefused f
 afterCheck Accepted w = w

@@ -24,7 +24,7 @@ abbrev pub sideNumber : Side → ℕ
 sideNumber Left = 0
 sideNumber Right = 1
 
--- "10 to 18 return side and node"
+-- "10 to 18 return side and node"; 19 "with side and node as 18 has them"
 abbrev pub faultNumbers : Side → Fault → Numbers
 faultNumbers side f = numbers (f .number) (sideNumber side) (f .node) 0
 

@@ -8,7 +8,7 @@ use image::answer::Side;
 pub enum Paired {
     // both are accepted, and their types agree
     Agreed,
-    // 10 to 18
+    // 10 to 19
     Refused(Side, Fault),
     // 20: the types differ
     UnequalTypes,
@@ -25,7 +25,7 @@ pub enum Bounds {
 pub enum Compared {
     Yes,
     No,
-    // 10 to 18
+    // 10 to 19
     Refused(Side, Fault),
     // 20: ranges of rows whose types differ
     UnequalTypes,
@@ -39,7 +39,7 @@ pub enum Difference {
     Nowhere,
     // the first unequal row, counted from 0 at the start of the range
     At(usize),
-    // 10 to 18
+    // 10 to 19
     Refused(Side, Fault),
     // 20: ranges of rows whose types differ
     UnequalTypes,
@@ -51,7 +51,7 @@ pub enum Difference {
 pub enum Written {
     // so many bytes stand at the front of the buffer
     Bytes(usize),
-    // 10 to 18
+    // 10 to 19
     Refused(Fault),
     // 21: start + count exceeds the length
     OutOfRange,

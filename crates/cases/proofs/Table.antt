@@ -1,4 +1,4 @@
--- Cases P1 to P10 and those of the first unequal row hold: each call of the table has the answer that stands beside it.
+-- Cases P1 to P10 and those of the first unequal row and of text hold: each call of the table has the answer that stands beside it.
 -- One test over the whole table is computed; the test of two lists is their equality, which gives each case.
 use mathlib.Core.Path.{_≡_, refl, sym, subst}
 use mathlib.Core.Bool.{Bool, true, _&&_, false≢true}
@@ -12,6 +12,7 @@ use Rattle.image.specs.Bytes
 use Rattle.image.specs.Record
 use Rattle.image.specs.TypeCode
 use Rattle.image.specs.Element
+use Rattle.image.specs.Utf8
 use Rattle.image.specs.Faults
 use Rattle.image.specs.Types
 use Rattle.image.specs.Row
@@ -59,6 +60,7 @@ unfolding passes
     Cases.session Cases.sessionLeft Cases.sessionRight Cases.listOf Cases.runsOf Cases.dictionaryOf Cases.floatOf
     Cases.mapOf Cases.mapAtRoot Cases.mapInList Cases.binaryOf Cases.under Cases.depthOf Cases.p1 Cases.p2 Cases.p3
     Cases.p4 Cases.p5 Cases.p6 Cases.p7 Cases.p8 Cases.p9 Cases.p10 Cases.runsLeft Cases.runsRight Cases.differences
+    Cases.bytesOf Cases.textOf Cases.viewOf Cases.unusedHalf Cases.halfAndKey Cases.letter Cases.half Cases.textCases
     Cases.cases
     Ranges.any Ranges.every Ranges.first Ranges.sumTo Ranges.rises
     Bytes.numberAt Bytes.numberBytes Bytes.bitAt Bytes.bytesAt
@@ -67,11 +69,12 @@ unfolding passes
     TypeCode.entries TypeCode.entryOf TypeCode.layoutOf TypeCode.integerWidth TypeCode.widthOf TypeCode.p1Fits
     TypeCode.isDecimal TypeCode.p2Fits TypeCode.isUnion TypeCode.keySigned TypeCode.signBit
     Element.valid Element.elementWidth Element.elementPlace Element.elementAt Element.runEndWidth Element.runEndAt
-    Element.endsAbove Element.runAt
+    Element.viewLength Element.viewData Element.textAt Element.endsAbove Element.runAt
+    Utf8.char Utf8.octets Utf8.wellFormed
     Faults.fault10 Faults.fault11 Faults.levelEnd Faults.mapEntries Faults.runEnds Faults.fault12 Faults.outside
     Faults.bufferOutside Faults.fault13 Faults.whole Faults.fault14 Faults.under Faults.fault15 Faults.rowsUnder
     Faults.childUnder Faults.fault16 Faults.offsetsRise Faults.fault17 Faults.keyOutside Faults.runEndsRise
-    Faults.lastEndBelow Faults.keyRowFault Faults.fault18 Faults.fault Faults.firstFaulty Faults.checkFrom
+    Faults.lastEndBelow Faults.nonzero Faults.paddingNonzero Faults.viewFault Faults.viewRowFault Faults.keyRowFault Faults.fault18 Faults.textRowFault Faults.fault19 Faults.fault Faults.firstFaulty Faults.checkFrom
     Faults.checkImage
     Types.sameBytes Types.nameOf Types.ordinaryCounts Types.labelsAgree Types.headsAgree Types.typesAgreeAt Types.typesAgree
     Row.range Row.fixedRow Row.variableRow Row.listRow Row.structRow Row.dictionaryRow Row.runRow Row.rowAt

@@ -1,9 +1,10 @@
--- Cases P1 to P10 of document 01 ("Pairs from the proof desk"), and cases of the first unequal row: their images, their calls
--- and the answers, one table. Each image is laid out from a description of its Arrow columns.
-use mathlib.Core.List.{List, [], _∷_, _++_}
+-- Cases P1 to P10 of document 01 ("Pairs from the proof desk"), cases of the first unequal row and cases of text: their
+-- images, their calls and the answers, one table. Each image is laid out from a description of its Arrow columns.
+use mathlib.Core.List.{List, [], _∷_, _++_, flatMap}
 use Prim.Native.Nat.{ℕ, zero, suc, _-_, _^_}
 use Prim.Native.String.{String}
-use Rattle.cases.specs.Build.{Column, Field, Stored, column, image, field, nullable, stored, numbers, texts, lists, masked}
+use lib.ListN.{length}
+use Rattle.cases.specs.Build.{Column, Field, Stored, u32, column, image, field, nullable, stored, numbers, texts, lists, masked}
 use Rattle.cases.specs.Calls.{check, compare, compareRange, difference, write, accepted, equal, unequal, nowhere, atRow, refused, written, tooLong, Case, _answers_}
 
 -- The type codes that the cases use.
@@ -18,6 +19,12 @@ float32 = 11
 
 abbrev pub utf8 : ℕ
 utf8 = 26
+
+abbrev pub binary : ℕ
+binary = 27
+
+abbrev pub utf8View : ℕ
+utf8View = 31
 
 abbrev pub fixedSizeBinary : ℕ
 fixedSizeBinary = 30
@@ -203,6 +210,64 @@ differences =
     ∷ difference (mapInList "key") (mapInList "keys") 0 0 0 answers refused 20 0 0
     ∷ []
 
+-- Text ("A headword arrived with half a letter"): é is C3 A9, and C3 alone is half of it.
+
+-- rows of text or binary, by their offsets and the bytes that these count in
+unfoldable pub bytesOf : List ℕ → List ℕ → Stored
+bytesOf offsets bytes = stored (length offsets - 1) (flatMap u32 offsets ∷ bytes ∷ [])
+
+unfoldable pub textOf : List ℕ → List ℕ → List ℕ
+textOf offsets bytes = image (leaf (field utf8 0 "") (bytesOf offsets bytes))
+
+-- one row, its view without a data buffer
+unfoldable pub viewOf : List ℕ → List ℕ
+viewOf view = image (leaf (field utf8View 0 "") (stored 1 (view ∷ [])))
+
+-- a Dictionary of one row whose key is 0, and of two values, of which the second is half a letter
+unfoldable pub unusedHalf : List ℕ
+unusedHalf = image (column (field dictionary int8 "") (numbers 1 (0 ∷ [])) (leaf (field utf8 0 "") (bytesOf (0 ∷ 1 ∷ 2 ∷ []) (0x61 ∷ 0xC3 ∷ [])) ∷ []))
+
+-- a Struct of half a letter and a Dictionary whose key is outside its values
+unfoldable pub halfAndKey : List ℕ
+halfAndKey =
+    image
+    (column (field struct 0 "") (stored 1 [])
+    (leaf (field utf8 0 "t") (bytesOf (0 ∷ 1 ∷ []) (0xC3 ∷ []))
+    ∷ column (field dictionary int8 "d") (numbers 1 (1 ∷ [])) (leaf (field int8 0 "") (numbers 1 (7 ∷ [])) ∷ [])
+    ∷ []))
+
+unfoldable pub letter : List ℕ
+letter = textOf (0 ∷ 2 ∷ []) (0xC3 ∷ 0xA9 ∷ [])
+
+unfoldable pub half : List ℕ
+half = textOf (0 ∷ 1 ∷ []) (0xC3 ∷ 0xA9 ∷ [])
+
+unfoldable pub textCases : List Case
+textCases =
+    check letter answers accepted
+    ∷ check half answers refused 19 0 0
+    -- a letter split over two rows is two ill-formed values
+    ∷ check (textOf (0 ∷ 1 ∷ 2 ∷ []) (0xC3 ∷ 0xA9 ∷ [])) answers refused 19 0 0
+    -- a null row is not judged, nor are bytes before the first row, nor binary values
+    ∷ check (image (leaf (field utf8 0 "") (masked (0 ∷ []) (bytesOf (0 ∷ 1 ∷ []) (0xC3 ∷ []))))) answers accepted
+    ∷ check (textOf (1 ∷ 2 ∷ []) (0xC3 ∷ 0x61 ∷ [])) answers accepted
+    ∷ check (image (leaf (field binary 0 "") (bytesOf (0 ∷ 1 ∷ []) (0xC3 ∷ [])))) answers accepted
+    -- an overlong form, a surrogate, and what is above U+10FFFF; the empty text, U+0000 and U+10FFFF
+    ∷ check (textOf (0 ∷ 2 ∷ []) (0xC0 ∷ 0x80 ∷ [])) answers refused 19 0 0
+    ∷ check (textOf (0 ∷ 3 ∷ []) (0xED ∷ 0xA0 ∷ 0x80 ∷ [])) answers refused 19 0 0
+    ∷ check (textOf (0 ∷ 4 ∷ []) (0xF4 ∷ 0x90 ∷ 0x80 ∷ 0x80 ∷ [])) answers refused 19 0 0
+    ∷ check (textOf (0 ∷ 0 ∷ 1 ∷ 5 ∷ []) (0x00 ∷ 0xF4 ∷ 0x8F ∷ 0xBF ∷ 0xBF ∷ [])) answers accepted
+    -- a view
+    ∷ check (viewOf (1 ∷ 0 ∷ 0 ∷ 0 ∷ 0xC3 ∷ 0 ∷ 0 ∷ 0 ∷ 0 ∷ 0 ∷ 0 ∷ 0 ∷ 0 ∷ 0 ∷ 0 ∷ 0 ∷ [])) answers refused 19 0 0
+    -- a dictionary's value that no key names is a row of the text node
+    ∷ check unusedHalf answers refused 19 0 1
+    -- 18 at a higher node before 19 at a lower, the left's 19 before the right's 10, and 19 before 20
+    ∷ check halfAndKey answers refused 18 0 2
+    ∷ compare half [] answers refused 19 0 0
+    ∷ compare letter half answers refused 19 1 0
+    ∷ compareRange half sessionLeft 0 0 1 answers refused 19 0 0
+    ∷ []
+
 -- the table
 unfoldable pub cases : List Case
-cases = p1 ++ p2 ++ p3 ++ p4 ++ p5 ++ p6 ++ p7 ++ p8 ++ p9 ++ p10 ++ differences
+cases = p1 ++ p2 ++ p3 ++ p4 ++ p5 ++ p6 ++ p7 ++ p8 ++ p9 ++ p10 ++ differences ++ textCases

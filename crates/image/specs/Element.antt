@@ -2,10 +2,10 @@
 -- element offset + i").
 use mathlib.Core.Bool.{Bool, cond, not, _||_}
 use mathlib.Core.List.{List}
-use Prim.Native.Nat.{ℕ, _+_, _*_}
+use Prim.Native.Nat.{ℕ, suc, _+_, _*_, _-_}
 use lib.Dec.{eqb, leb, ltb}
 use Rattle.image.specs.Ranges.{first}
-use Rattle.image.specs.Bytes.{byteAt, numberAt, bitAt}
+use Rattle.image.specs.Bytes.{byteAt, numberAt, bitAt, bytesAt}
 use Rattle.image.specs.Record.{codeOf, idOf, p1Of, offsetOf, hasBitmap, bitmapPlace, firstBit, firstChild, childCount, bufferPlace, lengthOf}
 use Rattle.image.specs.TypeCode.{integerWidth, widthOf}
 
@@ -24,6 +24,10 @@ elementPlace s k j = bufferPlace s k 0 + j * elementWidth s k
 -- element j of the first buffer, as a number: an offset of text, binary, a list kind or Map, or a Dictionary's key
 unfoldable pub elementAt : List ℕ → ℕ → ℕ → ℕ
 elementAt s k j = numberAt (elementWidth s k) s (elementPlace s k j)
+
+-- the bytes of text or binary at element j: those of the second buffer from the offset at j up to the next
+abbrev pub variableText : List ℕ → ℕ → ℕ → List ℕ
+variableText s k j = bytesAt s (bufferPlace s k 1 + elementAt s k j) (elementAt s k (suc j) - elementAt s k j)
 
 -- a list view's size: element j of the second buffer, as wide as its offset
 unfoldable pub sizeAt : List ℕ → ℕ → ℕ → ℕ
@@ -66,6 +70,14 @@ viewOffset s v = numberAt 4 s (v + 12)
 -- where the bytes of the view at v stand: in the view itself, or in the data buffer, which comes after the views' own
 unfoldable pub viewData : List ℕ → ℕ → ℕ → ℕ
 viewData s k v = cond (leb (viewLength s v) inlineLength) (v + 4) (bufferPlace s k (1 + viewBuffer s v) + viewOffset s v)
+
+-- the bytes of the view at element j
+abbrev pub viewText : List ℕ → ℕ → ℕ → List ℕ
+viewText s k j = bytesAt s (viewData s k (elementPlace s k j)) (viewLength s (elementPlace s k j))
+
+-- the text at element j of a node that holds text: a view's where the code is 31, Utf8View
+unfoldable pub textAt : List ℕ → ℕ → ℕ → List ℕ
+textAt s k j = cond (eqb (codeOf s k) 31) (viewText s k j) (variableText s k j)
 
 -- the width of the run ends of run node k, integers of the first child's code
 unfoldable pub runEndWidth : List ℕ → ℕ → ℕ

@@ -1,5 +1,5 @@
--- The faults of an image ("Turned away because of the input", 10 to 18): for each number and each node whether the
--- node has a fault of that number, and the answer of the image check.
+-- The faults of an image ("Turned away because of the input", 10 to 18, and 19 of document 02): for each number and each
+-- node whether the node has a fault of that number, and the answer of the image check.
 use mathlib.Core.Bool.{Bool, false, cond, not, _&&_, _||_}
 use mathlib.Core.List.{List}
 use Prim.Native.Nat.{ℕ, zero, suc, _+_, _*_, _-_, _%_, min}
@@ -12,8 +12,9 @@ use Rattle.image.specs.declared.type_code.Layout.the-variants.{Null, Boo
 use Rattle.image.specs.Ranges.{any, first, rises}
 use Rattle.image.specs.Bytes.{byteAt, numberAt}
 use Rattle.image.specs.Record.{headerSize, maxDepth, nodeCount, bufferTotal, tablesEnd, codeOf, flagsOf, idOf, nameLength, p1Of, p2Of, lengthOf, offsetOf, namePlace, bitmapPlace, bitmapLength, firstBit, firstChild, childCount, firstBuffer, bufferCount, hasBitmap, elementsOf, childStart, bufferStart, bufferPlace, bufferLength}
-use Rattle.image.specs.TypeCode.{layoutOf, p1Fits, p2Fits, isUnion, keySigned, signBit, takesBitmap, childRule, bufferRule, counts}
-use Rattle.image.specs.Element.{valid, elementWidth, elementPlace, elementAt, sizeAt, typeIdAt, denseOffsetAt, childEnd, childWithId, inlineLength, viewLength, viewBuffer, viewOffset, viewData, runEndWidth, runEndAt}
+use Rattle.image.specs.TypeCode.{layoutOf, p1Fits, p2Fits, isText, isUnion, keySigned, signBit, takesBitmap, childRule, bufferRule, counts}
+use Rattle.image.specs.Element.{valid, elementWidth, elementPlace, elementAt, sizeAt, typeIdAt, denseOffsetAt, childEnd, childWithId, inlineLength, viewLength, viewBuffer, viewOffset, viewData, textAt, runEndWidth, runEndAt}
+use Rattle.image.specs.Utf8.{wellFormed}
 
 -- 10: "image shorter than header and tables, longer than the maximum, or n or m out of range"
 unfoldable pub fault10 : List ℕ → Bool
@@ -275,6 +276,14 @@ rowFault Runs s k = not (runEndsRise s k) || lastEndBelow s k
 unfoldable pub fault18 : List ℕ → ℕ → Bool
 fault18 s k = rowFault (layoutOf (codeOf s k)) s k
 
+-- the text of row i of node k is ill-formed, where the row is not null; each value is judged by itself
+unfoldable pub textRowFault : List ℕ → ℕ → ℕ → Bool
+textRowFault s k i = valid s k i && not (wellFormed (textAt s k (offsetOf s k + i)))
+
+-- 19: "Columns of Utf8, LargeUtf8 and Utf8View are checked in their non-null rows by RFC 3629."
+unfoldable pub fault19 : List ℕ → ℕ → Bool
+fault19 s k = isText (codeOf s k) && any (textRowFault s k) 0 (lengthOf s k)
+
 -- the test of each number
 unfoldable pub fault : ℕ → List ℕ → ℕ → Bool
 fault number =
@@ -284,11 +293,16 @@ fault number =
     (cond (eqb number 14) fault14
     (cond (eqb number 15) fault15
     (cond (eqb number 16) fault16
-    (cond (eqb number 17) fault17 fault18))))))
+    (cond (eqb number 17) fault17
+    (cond (eqb number 18) fault18 fault19)))))))
 
 -- "Lowest number first; among nodes the lowest": the first node that has a fault of the number, or n where none has
 unfoldable pub firstFaulty : ℕ → List ℕ → ℕ
 firstFaulty number s = first (fault number s) 0 (nodeCount s)
+
+-- the numbers of the faults that belong to a node begin with 11 and end before this one
+abbrev pub numbersEnd : ℕ
+numbersEnd = 20
 
 -- the answer by the numbers from one number on, so many of them
 unfoldable pub checkFrom : ℕ → ℕ → List ℕ → Checked
@@ -300,5 +314,5 @@ checkFrom (suc left) number s =
 -- The image check. "A table is accepted if its image has none of the faults that are returned with a node"; "10: node 0".
 unfoldable pub checkImage : List ℕ → Checked
 checkImage s =
-    let rest = checkFrom 8 11 s in
+    let rest = checkFrom (numbersEnd - 11) 11 s in
     cond (fault10 s) (Refused (record { number = 10; node = 0 })) rest

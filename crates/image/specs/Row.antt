@@ -9,7 +9,7 @@ use Rattle.image.specs.declared.type_code.Layout.the-variants.{Null, Boo
 use Rattle.image.specs.Bytes.{bitAt, bytesAt}
 use Rattle.image.specs.Record.{maxDepth, codeOf, p1Of, offsetOf, firstChild, childCount, bufferPlace}
 use Rattle.image.specs.TypeCode.{layoutOf}
-use Rattle.image.specs.Element.{valid, elementWidth, elementPlace, elementAt, sizeAt, typeIdAt, denseOffsetAt, childEnd, childWithId, viewLength, viewData, runAt}
+use Rattle.image.specs.Element.{valid, elementWidth, elementPlace, elementAt, variableText, sizeAt, typeIdAt, denseOffsetAt, childEnd, childWithId, viewText, runAt}
 
 mutual
   pub data Row : Type 0 where
@@ -50,11 +50,11 @@ fixedRow s k j = fixed (bytesAt s (elementPlace s k j) (elementWidth s k))
 
 -- "Text, binary ..: length and bytes", from the offset at j up to the next
 unfoldable pub variableRow : List ℕ → ℕ → ℕ → Row
-variableRow s k j = sized (bytesAt s (bufferPlace s k 1 + elementAt s k j) (elementAt s k (suc j) - elementAt s k j))
+variableRow s k j = sized (variableText s k j)
 
 -- "views: length and bytes"
 unfoldable pub viewRow : List ℕ → ℕ → ℕ → Row
-viewRow s k j = sized (bytesAt s (viewData s k (elementPlace s k j)) (viewLength s (elementPlace s k j)))
+viewRow s k j = sized (viewText s k j)
 
 -- "List kinds and Map: count, and child rows in turn", at the stored offset
 unfoldable pub listRow : (ℕ → ℕ → Row) → List ℕ → ℕ → ℕ → Row

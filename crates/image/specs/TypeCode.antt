@@ -140,6 +140,10 @@ isDecimal code = leb 15 code && leb code 18
 unfoldable pub p2Fits : ℕ → ℕ → Bool
 p2Fits code p2 = cond (isDecimal code) (ltb p2 128 || leb (2 ^ 32 - 128) p2) (eqb p2 0)
 
+-- "26 Utf8 .. 28 LargeUtf8 .. 31 Utf8View"
+abbrev pub isText : ℕ → Bool
+isText code = eqb code 26 || eqb code 28 || eqb code 31
+
 -- "39 dense and 40 sparse Union"
 unfoldable pub isUnion : ℕ → Bool
 isUnion code = eqb code 39 || eqb code 40

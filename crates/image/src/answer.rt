@@ -6,7 +6,7 @@ pub enum Side {
     Right,
 }
 
-// A fault of an image: its number, 10 to 18, and the node that has it.
+// A fault of an image: its number, 10 to 19, and the node that has it.
 pub struct Fault {
     pub number: u8,
     pub node: u16,

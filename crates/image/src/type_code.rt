@@ -1,7 +1,7 @@
 // The type codes of document 01's image, constants of one type, and what each code says of a node.
 ghost use mathlib.Core.Path.{_≡_};
 ghost use Prim.Native.Nat.{_≤_};
-ghost use Rattle.image.specs.TypeCode.{entryOf, layoutOf, integerWidth, widthOf, childRule, bufferRule, takesBitmap, p1Fits, p2Fits, isUnion, keySigned, signBit, counts};
+ghost use Rattle.image.specs.TypeCode.{entryOf, layoutOf, integerWidth, widthOf, childRule, bufferRule, takesBitmap, p1Fits, p2Fits, isText, isUnion, keySigned, signBit, counts};
 
 // How a node stores its rows. Every code has one of these layouts.
 pub enum Layout {
@@ -360,6 +360,13 @@ impl TypeCode {
             TypeCode::DENSE_UNION | TypeCode::SPARSE_UNION => true,
             _ => false,
         }
+    }
+
+    // Whether the rows of a node of this code are text.
+    pub fn is_text(code: u8) -> bool
+        ensures { λ r. ⌜ r ≡ isText code ⌝ }
+    {
+        (code == TypeCode::UTF8) | (code == TypeCode::LARGE_UTF8) | (code == TypeCode::UTF8_VIEW)
     }
 
     // Whether a Dictionary's keys, of the integer code p1, are signed.

@@ -14,14 +14,14 @@ use Rattle.image.specs.declared.answer.Checked.the-variants.{Accepted}
 use Rattle.image.specs.declared.type_code.Count.{Count}
 use Rattle.image.specs.declared.type_code.Count.the-variants.{Exactly, AtLeast}
 use Rattle.image.specs.Bytes.{byteAt, bitAt}
-use Rattle.image.specs.Record.{nodeCount, bufferTotal, idOf, lengthOf, offsetOf, nameLength, namePlace, bitmapPlace, bitmapLength, firstBit, hasBitmap, firstChild, childCount, firstBuffer, bufferCount, bufferLength, elementsOf, childStart, bufferStart}
-use Rattle.image.specs.TypeCode.{counts, signBit}
+use Rattle.image.specs.Record.{nodeCount, bufferTotal, idOf, lengthOf, offsetOf, codeOf, nameLength, namePlace, bitmapPlace, bitmapLength, firstBit, hasBitmap, firstChild, childCount, firstBuffer, bufferCount, bufferLength, elementsOf, childStart, bufferStart}
+use Rattle.image.specs.TypeCode.{isText, counts, signBit}
 use Rattle.image.specs.Element.{childEnd, elementAt, elementWidth, runEndWidth, runEndAt, endsAbove, runAt, hasId, typeIdAt, childWithId, denseOffsetAt, inlineLength, viewLength, valid}
-use Rattle.image.specs.Faults.{fault, fault10, fault11, fault12, fault13, fault14, fault15, fault16, fault17, fault18, checkImage, outside, idsRise, mapEntries, runEnds, under, childUnder, offsetsRise, listOutside, bufferOutside, rowsUnder, nonzero, idUnknown, denseOutside, keyOutside, paddingNonzero, viewFault, longViewFault, runEndsRise, lastEndBelow, denseRowFault, sparseRowFault, keyRowFault, viewRowFault}
+use Rattle.image.specs.Faults.{fault, fault10, fault11, fault12, fault13, fault14, fault15, fault16, fault17, fault18, fault19, textRowFault, checkImage, outside, idsRise, mapEntries, runEnds, under, childUnder, offsetsRise, listOutside, bufferOutside, rowsUnder, nonzero, idUnknown, denseOutside, keyOutside, paddingNonzero, viewFault, longViewFault, runEndsRise, lastEndBelow, denseRowFault, sparseRowFault, keyRowFault, viewRowFault}
 use Rattle.image.proofs.Bools.{facts, or-left, or-right, and-fails}
 use Rattle.image.proofs.Ranges.{any-false, any-below, sum-next, rises-least, rises-top, rises-apart, first-from, first-at-most, first-passes}
 use Rattle.image.proofs.Widths.{variable-width, view-width, list-width, list-view-width, key-width}
-use Rattle.laws.specs.Accepted.{Known, Widths, Ids, RunEnds, Entries, Tree, Named, Buffers, Enough, Children, OffsetsRise, Places, IdKnown, ViewInside, RunsCover, NodeRows, AcceptedImage, NoneBelow, Tables}
+use Rattle.laws.specs.Accepted.{Known, Widths, Ids, RunEnds, Entries, Tree, Named, Buffers, Enough, Children, OffsetsRise, Places, IdKnown, ViewInside, RunsCover, NodeRows, Texts, AcceptedImage, NoneBelow, Tables}
 use Rattle.laws.proofs.NoneBelow.{accepted-none}
 use Rattle.laws.proofs.Codes.{runs-code, run-end-width}
 
@@ -297,6 +297,12 @@ rows s k e c = record {
       runs-cover s k (h .0) (h .1) (c .runs l);
 }
 
+texts : (s : List ℕ) (k : ℕ) → fault19 s k ≡ false → Texts s k
+unfolding fault19 textRowFault
+texts s k e = record {
+  formed = λ text i lt set. simp facts at (and-fails (valid s k i) _ (any-below (textRowFault s k) _ (and-fails (isText (codeOf s k)) _ e text) i lt) set);
+}
+
 -- What the numbers below one give: of the whole image, and of node k.
 pub tables : {number : ℕ} {s : List ℕ} → NoneBelow number s → Tables s
 unfolding fault10
@@ -338,13 +344,17 @@ module _ {number : ℕ} {s : List ℕ} (b : NoneBelow number s) where
     unfolding fault
     after-16 lt = children s k (b .nodes 16 (omega arith) lt k node)
 
-    after-17 : 17 < number → Places s k
+    pub after-17 : 17 < number → Places s k
     unfolding fault
     after-17 lt = places s k (b .nodes 17 (omega arith) lt k node)
 
-    after-18 : 18 < number → NodeRows s k
+    pub after-18 : 18 < number → NodeRows s k
     unfolding fault
     after-18 lt = rows s k (b .nodes 18 (omega arith) lt k node) (after-16 (omega arith))
+
+    after-19 : 19 < number → Texts s k
+    unfolding fault
+    after-19 lt = texts s k (b .nodes 19 (omega arith) lt k node)
 
 pub accepted : (s : List ℕ) → checkImage s ≡ Accepted → AcceptedImage s
 accepted s accepts =
@@ -363,5 +373,6 @@ accepted s accepts =
         children = after-16 none k node (omega arith);
         places = after-17 none k node (omega arith);
         rows = after-18 none k node (omega arith);
+        texts = after-19 none k node (omega arith);
       };
     }

@@ -4,7 +4,7 @@ use mathlib.Core.Path.{_≡_, refl}
 use mathlib.Core.Bool.{Bool, true, false, cond}
 use mathlib.Core.List.{List}
 use mathlib.Core.Logic.{_⊎_, inl, inr}
-use Prim.Native.Nat.{ℕ, zero, suc, _+_, _≤_, _<_}
+use Prim.Native.Nat.{ℕ, zero, suc, _+_, _-_, _≤_, _<_}
 use native.Mathlib.Nat.{eq-or-lt-of-le}
 use native.Mathlib.Omega.{arith}
 use lib.Dec.{ltb}
@@ -13,7 +13,7 @@ use Rattle.image.specs.declared.answer.Fault.{Fault}
 use Rattle.image.specs.declared.answer.Checked.{Checked}
 use Rattle.image.specs.declared.answer.Checked.the-variants.{Accepted, Refused}
 use Rattle.image.specs.Record.{nodeCount}
-use Rattle.image.specs.Faults.{fault, fault10, firstFaulty, checkFrom, checkImage}
+use Rattle.image.specs.Faults.{fault, fault10, firstFaulty, numbersEnd, checkFrom, checkImage}
 use Rattle.image.proofs.Ranges.{from-here, first-before}
 use Rattle.laws.specs.Accepted.{NoneBelow}
 
@@ -52,11 +52,11 @@ pub none-fewer : {number : ℕ} {s : List ℕ} (m : ℕ) → m ≤ number → No
 none-fewer m le b = record { image = b .image; nodes = λ n low high k lt. b .nodes n low (omega arith) k lt }
 
 -- an accepted image has no fault at all
-pub accepted-none : (s : List ℕ) → checkImage s ≡ Accepted → NoneBelow 19 s
+pub accepted-none : (s : List ℕ) → checkImage s ≡ Accepted → NoneBelow numbersEnd s
 unfolding checkImage firstFaulty
 accepted-none s accepted = record {
   image = test-failed _ _ _ accepted;
   nodes = λ m low high k lt.
-      let h : nodeCount s ≤ firstFaulty m s = ltb-false _ _ (none-faulty 8 11 s (rest-accepted (fault10 s) _ _ accepted) m low (omega arith)) in
+      let h : nodeCount s ≤ firstFaulty m s = ltb-false _ _ (none-faulty (numbersEnd - 11) 11 s (rest-accepted (fault10 s) _ _ accepted) m low (omega arith)) in
       first-before (fault m s) 0 (nodeCount s) k (omega arith) (omega arith);
 }

@@ -9,8 +9,9 @@ use Rattle.image.specs.declared.type_code.Layout.the-variants.{Boolean, FixedWi
 use Rattle.image.specs.declared.type_code.Count.the-variants.{Exactly, AtLeast}
 use Rattle.image.specs.Bytes.{byteAt, numberAt}
 use Rattle.image.specs.Record.{headerSize, maxDepth, nodeCount, bufferTotal, tablesEnd, codeOf, flagsOf, idOf, nameLength, p1Of, p2Of, lengthOf, offsetOf, namePlace, bitmapPlace, bitmapLength, firstBit, firstChild, childCount, firstBuffer, bufferCount, hasBitmap, elementsOf, childStart, bufferStart, bufferPlace, bufferLength}
-use Rattle.image.specs.TypeCode.{layoutOf, p1Fits, p2Fits, isUnion, signBit, takesBitmap, childRule, bufferRule}
-use Rattle.image.specs.Element.{valid, elementWidth, elementPlace, elementAt, sizeAt, typeIdAt, denseOffsetAt, childEnd, childWithId, inlineLength, viewLength, viewBuffer, viewOffset, viewData, runEndWidth, runEndAt, runAt}
+use Rattle.image.specs.TypeCode.{layoutOf, p1Fits, p2Fits, isText, isUnion, signBit, takesBitmap, childRule, bufferRule}
+use Rattle.image.specs.Element.{valid, elementWidth, elementPlace, elementAt, sizeAt, typeIdAt, denseOffsetAt, childEnd, childWithId, inlineLength, viewLength, viewBuffer, viewOffset, viewData, textAt, runEndWidth, runEndAt, runAt}
+use Rattle.image.specs.Utf8.{wellFormed}
 use Rattle.image.specs.Faults.{levelEnd, underUnion, notWhole, fault10, fault}
 
 -- The image has not fault 10, and none of its nodes a fault of a number below this one: what the rules of this number
@@ -159,6 +160,10 @@ pub record NodeRows (s : List ℕ) (k : ℕ) : Type 0 where
       → ViewInside s k (elementPlace s k (offsetOf s k + i))
   pub runs : layoutOf (codeOf s k) ≡ Runs → RunsCover s k
 
+-- 19: the texts of the rows that are not null are well-formed
+pub record Texts (s : List ℕ) (k : ℕ) : Type 0 where
+  pub formed : isText (codeOf s k) ≡ true → (i : ℕ) → i < lengthOf s k → valid s k i ≡ true → wellFormed (textAt s k (offsetOf s k + i)) ≡ true
+
 -- an accepted image's node
 pub record Node (s : List ℕ) (k : ℕ) : Type 0 where
   pub known : Known s k
@@ -170,6 +175,7 @@ pub record Node (s : List ℕ) (k : ℕ) : Type 0 where
   pub children : Children s k
   pub places : Places s k
   pub rows : NodeRows s k
+  pub texts : Texts s k
 
 -- an accepted image
 pub record AcceptedImage (s : List ℕ) : Type 0 where

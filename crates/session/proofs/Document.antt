@@ -44,7 +44,7 @@ unfolding Sessions.characters Sessions.replies Input.inFront Input.linesOf Input
     Faults.fault10 Faults.fault11 Faults.levelEnd Faults.mapEntries Faults.runEnds Faults.fault12 Faults.outside
     Faults.bufferOutside Faults.fault13 Faults.whole Faults.fault14 Faults.under Faults.fault15 Faults.rowsUnder
     Faults.childUnder Faults.fault16 Faults.offsetsRise Faults.fault17 Faults.keyOutside Faults.runEndsRise
-    Faults.lastEndBelow Faults.keyRowFault Faults.fault18 Faults.fault Faults.firstFaulty Faults.checkFrom
+    Faults.lastEndBelow Faults.keyRowFault Faults.fault18 Faults.fault19 Faults.fault Faults.firstFaulty Faults.checkFrom
     Faults.checkImage
     Types.sameBytes Types.nameOf Types.ordinaryCounts Types.labelsAgree Types.headsAgree Types.typesAgreeAt
     Types.typesAgree

@@ -1,5 +1,5 @@
 -- Replies: "One output line each, without spaces: 00, then 01 or 00 for yes or no, or the written bytes; or the refusal's
--- byte, then for 10 to 18 the node as u16, for 21 the side."
+-- byte, then for 10 to 18 the node as u16, for 21 the side."; 19 is as 18, "in the session too".
 use mathlib.Core.Bool.{Bool, true, false, cond}
 use mathlib.Core.List.{List, [], _∷_, _++_}
 use Prim.Native.Nat.{ℕ, _+_, _/_, _%_}

@@ -23,7 +23,7 @@ pub enum Reply {
     Bytes(usize),
     // the refusal's number alone
     Refused(u8),
-    // 10 to 18, then the node
+    // 10 to 19, then the node
     Faulty(Fault),
     // 21, then the side
     OutOfRange(Side),

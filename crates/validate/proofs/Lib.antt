@@ -6,5 +6,6 @@ pub mod Padding
 pub mod Parents
 pub mod Rises
 pub mod RunEnds
+pub mod TextRows
 pub mod Unions
 pub mod ViewRows

@@ -1,4 +1,4 @@
-// The image check: faults 10 to 18, the lowest number first and among nodes the lowest. The rules of a number are asked
+// The image check: faults 10 to 19, the lowest number first and among nodes the lowest. The rules of a number are asked
 // only where no node has a lower one, so they may rest on what the lower ones say.
 pub mod buffers;
 pub mod children;
@@ -7,6 +7,7 @@ pub mod names;
 pub mod offsets;
 mod rise;
 pub mod rows;
+pub mod texts;
 pub mod tree;
 
 use buffers::fault_14;
@@ -22,6 +23,7 @@ use image::record::tables_end;
 use names::fault_13;
 use offsets::fault_17;
 use rows::fault_18;
+use texts::fault_19;
 use tree::Walk;
 use tree::fault_12;
 ghost use mathlib.Core.Path.{_≡_};
@@ -40,7 +42,7 @@ const MOST_BUFFERS: u32 = 1024;
 // The numbers of the faults that belong to a node, and the end of the list.
 const FIRST_NUMBER: u8 = 11;
 
-const NUMBERS_END: u8 = 19;
+const NUMBERS_END: u8 = 20;
 
 // 10: the image is shorter than header and tables, longer than the maximum, or has too few or too many nodes or buffers.
 fn fault_10(image: &[u8]) -> bool
@@ -79,7 +81,8 @@ fn has_fault(image: &[u8], number: u8, node: u32, walk: Walk) -> bool
         15 => fault_15(image, node),
         16 => fault_16(image, node),
         17 => fault_17(image, node),
-        _ => fault_18(image, node),
+        18 => fault_18(image, node),
+        _ => fault_19(image, node),
     }
 }
 

@@ -8,7 +8,7 @@ use lib.Dec.{ltb}
 use borrow.Author.Tests.{lt-ltb, le-ltb}
 use Rattle.image.specs.declared.answer.Checked.the-variants.{Accepted, Refused}
 use Rattle.image.specs.Record.{nodeCount}
-use Rattle.image.specs.Faults.{firstFaulty, checkFrom, checkImage}
+use Rattle.image.specs.Faults.{firstFaulty, numbersEnd, checkFrom, checkImage}
 use Rattle.laws.specs.Accepted.{NoneBelow}
 use Rattle.laws.proofs.NoneBelow.{none-yet, none-more}
 use Prim.Native.Nat.{ℕ, _+_, _-_, _<_, _≤_}
@@ -17,41 +17,41 @@ use borrow.Author.Needs.{needs}
 use Rattle.validate.proofs.check.Statement.{statement}
 use Rattle.validate.proofs.check.Tie as tie
 
--- the answer by the numbers 11 to 18 is the answer by those from a number on
+-- the answer by all numbers is the answer by those from a number on
 record Left (s : List ℕ) (number : ℕ) : Type 0 where
-  pub within : number ≤ 19
-  pub same : checkFrom 8 11 s ≡ checkFrom (19 - number) number s
+  pub within : number ≤ numbersEnd
+  pub same : checkFrom (numbersEnd - 11) 11 s ≡ checkFrom (numbersEnd - number) number s
 
 left-all : (s : List ℕ) → Left s 11
 left-all s = record { within = omega arith; same = refl }
 
-turn : (s : List ℕ) (number : ℕ) → number < 19
-    → checkFrom (19 - number) number s ≡ cond (ltb (firstFaulty number s) (nodeCount s)) (Refused (record { number = number; node = firstFaulty number s })) (checkFrom (19 - (number + 1)) (number + 1) s)
+turn : (s : List ℕ) (number : ℕ) → number < numbersEnd
+    → checkFrom (numbersEnd - number) number s ≡ cond (ltb (firstFaulty number s) (nodeCount s)) (Refused (record { number = number; node = firstFaulty number s })) (checkFrom (numbersEnd - (number + 1)) (number + 1) s)
 unfolding checkFrom
 turn s number lt =
-    let e : 19 - number ≡ suc (19 - (number + 1)) = omega arith in
+    let e : numbersEnd - number ≡ suc (numbersEnd - (number + 1)) = omega arith in
     let x : number + 1 ≡ suc number = omega arith in
     rw (e, x)
 
 module _ {s : List ℕ} {number : ℕ} (l : Left s number) where
-  module _ (lt : number < 19) {node n : ℕ} (e : node ≡ firstFaulty number s) (q : n ≡ nodeCount s) where
-    found : node < n → Refused (record { number = number; node = node }) ≡ checkFrom 8 11 s
+  module _ (lt : number < numbersEnd) {node n : ℕ} (e : node ≡ firstFaulty number s) (q : n ≡ nodeCount s) where
+    found : node < n → Refused (record { number = number; node = node }) ≡ checkFrom (numbersEnd - 11) 11 s
     found h = sym (l .same ∙ turn s number lt ∙ rw (← e, ← q, lt-ltb node n h))
 
     left-more : n ≤ node → Left s (number + 1)
     left-more h = record { within = omega arith; same = l .same ∙ turn s number lt ∙ rw (← e, ← q, le-ltb node n h) }
 
-  accepted : 19 ≤ number → Accepted ≡ checkFrom 8 11 s
+  accepted : numbersEnd ≤ number → Accepted ≡ checkFrom (numbersEnd - 11) 11 s
   unfolding checkFrom
   accepted h =
-      let e : 19 - number ≡ 0 = omega arith in
+      let e : numbersEnd - number ≡ 0 = omega arith in
       sym (l .same ∙ rw e)
 
 abbrev Inv-loop : tie.InvT-loop
 Inv-loop image n start number₀ number = Left image number × NoneBelow number image × (11 ≤ number)
 
 abbrev μ-loop : tie.MeasureT-loop
-μ-loop image n start number₀ number = 19 - number
+μ-loop image n start number₀ number = numbersEnd - number
 
 fault-10-requires : tie.Need-fault-10-requires Inv-loop μ-loop
 fault-10-requires c κs = search needs

@@ -16,10 +16,10 @@ past : {m n : ℕ} → (n ≡ m → ⊥) → m ≤ n → suc m ≤ n
 past ne le = omega arith
 
 -- a number from 11 on that has no arm of its own
-past-17 : (n : ℕ) → 11 ≤ n → NoneOf (17 ∷ 16 ∷ 15 ∷ 14 ∷ 13 ∷ 12 ∷ 11 ∷ []) n → 18 ≤ n
-past-17 n le none =
+past-18 : (n : ℕ) → 11 ≤ n → NoneOf (18 ∷ 17 ∷ 16 ∷ 15 ∷ 14 ∷ 13 ∷ 12 ∷ 11 ∷ []) n → 19 ≤ n
+past-18 n le none =
     past (none .1)
-    (past (none .0 .1) (past (none .0 .0 .1) (past (none .0 .0 .0 .1) (past (none .0 .0 .0 .0 .1) (past (none .0 .0 .0 .0 .0 .1) (past (none .0 .0 .0 .0 .0 .0 .1) le))))))
+    (past (none .0 .1) (past (none .0 .0 .1) (past (none .0 .0 .0 .1) (past (none .0 .0 .0 .0 .1) (past (none .0 .0 .0 .0 .0 .1) (past (none .0 .0 .0 .0 .0 .0 .1) (past (none .0 .0 .0 .0 .0 .0 .0 .1) le)))))))
 
 fault-11-requires : tie.Need-fault-11-requires
 fault-11-requires c κs = search needs
@@ -43,7 +43,10 @@ fault-17-requires : tie.Need-fault-17-requires
 fault-17-requires c κs = (none-fewer 17 (omega (arith, c .match .keys7)) (c .before .before .pre .1 .0), c .before .before .pre .1 .2)
 
 fault-18-requires : tie.Need-fault-18-requires
-fault-18-requires c κs = (none-fewer 18 (past-17 _ (c .before .before .pre .1 .1) (c .match .rest)) (c .before .before .pre .1 .0), c .before .before .pre .1 .2)
+fault-18-requires c κs = (none-fewer 18 (omega (arith, c .match .keys8)) (c .before .before .pre .1 .0), c .before .before .pre .1 .2)
+
+fault-19-requires : tie.Need-fault-19-requires
+fault-19-requires c κs = (none-fewer 19 (past-18 _ (c .before .before .pre .1 .1) (c .match .rest)) (c .before .before .pre .1 .0), c .before .before .pre .1 .2)
 
 returns : tie.Need-returns
 unfolding fault
@@ -75,7 +78,11 @@ returns-7 c = rw (c .before .match .keys7) (c .fault-17 .ensures)
 
 returns-8 : tie.Need-returns-8
 unfolding fault
-returns-8 c = rw (ne-eqb _ 11 (c .before .match .rest .0 .0 .0 .0 .0 .0 .1), ne-eqb _ 12 (c .before .match .rest .0 .0 .0 .0 .0 .1), ne-eqb _ 13 (c .before .match .rest .0 .0 .0 .0 .1), ne-eqb _ 14 (c .before .match .rest .0 .0 .0 .1), ne-eqb _ 15 (c .before .match .rest .0 .0 .1), ne-eqb _ 16 (c .before .match .rest .0 .1), ne-eqb _ 17 (c .before .match .rest .1)) (c .fault-18 .ensures)
+returns-8 c = rw (c .before .match .keys8) (c .fault-18 .ensures)
+
+returns-9 : tie.Need-returns-9
+unfolding fault
+returns-9 c = rw (ne-eqb _ 11 (c .before .match .rest .0 .0 .0 .0 .0 .0 .0 .1), ne-eqb _ 12 (c .before .match .rest .0 .0 .0 .0 .0 .0 .1), ne-eqb _ 13 (c .before .match .rest .0 .0 .0 .0 .0 .1), ne-eqb _ 14 (c .before .match .rest .0 .0 .0 .0 .1), ne-eqb _ 15 (c .before .match .rest .0 .0 .0 .1), ne-eqb _ 16 (c .before .match .rest .0 .0 .1), ne-eqb _ 17 (c .before .match .rest .0 .1), ne-eqb _ 18 (c .before .match .rest .1)) (c .fault-19 .ensures)
 
 pub has-fault-spec : {M : Type 1} → statement M
 has-fault-spec =
@@ -89,6 +96,7 @@ has-fault-spec =
     fault-16-requires
     fault-17-requires
     fault-18-requires
+    fault-19-requires
     returns
     returns-2
     returns-3
@@ -96,4 +104,5 @@ has-fault-spec =
     returns-5
     returns-6
     returns-7
-    returns-8)
+    returns-8
+    returns-9)

@@ -1,10 +1,14 @@
-//! The Rust's `equal` for a benchmark in C, librust_equal.a:
+//! The Rust's `equal` and its `from_utf8` for a benchmark in C, librust_equal.a:
 //!
 //!     void *rust_load(const uint8_t *image, size_t len);          an accepted image as ArrayData
 //!     int32_t rust_equal(const void *left, const void *right);    0 no, 1 yes, 2 a panic
 //!     uint64_t rust_time(const uint8_t *left, size_t left_len, const uint8_t *right, size_t right_len, size_t calls);
 //!                                                                 nanoseconds of `equal` alone, the median of the calls
 //!     void rust_free(void *array);
+//!     size_t rust_from_utf8(const uint8_t *image, size_t len, const struct column *column);
+//!                                                                 texts.rs
+
+mod texts;
 
 use std::slice::from_raw_parts;
 

@@ -1,0 +1,68 @@
+-- Where `buffers_formed` says yes, every data buffer is well-formed.
+-- The loop keeps that those before number j are.
+use mathlib.Core.Bool.{false≢true}
+use borrow.Author.Tests.{not-false}
+use Rattle.validate.proofs.TextRows.{FormedBefore, formed-none, formed-more, formed-all, data-inside}
+use Prim.Native.Nat.{ℕ, _+_, _-_, _*_, _<_, _≤_}
+use lib.ListN.{length, getD}
+use native.Mathlib.Omega.{arith}
+use borrow.Author.Needs.{needs}
+use Rattle.validate.proofs.texts.buffers_formed.Statement.{statement}
+use Rattle.validate.proofs.texts.buffers_formed.Tie as tie
+
+abbrev Inv-loop : tie.InvT-loop
+Inv-loop image node table count j₀ j = (1 ≤ j) × FormedBefore image node j
+
+abbrev μ-loop : tie.MeasureT-loop
+μ-loop image node table count j₀ j = count - j
+
+next-states-requires : tie.Need-next-states-requires Inv-loop μ-loop
+next-states-requires c κs = search needs
+
+buffer-count-requires : tie.Need-buffer-count-requires Inv-loop μ-loop
+buffer-count-requires c κs = search needs
+
+loop-holds : tie.Need-loop-holds Inv-loop μ-loop
+loop-holds c = (omega arith, formed-none _ _)
+
+buffer-place-requires : tie.Need-buffer-place-requires Inv-loop μ-loop
+buffer-place-requires c κs = search needs
+
+buffer-length-requires : tie.Need-buffer-length-requires Inv-loop μ-loop
+buffer-length-requires c κs = search needs
+
+is-text-requires : tie.Need-is-text-requires Inv-loop μ-loop
+is-text-requires c κs = (data-inside (c .before .before .before .before .before .before .before .before .pre) (omega (arith, c .before .before .before .before .before .buffer-count .ensures .value)) (c .before .before .buffer-place .ensures .value) (c .before .buffer-length .ensures .value), c .before .before .before .before .before .before .next-states .ensures)
+
+returns : tie.Need-returns Inv-loop μ-loop
+returns c = λ e. absurd (false≢true e)
+
+add-j : tie.Need-add-j Inv-loop μ-loop
+add-j c = search needs
+
+loop-less : tie.Need-loop-less Inv-loop μ-loop
+loop-less c = search needs
+
+loop-again : tie.Need-loop-again Inv-loop μ-loop
+loop-again c = (omega arith, formed-more (c .before .before .before .before .before .before .loop .inv .1) (c .before .before .before .before .buffer-place .ensures .value) (c .before .before .before .buffer-length .ensures .value) (c .before .is-text .ensures) (not-false _ (c .if1 .left)))
+
+returns-2 : tie.Need-returns-2 Inv-loop μ-loop
+returns-2 c = λ e. formed-all (c .before .loop .inv .1) (omega (arith, c .before .before .buffer-count .ensures .value, c .loop-test .left))
+
+pub buffers-formed-spec : {M : Type 1} → statement M
+buffers-formed-spec =
+    tie.close
+    (tie.spec
+    Inv-loop
+    μ-loop
+    next-states-requires
+    buffer-count-requires
+    loop-holds
+    buffer-place-requires
+    buffer-length-requires
+    is-text-requires
+    returns
+    add-j
+    loop-less
+    loop-again
+    returns-2)
