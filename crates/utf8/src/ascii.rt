@@ -12,7 +12,7 @@ pub(crate) const SMALL_BLOCK: usize = 16;
 
 // One of the n bytes at a place is above 7F. The loop has no way out, so that for an n that is known when it is compiled
 // the compiler looks at 16 bytes at once.
-pub(crate) fn high_among(s: &[u8], at: usize, n: usize) -> bool
+pub fn high_among(s: &[u8], at: usize, n: usize) -> bool
     requires { ⌜ at + n ≤ length (now s) ⌝ }
     ensures { λ r. ⌜ r ≡ any (high (now (s .entry))) at n ⌝ }
 {

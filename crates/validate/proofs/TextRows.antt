@@ -1,6 +1,6 @@
 -- Where the texts of a node's rows stand, and which rows are at fault.
 -- By the lower numbers offsets rise within the text, and the bytes of a view that is not null lie inside.
-use mathlib.Core.Path.{_≡_, refl, sym, ap, _∙_}
+use mathlib.Core.Path.{_≡_, refl, sym, ap, subst, _∙_}
 use mathlib.Core.Bool.{Bool, true, false, not, _&&_, _||_, and-false, false≢true}
 use mathlib.Core.List.{List}
 use Prim.Native.Nat.{ℕ, zero, suc, _+_, _*_, _-_, _<_, _≤_, _^_}
@@ -25,6 +25,7 @@ use Rattle.image.proofs.Ranges.{any-none, any-below}
 use Rattle.laws.specs.Accepted.{NoneBelow, OffsetsRise}
 use Rattle.laws.proofs.Accepted.{tables, after-14, after-17, after-18}
 use Rattle.accepted.specs.Parts.{Viewed, ViewBytes}
+use Rattle.accepted.proofs.Views.{shown-short, shown-long}
 use Rattle.utf8.specs.Ascii.{high}
 use Rattle.utf8.specs.Cuts.{Cut}
 use Rattle.utf8.proofs.Plain.{plain-part}
@@ -33,7 +34,7 @@ use Rattle.validate.specs.declared.texts.TextsAt.{TextsAt}
 use Rattle.validate.specs.declared.texts.Span.{Span}
 use Rattle.validate.specs.Numbers.{Holds}
 use Rattle.validate.specs.Views.{ViewsInside}
-use Rattle.validate.specs.Texts.{TextNode, TextsRead, TextRow, TextSpan, BuffersFormed, textStart, splits, Stretch}
+use Rattle.validate.specs.Texts.{TextNode, TextsRead, TextRow, TextSpan, EachBuffer, plainBuffer, formedBuffer, textStart, splits, Stretch}
 use Rattle.validate.proofs.Elements.{shift}
 use Rattle.validate.proofs.Lower.{text-offsets, views}
 
@@ -93,6 +94,13 @@ module _ {s : List ℕ} {k : ℕ} (t : TextNode s k) {at : TextsAt} (r : TextsRe
     unfolding textAt viewLength
     view-span b = record { text = rw (is-view, ← view-element, b .place, el); inside = b .inside }
 
+  -- a short view without a byte above 7F
+  pub plain-short : {len : ℕ} → len ≡ numberAt 4 s (at .place + i * 16) → i < lengthOf s k → valid s k i ≡ true → len ≤ 12
+      → any (high s) (at .place + i * 16) 16 ≡ false → wellFormed (textAt s k (offsetOf s k + i)) ≡ true
+  plain-short {len} el lt set short none =
+      ap wellFormed (sym (view-span el (shown-short s k (at .place + i * 16) len (viewed el lt set) short) .text))
+      ∙ plain-part s (at .place + i * 16) 16 none (at .place + i * 16 + 4) len (omega arith) (omega arith)
+
   -- a long view is a part of its data buffer
   module _ {len : ℕ} (el : len ≡ numberAt 4 s (at .place + i * 16)) (lt : i < lengthOf s k) (set : valid s k i ≡ true) (long : 12 < len) {b : ℕ} (eb : b ≡ numberAt 4 s (at .place + i * 16 + 8)) where
     data-buffer : 1 + b < bufferCount s k
@@ -105,33 +113,48 @@ module _ {s : List ℕ} {k : ℕ} (t : TextNode s k) {at : TextsAt} (r : TextsRe
     pub buffer-inside : bufferPlace s k (1 + b) + bufferLength s k (1 + b) ≤ length s
     buffer-inside = after-14 (t .below) k (t .node) (omega arith) .inside (1 + b) data-buffer
 
-    -- where the buffer is well-formed and no tail stands at either end of the text, the text is well-formed
-    pub cut-view : {p x y : ℕ} → ViewBytes s k (at .place + i * 16) len p → x ≡ bufferPlace s k (1 + b) → y ≡ bufferLength s k (1 + b) → BuffersFormed s k
-        → Cut s (x + y) p → Cut s (x + y) (p + len) → wellFormed (textAt s k (offsetOf s k + i)) ≡ true
+    within : {p : ℕ} → ViewBytes s k (at .place + i * 16) len p → (bufferPlace s k (1 + b) ≤ p) × (p + len ≤ bufferPlace s k (1 + b) + bufferLength s k (1 + b))
     unfolding viewData viewBuffer
-    cut-view {p} {x} {y} at-bytes ex ey formed start end =
+    within {p} at-bytes =
         let size : len ≡ viewLength s (at .place + i * 16) = viewed el lt set .size in
         let place : p ≡ bufferPlace s k (1 + b) + viewOffset s (at .place + i * 16) = at-bytes .place ∙ rw (← size, lt-leb len 12 long, eb) in
         let inside : viewOffset s (at .place + i * 16) + len ≤ bufferLength s k (1 + b) = rw (size, eb) (viewed el lt set .view .inside (rw (← size) long)) in
+        (omega arith, omega arith)
+
+    -- where the buffer has no byte above 7F
+    pub plain-long : EachBuffer (plainBuffer s k) (bufferCount s k) → wellFormed (textAt s k (offsetOf s k + i)) ≡ true
+    plain-long plain =
+        let at-bytes = shown-long (viewed el lt set) long refl refl refl refl in
         ap wellFormed (sym (view-span el at-bytes .text))
-        ∙ part-formed s (bufferPlace s k (1 + b)) (bufferLength s k (1 + b)) p len (omega arith) (omega arith) (rw (← ex, ← ey) start) (rw (← ex, ← ey) end) (formed .each (1 + b) (omega arith) data-buffer)
+        ∙ plain-part s (bufferPlace s k (1 + b)) (bufferLength s k (1 + b)) (plain .each (1 + b) (omega arith) data-buffer) _ len (within at-bytes .0) (within at-bytes .1)
 
--- the data buffers before number j are well-formed
-pub record FormedBefore (s : List ℕ) (k j : ℕ) : Type 0 where
-  pub each : (m : ℕ) → 1 ≤ m → m < j → wellFormed (bytesAt s (bufferPlace s k m) (bufferLength s k m)) ≡ true
+    -- where the buffer is well-formed and no tail stands at either end of the text, the text is well-formed
+    pub cut-view : {p x y : ℕ} → ViewBytes s k (at .place + i * 16) len p → x ≡ bufferPlace s k (1 + b) → y ≡ bufferLength s k (1 + b) → EachBuffer (formedBuffer s k) (bufferCount s k)
+        → Cut s (x + y) p → Cut s (x + y) (p + len) → wellFormed (textAt s k (offsetOf s k + i)) ≡ true
+    cut-view at-bytes ex ey formed start end =
+        ap wellFormed (sym (view-span el at-bytes .text))
+        ∙ part-formed s (bufferPlace s k (1 + b)) (bufferLength s k (1 + b)) _ len (within at-bytes .0) (within at-bytes .1) (rw (← ex, ← ey) start) (rw (← ex, ← ey) end)
+        (formed .each (1 + b) (omega arith) data-buffer)
 
-pub formed-none : (s : List ℕ) (k : ℕ) → FormedBefore s k 1
-formed-none s k = record { each = λ m low lt. absurd (omega arith) }
+-- data buffers one after the other
+pub buffer-none : (P : ℕ → Type 0) → EachBuffer P 1
+buffer-none P = record { each = λ m low lt. absurd (omega arith) }
 
-pub formed-more : {s : List ℕ} {k j p n : ℕ} {b : Bool} → FormedBefore s k j → p ≡ bufferPlace s k j → n ≡ bufferLength s k j → b ≡ wellFormed (bytesAt s p n) → b ≡ true → FormedBefore s k (j + 1)
-formed-more {s} {k} {j} f ep en eb is = record { each = λ m low lt. cases m low (eq-or-lt-of-le {n = m} {m = j} (omega arith)) }
+pub buffer-more : {P : ℕ → Type 0} {j : ℕ} → EachBuffer P j → P j → EachBuffer P (j + 1)
+buffer-more {P} {j} f here = record { each = λ m low lt. cases m low (eq-or-lt-of-le {n = m} {m = j} (omega arith)) }
   where
-    cases : (m : ℕ) → 1 ≤ m → (m ≡ j) ⊎ (m < j) → wellFormed (bytesAt s (bufferPlace s k m) (bufferLength s k m)) ≡ true
-    cases m low (inl e) = rw (e, ← ep, ← en) (sym eb ∙ is)
+    cases : (m : ℕ) → 1 ≤ m → (m ≡ j) ⊎ (m < j) → P m
+    cases m low (inl e) = subst P (sym e) here
     cases m low (inr before) = f .each m low before
 
-pub formed-all : {s : List ℕ} {k j : ℕ} → FormedBefore s k j → bufferCount s k ≤ j → BuffersFormed s k
-formed-all f le = record { each = λ m low lt. f .each m low (omega arith) }
+pub buffer-all : {P : ℕ → Type 0} {n j : ℕ} → EachBuffer P j → n ≤ j → EachBuffer P n
+buffer-all f le = record { each = λ m low lt. f .each m low (omega arith) }
+
+pub plain-here : (s : List ℕ) (k j : ℕ) {p n : ℕ} {b : Bool} → p ≡ bufferPlace s k j → n ≡ bufferLength s k j → b ≡ any (high s) p n → b ≡ false → plainBuffer s k j
+plain-here s k j ep en eb is = rw (← ep, ← en) (sym eb ∙ is)
+
+pub formed-here : (s : List ℕ) (k j : ℕ) {p n : ℕ} {b : Bool} → p ≡ bufferPlace s k j → n ≡ bufferLength s k j → b ≡ wellFormed (bytesAt s p n) → b ≡ true → formedBuffer s k j
+formed-here s k j ep en eb is = rw (← ep, ← en) (sym eb ∙ is)
 
 -- a buffer of the node lies inside
 pub data-inside : {s : List ℕ} {k j p n : ℕ} → TextNode s k → j < bufferCount s k → p ≡ bufferPlace s k j → n ≡ bufferLength s k j → p + n ≤ length s

@@ -15,6 +15,7 @@ use image::record::length;
 use image::record::offset;
 use image::type_code::TypeCode;
 use utf8::ascii::has_high;
+use utf8::ascii::high_among;
 use utf8::is_text;
 use utf8::parts::is_tail;
 use utf8::table::next_states;
@@ -24,12 +25,12 @@ ghost use mathlib.Core.Bool.{true, false};
 ghost use Prim.Native.Nat.{_+_, _<_, _≤_};
 ghost use lib.ListN.{length};
 ghost use Rattle.image.specs.Ranges.{any};
-ghost use Rattle.image.specs.Record.{nodeCount, lengthOf, offsetOf};
+ghost use Rattle.image.specs.Record.{nodeCount, lengthOf, offsetOf, bufferCount};
 ghost use Rattle.image.specs.Element.{textAt};
 ghost use Rattle.image.specs.Faults.{fault19, textRowFault};
 ghost use Rattle.image.specs.Utf8.{wellFormed, nextStates};
 ghost use Rattle.laws.specs.Accepted.{NoneBelow};
-ghost use Rattle.validate.specs.Texts.{TextNode, TextsRead, TextRow, TextSpan, BuffersFormed, WholeBuffers, Stretch, splits};
+ghost use Rattle.validate.specs.Texts.{TextNode, TextsRead, TextRow, TextSpan, EachBuffer, plainBuffer, formedBuffer, Found, Stretch, splits};
 
 // Where the texts of a node's rows stand, for a loop that asks for many rows: whether they are views, where the view or the
 // offset of row 0 stands, how wide it is, and where the text starts that offsets count in.
@@ -38,6 +39,13 @@ pub struct TextsAt {
     pub place: usize,
     pub width: usize,
     pub text: usize,
+}
+
+// What was found of the data buffers of views: none has a byte above 7F; each is well-formed, as one text. Of other texts
+// neither is said.
+pub struct Buffers {
+    pub plain: bool,
+    pub formed: bool,
 }
 
 // Where a text stands.
@@ -81,11 +89,23 @@ fn text_of(image: &[u8], node: u32, at: TextsAt, i: usize) -> Span
     }
 }
 
+// The view of row i has no byte above 7F, nor has its data buffer where it is a long one.
+fn is_plain(image: &[u8], node: u32, at: TextsAt, found: Buffers, i: usize) -> bool
+    requires { ⌜ TextRow (now image) node at i × (at .views ≡ true) × Found (now image) node at found ⌝ }
+    ensures { λ r. ⌜ (r ≡ true → wellFormed (textAt (now (image .entry)) node (offsetOf (now (image .entry)) node + i)) ≡ true) ⌝ }
+{
+    let view = at.place + i * VIEW_SIZE;
+    if quad(image, view) <= INLINE_LENGTH {
+        return !high_among(image, view, VIEW_SIZE);
+    }
+    found.plain
+}
+
 // The text of row i, a view, is cut out of its data buffer where no tail stands: it is well-formed where the buffer is, as
 // one text. A short view's text stands in no buffer.
 fn cut_well(image: &[u8], node: u32, at: TextsAt, i: usize) -> bool
     requires { ⌜ TextRow (now image) node at i × (at .views ≡ true) ⌝ }
-    ensures { λ r. ⌜ (r ≡ true → BuffersFormed (now (image .entry)) node → wellFormed (textAt (now (image .entry)) node (offsetOf (now (image .entry)) node + i)) ≡ true) ⌝ }
+    ensures { λ r. ⌜ (r ≡ true → EachBuffer (formedBuffer (now (image .entry)) node) (bufferCount (now (image .entry)) node) → wellFormed (textAt (now (image .entry)) node (offsetOf (now (image .entry)) node + i)) ≡ true) ⌝ }
 {
     let view = at.place + i * VIEW_SIZE;
     let len = quad(image, view);
@@ -104,20 +124,24 @@ fn cut_well(image: &[u8], node: u32, at: TextsAt, i: usize) -> bool
     true
 }
 
-// The text of row i, which is not null, is well-formed. `whole` is said only of views, and only where their data buffers are
-// well-formed, each as one text.
+// The text of row i, which is not null, is well-formed.
 fn is_formed(
     table: &[u8; 2304],
     image: &[u8],
     node: u32,
     at: TextsAt,
-    whole: bool,
+    found: Buffers,
     i: usize,
 ) -> bool
-    requires { ⌜ TextRow (now image) node at i × (now table ≡ nextStates) × (whole ≡ true → WholeBuffers (now image) node at) ⌝ }
+    requires { ⌜ TextRow (now image) node at i × (now table ≡ nextStates) × Found (now image) node at found ⌝ }
     ensures { λ r. ⌜ r ≡ wellFormed (textAt (now (image .entry)) node (offsetOf (now (image .entry)) node + i)) ⌝ }
 {
-    if whole {
+    if at.views {
+        if is_plain(image, node, at, found, i) {
+            return true;
+        }
+    }
+    if found.formed {
         if cut_well(image, node, at, i) {
             return true;
         }
@@ -127,8 +151,8 @@ fn is_formed(
 }
 
 // A row that is not null has an ill-formed text.
-fn rows_fault(image: &[u8], node: u32, at: TextsAt, whole: bool) -> bool
-    requires { ⌜ TextNode (now image) node × TextsRead (now image) node at × (whole ≡ true → WholeBuffers (now image) node at) ⌝ }
+fn rows_fault(image: &[u8], node: u32, at: TextsAt, found: Buffers) -> bool
+    requires { ⌜ TextNode (now image) node × TextsRead (now image) node at × Found (now image) node at found ⌝ }
     ensures { λ r. ⌜ r ≡ any (textRowFault (now (image .entry)) node) 0 (lengthOf (now (image .entry)) node) ⌝ }
 {
     let table = next_states();
@@ -137,7 +161,7 @@ fn rows_fault(image: &[u8], node: u32, at: TextsAt, whole: bool) -> bool
     let mut i: usize = 0;
     while i < rows {
         if is_kept(image, node, mask, i) {
-            if !is_formed(&table, image, node, at, whole, i) {
+            if !is_formed(&table, image, node, at, found, i) {
                 return true;
             }
         }
@@ -209,10 +233,28 @@ fn bytes_shared(image: &[u8], node: u32, at: TextsAt) -> bool
     image.len() < sum
 }
 
+// The data buffers of views have no byte above 7F.
+fn buffers_plain(image: &[u8], node: u32) -> bool
+    requires { ⌜ TextNode (now image) node ⌝ }
+    ensures { λ r. ⌜ (r ≡ true → EachBuffer (plainBuffer (now (image .entry)) node) (bufferCount (now (image .entry)) node)) ⌝ }
+{
+    let count = buffer_count(image, node);
+    let mut j: u32 = 1;
+    while j < count {
+        let place = buffer_place(image, node, j);
+        let len = buffer_length(image, node, j);
+        if has_high(image, place, len) {
+            return false;
+        }
+        j += 1;
+    }
+    true
+}
+
 // The data buffers of views are well-formed, each as one text.
 fn buffers_formed(image: &[u8], node: u32) -> bool
     requires { ⌜ TextNode (now image) node ⌝ }
-    ensures { λ r. ⌜ (r ≡ true → BuffersFormed (now (image .entry)) node) ⌝ }
+    ensures { λ r. ⌜ (r ≡ true → EachBuffer (formedBuffer (now (image .entry)) node) (bufferCount (now (image .entry)) node)) ⌝ }
 {
     let table = next_states();
     let count = buffer_count(image, node);
@@ -228,16 +270,23 @@ fn buffers_formed(image: &[u8], node: u32) -> bool
     true
 }
 
-// A view that is not null has an ill-formed text. Views that share their bytes are cut out of buffers that were walked once,
-// so that the cost does not grow with how often a byte is shared.
-fn views_fault(image: &[u8], node: u32, at: TextsAt) -> bool
+// What can be said of the data buffers of views. That they are well-formed is looked at only where views share their bytes:
+// then each is walked once, and no longer for each view.
+fn buffers_of(image: &[u8], node: u32, at: TextsAt) -> Buffers
     requires { ⌜ TextNode (now image) node × TextsRead (now image) node at × (at .views ≡ true) ⌝ }
-    ensures { λ r. ⌜ r ≡ any (textRowFault (now (image .entry)) node) 0 (lengthOf (now (image .entry)) node) ⌝ }
+    ensures { λ r. ⌜ Found (now (image .entry)) node at r ⌝ }
 {
+    let plain = buffers_plain(image, node);
     if bytes_shared(image, node, at) {
-        return rows_fault(image, node, at, buffers_formed(image, node));
+        return Buffers {
+            plain: plain,
+            formed: buffers_formed(image, node),
+        };
     }
-    rows_fault(image, node, at, false)
+    Buffers {
+        plain: plain,
+        formed: false,
+    }
 }
 
 // The node has fault 19.
@@ -250,10 +299,18 @@ pub fn fault_19(image: &[u8], node: u32) -> bool
     }
     let at = texts_of(image, node);
     if at.views {
-        return views_fault(image, node, at);
+        return rows_fault(image, node, at, buffers_of(image, node, at));
     }
     if formed_together(image, node, at) {
         return false;
     }
-    rows_fault(image, node, at, false)
+    rows_fault(
+        image,
+        node,
+        at,
+        Buffers {
+            plain: false,
+            formed: false,
+        },
+    )
 }

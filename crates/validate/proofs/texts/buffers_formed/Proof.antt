@@ -1,8 +1,9 @@
 -- Where `buffers_formed` says yes, every data buffer is well-formed.
--- The loop keeps that those before number j are.
+-- The loop keeps that each before number j is.
 use mathlib.Core.Bool.{false≢true}
 use borrow.Author.Tests.{not-false}
-use Rattle.validate.proofs.TextRows.{FormedBefore, formed-none, formed-more, formed-all, data-inside}
+use Rattle.validate.specs.Texts.{EachBuffer, formedBuffer}
+use Rattle.validate.proofs.TextRows.{buffer-none, buffer-more, buffer-all, formed-here, data-inside}
 use Prim.Native.Nat.{ℕ, _+_, _-_, _*_, _<_, _≤_}
 use lib.ListN.{length, getD}
 use native.Mathlib.Omega.{arith}
@@ -11,7 +12,7 @@ use Rattle.validate.proofs.texts.buffers_formed.Statement.{statement}
 use Rattle.validate.proofs.texts.buffers_formed.Tie as tie
 
 abbrev Inv-loop : tie.InvT-loop
-Inv-loop image node table count j₀ j = (1 ≤ j) × FormedBefore image node j
+Inv-loop image node table count j₀ j = (1 ≤ j) × EachBuffer (formedBuffer image node) j
 
 abbrev μ-loop : tie.MeasureT-loop
 μ-loop image node table count j₀ j = count - j
@@ -23,7 +24,7 @@ buffer-count-requires : tie.Need-buffer-count-requires Inv-loop μ-loop
 buffer-count-requires c κs = search needs
 
 loop-holds : tie.Need-loop-holds Inv-loop μ-loop
-loop-holds c = (omega arith, formed-none _ _)
+loop-holds c = (omega arith, buffer-none _)
 
 buffer-place-requires : tie.Need-buffer-place-requires Inv-loop μ-loop
 buffer-place-requires c κs = search needs
@@ -44,10 +45,10 @@ loop-less : tie.Need-loop-less Inv-loop μ-loop
 loop-less c = search needs
 
 loop-again : tie.Need-loop-again Inv-loop μ-loop
-loop-again c = (omega arith, formed-more (c .before .before .before .before .before .before .loop .inv .1) (c .before .before .before .before .buffer-place .ensures .value) (c .before .before .before .buffer-length .ensures .value) (c .before .is-text .ensures) (not-false _ (c .if1 .left)))
+loop-again c = (omega arith, buffer-more (c .before .before .before .before .before .before .loop .inv .1) (formed-here _ _ _ (c .before .before .before .before .buffer-place .ensures .value) (c .before .before .before .buffer-length .ensures .value) (c .before .is-text .ensures) (not-false _ (c .if1 .left))))
 
 returns-2 : tie.Need-returns-2 Inv-loop μ-loop
-returns-2 c = λ e. formed-all (c .before .loop .inv .1) (omega (arith, c .before .before .buffer-count .ensures .value, c .loop-test .left))
+returns-2 c = λ e. buffer-all (c .before .loop .inv .1) (omega (arith, c .before .before .buffer-count .ensures .value, c .loop-test .left))
 
 pub buffers-formed-spec : {M : Type 1} → statement M
 buffers-formed-spec =

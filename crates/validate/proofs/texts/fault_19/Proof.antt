@@ -21,11 +21,14 @@ returns c = no-text _ _ (c .before .before .code .ensures .value) (c .before .is
 texts-of-requires : tie.Need-texts-of-requires
 texts-of-requires c κs = text-node _ _ (c .before .before .code .ensures .value) (c .before .is-text .ensures) (c .before .before .before .before .pre .0) (c .before .before .before .before .pre .1) (not-false _ (c .if1 .left))
 
-views-fault-requires : tie.Need-views-fault-requires
-views-fault-requires c κs = ((text-node _ _ (c .before .before .before .before .code .ensures .value) (c .before .before .before .is-text .ensures) (c .before .before .before .before .before .before .pre .0) (c .before .before .before .before .before .before .pre .1) (not-false _ (c .before .before .if1 .left))), c .before .texts-of .ensures, c .if2 .taken)
+buffers-of-requires : tie.Need-buffers-of-requires
+buffers-of-requires c κs = ((text-node _ _ (c .before .before .before .before .code .ensures .value) (c .before .before .before .is-text .ensures) (c .before .before .before .before .before .before .pre .0) (c .before .before .before .before .before .before .pre .1) (not-false _ (c .before .before .if1 .left))), c .before .texts-of .ensures, c .if2 .taken)
+
+rows-fault-requires : tie.Need-rows-fault-requires
+rows-fault-requires c κs = ((text-node _ _ (c .before .before .before .before .before .code .ensures .value) (c .before .before .before .before .is-text .ensures) (c .before .before .before .before .before .before .before .pre .0) (c .before .before .before .before .before .before .before .pre .1) (not-false _ (c .before .before .before .if1 .left))), c .before .before .texts-of .ensures, c .buffers-of .ensures)
 
 returns-2 : tie.Need-returns-2
-returns-2 c = text-fault (text-node _ _ (c .before .before .before .before .before .code .ensures .value) (c .before .before .before .before .is-text .ensures) (c .before .before .before .before .before .before .before .pre .0) (c .before .before .before .before .before .before .before .pre .1) (not-false _ (c .before .before .before .if1 .left))) (c .views-fault .ensures)
+returns-2 c = text-fault (text-node _ _ (c .before .before .before .before .before .before .code .ensures .value) (c .before .before .before .before .before .is-text .ensures) (c .before .before .before .before .before .before .before .before .pre .0) (c .before .before .before .before .before .before .before .before .pre .1) (not-false _ (c .before .before .before .before .if1 .left))) (c .rows-fault .ensures)
 
 formed-together-requires : tie.Need-formed-together-requires
 formed-together-requires c κs = ((text-node _ _ (c .before .before .before .before .code .ensures .value) (c .before .before .before .is-text .ensures) (c .before .before .before .before .before .before .pre .0) (c .before .before .before .before .before .before .pre .1) (not-false _ (c .before .before .if1 .left))), c .before .texts-of .ensures, c .if2 .left)
@@ -33,11 +36,11 @@ formed-together-requires c κs = ((text-node _ _ (c .before .before .before .bef
 returns-3 : tie.Need-returns-3
 returns-3 c = text-fault (text-node _ _ (c .before .before .before .before .before .before .code .ensures .value) (c .before .before .before .before .before .is-text .ensures) (c .before .before .before .before .before .before .before .before .pre .0) (c .before .before .before .before .before .before .before .before .pre .1) (not-false _ (c .before .before .before .before .if1 .left))) (sym (c .before .formed-together .ensures (c .if3 .taken)))
 
-rows-fault-requires : tie.Need-rows-fault-requires
-rows-fault-requires c κs = ((text-node _ _ (c .before .before .before .before .before .before .code .ensures .value) (c .before .before .before .before .before .is-text .ensures) (c .before .before .before .before .before .before .before .before .pre .0) (c .before .before .before .before .before .before .before .before .pre .1) (not-false _ (c .before .before .before .before .if1 .left))), c .before .before .before .texts-of .ensures, λ e. absurd (false≢true e))
+rows-fault-requires-2 : tie.Need-rows-fault-requires-2
+rows-fault-requires-2 c κs = ((text-node _ _ (c .before .before .before .before .before .before .code .ensures .value) (c .before .before .before .before .before .is-text .ensures) (c .before .before .before .before .before .before .before .before .pre .0) (c .before .before .before .before .before .before .before .before .pre .1) (not-false _ (c .before .before .before .before .if1 .left))), c .before .before .before .texts-of .ensures, record { plain = λ e. absurd (false≢true e); formed = λ e. absurd (false≢true e); views = λ e. absurd (false≢true e) })
 
 returns-4 : tie.Need-returns-4
-returns-4 c = text-fault (text-node _ _ (c .before .before .before .before .before .before .before .code .ensures .value) (c .before .before .before .before .before .before .is-text .ensures) (c .before .before .before .before .before .before .before .before .before .pre .0) (c .before .before .before .before .before .before .before .before .before .pre .1) (not-false _ (c .before .before .before .before .before .if1 .left))) (c .rows-fault .ensures)
+returns-4 c = text-fault (text-node _ _ (c .before .before .before .before .before .before .before .code .ensures .value) (c .before .before .before .before .before .before .is-text .ensures) (c .before .before .before .before .before .before .before .before .before .pre .0) (c .before .before .before .before .before .before .before .before .before .pre .1) (not-false _ (c .before .before .before .before .before .if1 .left))) (c .rows-fault2 .ensures)
 
 pub fault-19-spec : {M : Type 1} → statement M
 fault-19-spec =
@@ -47,9 +50,10 @@ fault-19-spec =
     is-text-requires
     returns
     texts-of-requires
-    views-fault-requires
+    buffers-of-requires
+    rows-fault-requires
     returns-2
     formed-together-requires
     returns-3
-    rows-fault-requires
+    rows-fault-requires-2
     returns-4)

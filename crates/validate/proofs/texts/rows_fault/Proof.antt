@@ -14,10 +14,10 @@ use Rattle.validate.proofs.texts.rows_fault.Statement.{statement}
 use Rattle.validate.proofs.texts.rows_fault.Tie as tie
 
 abbrev Inv-loop : tie.InvT-loop
-Inv-loop image node at whole table rows mask i₀ i = Rest (any (textRowFault image node)) 0 rows i
+Inv-loop image node at found table rows mask i₀ i = Rest (any (textRowFault image node)) 0 rows i
 
 abbrev μ-loop : tie.MeasureT-loop
-μ-loop image node at whole table rows mask i₀ i = rows - i
+μ-loop image node at found table rows mask i₀ i = rows - i
 
 next-states-requires : tie.Need-next-states-requires Inv-loop μ-loop
 next-states-requires c κs = search needs
