@@ -34,7 +34,7 @@ use Rattle.validate.specs.declared.texts.TextsAt.{TextsAt}
 use Rattle.validate.specs.declared.texts.Span.{Span}
 use Rattle.validate.specs.Numbers.{Holds}
 use Rattle.validate.specs.Views.{ViewsInside}
-use Rattle.validate.specs.Texts.{TextNode, TextsRead, TextRow, TextSpan, EachBuffer, plainBuffer, formedBuffer, textStart, splits, Stretch}
+use Rattle.validate.specs.Texts.{TextNode, TextsRead, TextSpan, EachBuffer, plainBuffer, formedBuffer, textStart, splits, Stretch}
 use Rattle.validate.proofs.Elements.{shift}
 use Rattle.validate.proofs.Lower.{text-offsets, views}
 

@@ -2,7 +2,7 @@
 use mathlib.Core.Path.{_≡_}
 use mathlib.Core.Bool.{Bool, true, false, _&&_}
 use mathlib.Core.List.{List}
-use Prim.Native.Nat.{ℕ, _+_, _*_, _<_, _≤_, _^_}
+use Prim.Native.Nat.{ℕ, _+_, _*_, _<_, _≤_}
 use lib.Dec.{eqb, ltb}
 use lib.ListN.{length}
 use Rattle.image.specs.Ranges.{any}
@@ -29,7 +29,6 @@ pub record TextsRead (s : List ℕ) (k : ℕ) (r : TextsAt) : Type 0 where
   pub width : r .width ≡ elementWidth s k
   pub place : r .place ≡ bufferPlace s k 0 + offsetOf s k * r .width
   pub text : r .text ≡ bufferPlace s k 1
-  pub near : r .text < 2 ^ 32
 
 -- a row of it that is not null
 pub record TextRow (s : List ℕ) (k : ℕ) (r : TextsAt) (i : ℕ) : Type 0 where

@@ -89,7 +89,7 @@ fn text_of(image: &[u8], node: u32, at: TextsAt, i: usize) -> Span
     }
 }
 
-// The view of row i has no byte above 7F, nor has its data buffer where it is a long one.
+// The view of row i is a short one without a byte above 7F, or a long one, where no data buffer has such a byte.
 fn is_plain(image: &[u8], node: u32, at: TextsAt, found: Buffers, i: usize) -> bool
     requires { ⌜ TextRow (now image) node at i × (at .views ≡ true) × Found (now image) node at found ⌝ }
     ensures { λ r. ⌜ (r ≡ true → wellFormed (textAt (now (image .entry)) node (offsetOf (now (image .entry)) node + i)) ≡ true) ⌝ }

@@ -5,8 +5,7 @@ use Rattle.image.specs.Ranges.{any}
 use Rattle.image.proofs.Loops.{Rest, rest-none, any-jump, jump-found}
 use Rattle.utf8.specs.Ascii.{high}
 use Rattle.utf8.proofs.Ends.{rest-last}
-use Prim.Native.Nat.{ℕ, _+_, _-_, _*_, _<_, _≤_}
-use lib.ListN.{length, getD}
+use Prim.Native.Nat.{_-_}
 use native.Mathlib.Omega.{arith}
 use borrow.Author.Needs.{needs}
 use Rattle.utf8.proofs.ascii.has_high.Statement.{statement}

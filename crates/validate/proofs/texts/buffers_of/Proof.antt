@@ -1,8 +1,6 @@
 -- What is said of the data buffers is so.
 -- Each is what its callee says; where one is not asked, nothing is said.
 use mathlib.Core.Bool.{false≢true}
-use native.Mathlib.Omega.{arith}
-use borrow.Author.Needs.{needs}
 use Rattle.validate.proofs.texts.buffers_of.Statement.{statement}
 use Rattle.validate.proofs.texts.buffers_of.Tie as tie
 

@@ -3,8 +3,7 @@
 use mathlib.Core.Bool.{false≢true}
 use Rattle.validate.specs.Texts.{EachBuffer, plainBuffer}
 use Rattle.validate.proofs.TextRows.{buffer-none, buffer-more, buffer-all, plain-here, data-inside}
-use Prim.Native.Nat.{ℕ, _+_, _-_, _*_, _<_, _≤_}
-use lib.ListN.{length, getD}
+use Prim.Native.Nat.{_-_, _≤_}
 use native.Mathlib.Omega.{arith}
 use borrow.Author.Needs.{needs}
 use Rattle.validate.proofs.texts.buffers_plain.Statement.{statement}

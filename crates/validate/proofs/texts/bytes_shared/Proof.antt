@@ -1,8 +1,8 @@
 -- The lengths of the views are added up, and the sum fits.
 -- The loop keeps that the sum is below 2 ^ 32 for each view.
 use Rattle.validate.proofs.TextRows.{small-image, few-rows, view-fits}
-use Prim.Native.Nat.{ℕ, _+_, _-_, _*_, _<_, _≤_}
-use lib.ListN.{length, getD}
+use Prim.Native.Nat.{_-_, _*_, _≤_}
+use lib.ListN.{length}
 use native.Mathlib.Omega.{arith}
 use borrow.Author.Needs.{needs}
 use Rattle.validate.proofs.texts.bytes_shared.Statement.{statement}

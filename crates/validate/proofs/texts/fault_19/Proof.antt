@@ -4,7 +4,6 @@ use mathlib.Core.Path.{sym}
 use mathlib.Core.Bool.{false≢true}
 use borrow.Author.Tests.{not-true, not-false}
 use Rattle.validate.proofs.TextRows.{no-text, text-node, text-fault}
-use native.Mathlib.Omega.{arith}
 use borrow.Author.Needs.{needs}
 use Rattle.validate.proofs.texts.fault_19.Statement.{statement}
 use Rattle.validate.proofs.texts.fault_19.Tie as tie

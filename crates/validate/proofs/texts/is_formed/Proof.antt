@@ -2,8 +2,6 @@
 -- A view without a byte above 7F is, and one that is cut well out of a well-formed buffer; else the text's bytes are looked at.
 use mathlib.Core.Path.{ap, sym, _∙_}
 use Rattle.image.specs.Utf8.{wellFormed}
-use native.Mathlib.Omega.{arith}
-use borrow.Author.Needs.{needs}
 use Rattle.validate.proofs.texts.is_formed.Statement.{statement}
 use Rattle.validate.proofs.texts.is_formed.Tie as tie
 

@@ -4,7 +4,6 @@ use mathlib.Core.Path.{refl, sym, _∙_}
 use borrow.Author.Tests.{not-true}
 use Rattle.validate.proofs.TextRows.{small-image, view-fits, plain-short, plain-long}
 use native.Mathlib.Omega.{arith}
-use borrow.Author.Needs.{needs}
 use Rattle.validate.proofs.texts.is_plain.Statement.{statement}
 use Rattle.validate.proofs.texts.is_plain.Tie as tie
 

@@ -6,8 +6,8 @@ use Rattle.image.specs.Ranges.{any}
 use Rattle.image.proofs.Loops.{Rest, rest-none, any-more, any-found, any-done}
 use Rattle.validate.specs.Texts.{splits}
 use Rattle.validate.proofs.TextRows.{small-image, offset-inside, starts-inside, start-read, split, not-split}
-use Prim.Native.Nat.{ℕ, _+_, _-_, _*_, _<_, _≤_}
-use lib.ListN.{length, getD}
+use Prim.Native.Nat.{_-_}
+use lib.ListN.{length}
 use native.Mathlib.Omega.{arith}
 use borrow.Author.Needs.{needs}
 use Rattle.validate.proofs.texts.letter_split.Statement.{statement}

@@ -6,8 +6,8 @@ use Rattle.image.specs.Ranges.{any}
 use Rattle.image.specs.Faults.{textRowFault}
 use Rattle.image.proofs.Loops.{Rest, rest-none, any-more, any-found, any-done}
 use Rattle.validate.proofs.TextRows.{text-row, null-row}
-use Prim.Native.Nat.{ℕ, _+_, _-_, _*_, _<_, _≤_}
-use lib.ListN.{length, getD}
+use Prim.Native.Nat.{_-_}
+use lib.ListN.{length}
 use native.Mathlib.Omega.{arith}
 use borrow.Author.Needs.{needs}
 use Rattle.validate.proofs.texts.rows_fault.Statement.{statement}

@@ -3,7 +3,6 @@
 use Prim.Native.Nat.{_+_}
 use Rattle.validate.proofs.TextRows.{small-image, few-rows, view-fits, viewed, view-span, offset-inside, starts-apart, offset-span}
 use native.Mathlib.Omega.{arith}
-use borrow.Author.Needs.{needs}
 use Rattle.validate.proofs.texts.text_of.Statement.{statement}
 use Rattle.validate.proofs.texts.text_of.Tie as tie
 

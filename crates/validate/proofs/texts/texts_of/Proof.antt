@@ -28,7 +28,7 @@ buffer-place-requires-2 : tie.Need-buffer-place-requires-2
 buffer-place-requires-2 c κs = search needs
 
 returns : tie.Need-returns
-returns c = record { views = rw (c .before .before .before .code .ensures .value); width = c .before .before .before .before .element-width .ensures; place = rw (c .before .before .buffer-place .ensures .value, c .before .offset .ensures .value); text = c .buffer-place2 .ensures .value; near = c .buffer-place2 .ensures .small }
+returns c = record { views = rw (c .before .before .before .code .ensures .value); width = c .before .before .before .before .element-width .ensures; place = rw (c .before .before .buffer-place .ensures .value, c .before .offset .ensures .value); text = c .buffer-place2 .ensures .value }
 
 pub texts-of-spec : {M : Type 1} → statement M
 texts-of-spec =
