@@ -4,8 +4,10 @@ use image::element::run_end;
 use image::record::first_child;
 use image::record::length;
 ghost use mathlib.Core.Path.{_≡_};
+ghost use Prim.Native.Nat.{_<_, _^_};
 ghost use Rattle.image.specs.Element.{runAt};
 ghost use Rattle.accepted.specs.Parts.{RunPart};
+ghost use Rattle.accepted.specs.Runs.{nextRun};
 
 // The run that holds element j: the first whose end lies above it, found by bisection.
 pub fn run_of(s: &[u8], node: u32, j: usize) -> usize
@@ -24,4 +26,12 @@ pub fn run_of(s: &[u8], node: u32, j: usize) -> usize
         }
     }
     low
+}
+
+// The run that holds the element after j, from the run of j and its end.
+pub fn next_run(j: usize, run: usize, end: usize) -> usize
+    requires { ⌜ (j < 2 ^ 34) × (run < 2 ^ 33) ⌝ }
+    ensures { λ r. ⌜ r ≡ nextRun j run end ⌝ }
+{
+    if j + 1 < end { run } else { run + 1 }
 }

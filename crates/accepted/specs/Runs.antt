@@ -1,0 +1,34 @@
+-- The run that is kept beside an element, for rows that are asked one after another.
+use mathlib.Core.Path.{_≡_}
+use mathlib.Core.Bool.{Bool, true, cond}
+use mathlib.Core.List.{List}
+use Prim.Native.Nat.{ℕ, _+_}
+use lib.Dec.{eqb, ltb}
+use Rattle.image.specs.Record.{codeOf, offsetOf}
+use Rattle.image.specs.Element.{runAt}
+use Rattle.image.specs.Reads.{Read, Ends}
+use Rattle.accepted.specs.declared.column.Column.{Column}
+
+-- From element j to the next: the run stays while that one lies below the run's end, else it is the next. Nothing of an
+-- image is asked but that end.
+unfoldable pub nextRun : ℕ → ℕ → ℕ → ℕ
+nextRun j run end = cond (ltb (j + 1) end) run (run + 1)
+
+-- the rows of node k are in runs
+unfoldable pub inRuns : List ℕ → ℕ → Bool
+inRuns s k = eqb (codeOf s k) 43
+
+-- the run that is kept at element j of node k: the one that holds it; where the rows are not in runs, each element is one
+unfoldable pub keptRun : List ℕ → ℕ → ℕ → ℕ
+keptRun s k j = cond (inRuns s k) (runAt s k j) j
+
+-- what is read once of node k
+pub record ColumnRead (s : List ℕ) (k : ℕ) (c : Column) : Type 0 where
+  pub runs : c .runs ≡ inRuns s k
+  pub offset : Read (offsetOf s k) 32 (c .offset)
+  pub ends : c .runs ≡ true → Ends s k (c .ends)
+
+-- row i of the node, beside which a run is kept
+pub record Kept (s : List ℕ) (k : ℕ) (c : Column) (i run : ℕ) : Type 0 where
+  pub column : ColumnRead s k c
+  pub same : run ≡ keptRun s k (c .offset + i)
