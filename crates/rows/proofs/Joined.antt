@@ -35,6 +35,14 @@ module _ (p : ℕ → List ℕ) (i n : ℕ) where
       let b : n - k ≡ 0 = omega arith in
       rw b
 
+-- the first piece, and the rest
+pub joined-first : (p : ℕ → List ℕ) (i n : ℕ) → (n ≡ 0 → ⊥) → joined p i n ≡ p i ++ joined p (i + 1) (n - 1)
+unfolding joined
+joined-first p i n some =
+    let a : i + 1 ≡ suc i = omega arith in
+    let b : n ≡ suc (n - 1) = omega arith in
+    ap (joined p i) b ∙ rw a
+
 -- each kind of bytes as pieces
 pub rows-joined : (g : ℕ → Row) (i n : ℕ) → rowsBytes (range g i n) ≡ joined (λ j. rowBytes (g j)) i n
 unfolding joined rowsBytes range

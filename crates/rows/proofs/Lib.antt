@@ -2,5 +2,6 @@ pub mod Joined
 pub mod Over
 pub mod Rooms
 pub mod RowParts
+pub mod Stretches
 pub mod ValuePlaces
 pub mod ValueRows

@@ -2,10 +2,10 @@
 -- A piece that is put first leaves the rest for the place after it; nothing is left in the end.
 use mathlib.Core.Path.{_≡_, refl, sym, ap, _∙_}
 use mathlib.Core.List.{List, [], _∷_, _++_, append-assoc}
-use Prim.Native.Nat.{ℕ, suc, _+_, _-_, _/_, _%_, _≤_, _<_}
+use Prim.Native.Nat.{ℕ, zero, suc, _+_, _-_, _/_, _%_, _≤_, _<_}
 use native.Mathlib.Omega.{arith}
-use lib.ListN.{length, take, drop, set, length-append, length-drop, take-append-drop}
-use lib.Seq.{length-take-le, take-at, drop-at, drop-drop, set-split}
+use lib.ListN.{length, take, drop, set, length-append, length-drop, take-append-drop, List·getD-append}
+use lib.Seq.{length-take-le, take-at, drop-at, drop-cons, drop-drop, take-append-seam, getD-take, set-split}
 use Rattle.image.specs.Bytes.{byteAt, numberBytes, bytesAt}
 use Rattle.image.specs.Row.{rowAt}
 use Rattle.image.specs.RowBytes.{rowBytes}
@@ -28,6 +28,12 @@ unfolding over
 over-one out at x lt =
     let e : at + 1 ≡ suc at = omega arith in
     rw e (set-split out at x lt)
+
+-- bytes from a place on, as a part of the list
+bytes-taken : (n i : ℕ) (s : List ℕ) → i + n ≤ length s → bytesAt s i n ≡ take n (drop i s)
+unfolding bytesAt
+bytes-taken zero i s fits = refl
+bytes-taken (suc n) i s fits = rw (drop-cons s i 0 (omega arith)) (ap (λ (b : List ℕ). byteAt s i ∷ b) (bytes-taken n (suc i) s (omega arith)))
 
 module _ (out : List ℕ) (at : ℕ) (x : List ℕ) (fits : at + length x ≤ length out) where
   front-length : length (take at out ++ x) ≡ at + length x
@@ -61,6 +67,22 @@ module _ (out : List ℕ) (at : ℕ) (x : List ℕ) (fits : at + length x ≤ le
       ap (λ (f : List ℕ). f ++ (y ++ drop (end + length y) (over out at x))) front
       ∙ append-assoc before x (y ++ drop (end + length y) (over out at x))
       ∙ ap (λ (r : List ℕ). before ++ r) (sym (append-assoc x y (drop (end + length y) (over out at x))) ∙ ap (λ (r : List ℕ). (x ++ y) ++ r) back)
+
+  -- what was put stands there, and what stood before it stays
+  pub over-there : bytesAt (over out at x) at (length x) ≡ x
+  unfolding over
+  over-there =
+      let front : length (take at out) ≡ at = length-take-le at out (omega arith) in
+      let whole : length (over out at x) ≡ length out = over-length in
+      bytes-taken (length x) at (over out at x) (omega arith)
+      ∙ ap (take (length x)) (drop-at (take at out) (x ++ drop (at + length x) out) at front)
+      ∙ take-append-seam x (drop (at + length x) out)
+
+  over-before : (p : ℕ) → p < at → byteAt (over out at x) p ≡ byteAt out p
+  unfolding over
+  over-before p lt =
+      let front : length (take at out) ≡ at = length-take-le at out (omega arith) in
+      List·getD-append (take at out) (x ++ drop (at + length x) out) 0 p (omega arith) ∙ getD-take at out p 0 lt
 
 -- In the buffer out the bytes rest are still to be put from next on, so that the buffer out₀ gets the bytes whole from at on.
 pub record ToPut (out₀ : List ℕ) (at : ℕ) (whole out : List ℕ) (next : ℕ) (rest : List ℕ) : Type 0 where
@@ -111,6 +133,13 @@ module _ {out₀ whole out : List ℕ} {at next : ℕ} where
 
     pub put-done : out ≡ over out₀ at whole
     put-done = sym (over-none out next) ∙ t .same
+
+-- what stood before the bytes that are put stays
+before-kept : {out₀ whole out rest : List ℕ} {at next : ℕ} → ToPut out₀ at whole out next rest → (p : ℕ) → p < at → at ≤ next → byteAt out p ≡ byteAt out₀ p
+before-kept {out₀} {whole} {out} {rest} {at} {next} t p lt le =
+    sym (over-before out next rest (t .fits) p (omega arith))
+    ∙ ap (λ (b : List ℕ). byteAt b p) (t .same)
+    ∙ over-before out₀ at whole (omega (arith, t .ends, t .long, t .fits)) p lt
 
 -- Of n pieces from piece i on, those from piece k on are still to be put.
 pub record PiecesToPut (p : ℕ → List ℕ) (i n : ℕ) (out₀ : List ℕ) (at : ℕ) (out : List ℕ) (next k : ℕ) : Type 0 where
@@ -181,6 +210,30 @@ module _ {s : List ℕ} {place n : ℕ} {out₀ : List ℕ} {at : ℕ} {out : Li
 
   pub bytes-done : n ≤ k → out ≡ over out₀ at (bytesAt s place n)
   bytes-done le = pieces-done (t .put) le ∙ ap (over out₀ at) (sym (bytes-joined s place n))
+
+-- The same of bytes of the buffer itself, which stand before the place where they are put.
+module _ {place n : ℕ} {out₀ : List ℕ} {at : ℕ} {out : List ℕ} {k : ℕ} (t : BytesToPut out₀ place n out₀ at out k) where
+  pub again-more : k < n → place + n ≤ at → BytesToPut out₀ place n out₀ at (set out (at + k) (byteAt out (place + k))) (k + 1)
+  again-more lt le = rw (before-kept (t .put .put) (place + k) (omega arith) (omega arith)) (bytes-more t lt)
+
+-- The bytes of a row stand in the buffer from one place up to another.
+pub record Stands (out : List ℕ) (from next : ℕ) (bytes : List ℕ) : Type 0 where
+  pub ends : next ≡ from + length bytes
+  pub same : bytesAt out from (length bytes) ≡ bytes
+
+pub stands-put : {out after bytes : List ℕ} {at end : ℕ} → Fits out at bytes → after ≡ over out at bytes → end ≡ at + length bytes → Stands after at end bytes
+stands-put {out} {after} {bytes} {at} fits e f = record { ends = f; same = rw e (over-there out at bytes (fits .within)) }
+
+-- they are put again behind themselves
+module _ {out bytes : List ℕ} {from at : ℕ} (t : Stands out from at bytes) where
+  again-size : at - from ≡ length bytes
+  again-size = omega (arith, t .ends)
+
+  pub again-fits : Fits out at bytes → (from ≤ at) × (at + (at - from) ≤ length out)
+  again-fits fits = (omega (arith, t .ends), omega (arith, fits .within, again-size))
+
+  pub again-put : {after : List ℕ} {end : ℕ} → (end ≡ at + (at - from)) × (after ≡ over out at (bytesAt out from (at - from))) → (end ≡ at + length bytes) × (after ≡ over out at bytes)
+  again-put p = rw (again-size, t .same) at p
 
 -- a null, one byte
 module _ {out bytes : List ℕ} {at : ℕ} (fits : Fits out at bytes) (e : bytes ≡ 0 ∷ []) where

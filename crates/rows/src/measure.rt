@@ -2,12 +2,16 @@
 // its cost is bounded by the room and not by the table.
 use crate::value::is_null;
 use crate::value::value_at;
-use image::record::offset;
+use accepted::column::Column;
+use accepted::column::column_of;
+use accepted::column::first_run;
+use accepted::column::run_after;
 ghost use mathlib.Core.Path.{_≡_};
 ghost use lib.ListN.{length};
 ghost use Rattle.image.specs.Row.{rowAt, range};
 ghost use Rattle.image.specs.RowBytes.{rowBytes, rowsBytes};
 ghost use Rattle.accepted.specs.Parts.{Side};
+ghost use Rattle.accepted.specs.Runs.{Kept};
 ghost use Rattle.rows.specs.Output.{roomAfter};
 
 // The room of an output after some bytes.
@@ -18,9 +22,28 @@ pub enum Room {
     Short,
 }
 
-// The room that is left after row i of a node.
-fn measure_row(s: &[u8], node: u32, i: usize, depth: usize, room: usize) -> Room
+// The room that is left after so many bytes.
+fn room_after(room: usize, size: usize) -> Room
+    ensures { λ r. ⌜ r ≡ roomAfter room size ⌝ }
+{
+    if room < size {
+        return Room::Short;
+    }
+    Room::Left(room - size)
+}
+
+// The room that is left after row i of a node, beside which a run is kept.
+fn measure_row(
+    s: &[u8],
+    node: u32,
+    column: Column,
+    i: usize,
+    run: usize,
+    depth: usize,
+    room: usize,
+) -> Room
     requires { ⌜ Side (now s) node i 1 ⌝ }
+    requires { ⌜ Kept (now s) node column i run ⌝ }
     ensures { λ r. ⌜ r ≡ roomAfter room (length (rowBytes (rowAt depth (now (s .entry)) node i))) ⌝ }
 {
     if room == 0 {
@@ -29,7 +52,7 @@ fn measure_row(s: &[u8], node: u32, i: usize, depth: usize, room: usize) -> Room
     if is_null(s, node, i, depth) {
         return Room::Left(room - 1);
     }
-    let v = value_at(s, node, offset(s, node) + i);
+    let v = value_at(s, node, column.offset + i, run);
     let own = 1 + v.width + v.size;
     if room < own {
         return Room::Short;
@@ -47,19 +70,39 @@ fn measure_row(s: &[u8], node: u32, i: usize, depth: usize, room: usize) -> Room
     Room::Left(left)
 }
 
-// The room that is left after n rows of a node from row i on.
+// The room that is left after n rows of a node from row i on. A row in the run of the row before it is the same row, and
+// takes as much.
 pub fn measure_rows(s: &[u8], node: u32, i: usize, n: usize, depth: usize, room: usize) -> Room
     requires { ⌜ Side (now s) node i n ⌝ }
     ensures { λ r. ⌜ r ≡ roomAfter room (length (rowsBytes (range (rowAt depth (now (s .entry)) node) i n))) ⌝ }
 {
-    let mut left = room;
+    if n == 0 {
+        return Room::Left(room);
+    }
+    let column = column_of(s, node);
+    let mut run = first_run(s, node, column, i);
+    let Room::Left(first) = measure_row(s, node, column, i, run, depth, room) else {
+        return Room::Short;
+    };
+    let mut left = first;
+    let mut size = room - first;
     let mut k: usize = 0;
-    while k < n {
-        let Room::Left(rest) = measure_row(s, node, i + k, depth, left) else {
-            return Room::Short;
-        };
-        left = rest;
+    while k + 1 < n {
+        let last = run;
+        run = run_after(s, node, column, i + k, last);
         k += 1;
+        if run == last {
+            let Room::Left(rest) = room_after(left, size) else {
+                return Room::Short;
+            };
+            left = rest;
+        } else {
+            let Room::Left(rest) = measure_row(s, node, column, i + k, run, depth, left) else {
+                return Room::Short;
+            };
+            size = left - rest;
+            left = rest;
+        }
     }
     Room::Left(left)
 }

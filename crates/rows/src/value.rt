@@ -1,7 +1,6 @@
 // What a row that is not null is made of: a number in front, bytes of the image, and ranges of child rows. Whatever goes
 // row by row over a table goes by this.
 use accepted::byte_view::data_place;
-use accepted::runs::run_of;
 use image::bytes::bit;
 use image::bytes::byte;
 use image::bytes::le32;
@@ -20,15 +19,16 @@ use image::record::p1;
 use image::type_code::Layout;
 use image::type_code::TypeCode;
 ghost use mathlib.Core.Path.{_≡_};
-ghost use Prim.Native.Nat.{_<_, _^_};
-ghost use Rattle.image.specs.declared.type_code.Layout.the-variants.{Boolean, FixedWidth, VariableSize, View, List as Lists, ListView, FixedList, Struct, DenseUnion, SparseUnion, Dictionary, Runs};
-ghost use Rattle.image.specs.Record.{codeOf};
+ghost use Prim.Native.Nat.{_+_, _<_, _^_};
+ghost use Rattle.image.specs.declared.type_code.Layout.the-variants.{Boolean, FixedWidth, VariableSize, View, List as Lists, ListView, FixedList, Struct, DenseUnion, SparseUnion, Dictionary};
+ghost use Rattle.image.specs.Record.{codeOf, firstChild};
 ghost use Rattle.image.specs.TypeCode.{layoutOf};
 ghost use Rattle.image.specs.Element.{typeIdAt};
 ghost use Rattle.laws.specs.Accepted.{IdKnown};
 ghost use Rattle.accepted.specs.Parts.{Part};
+ghost use Rattle.accepted.specs.Runs.{keptRun};
 ghost use Rattle.rows.specs.Value.{leafValue, nestedValue, isNull};
-ghost use Rattle.rows.specs.ValueOf.{valueOf, unionValue};
+ghost use Rattle.rows.specs.ValueOf.{rowsValue, unionValue, valueOf};
 
 pub struct Value {
     // the number in front: a text's length, a list's count, a union's id, a Boolean's bit
@@ -199,12 +199,10 @@ fn dictionary_value(s: &[u8], node: u32, j: usize) -> Value
     nested(0, 0, first_child(s, node), 1, offset_at(s, node, j), 1)
 }
 
-fn run_value(s: &[u8], node: u32, j: usize) -> Value
-    requires { ⌜ Part (now s) node j 1 ⌝ }
-    requires { ⌜ layoutOf (codeOf (now s) node) ≡ Runs ⌝ }
-    ensures { λ r. ⌜ r ≡ valueOf Runs (now (s .entry)) node j ⌝ }
+fn run_value(s: &[u8], node: u32, run: usize) -> Value
+    ensures { λ r. ⌜ r ≡ rowsValue (firstChild (now (s .entry)) node + 1) run 1 ⌝ }
 {
-    nested(0, 0, first_child(s, node) + 1, 1, run_of(s, node, j), 1)
+    nested(0, 0, first_child(s, node) + 1, 1, run, 1)
 }
 
 // Row i of a node is null: its bitmap bit is 0, or no depth is left.
@@ -218,9 +216,10 @@ pub fn is_null(s: &[u8], node: u32, i: usize, depth: usize) -> bool
     !is_valid(s, node, i)
 }
 
-// The value at element j of a node.
-pub fn value_at(s: &[u8], node: u32, j: usize) -> Value
+// The value at element j of a node, beside which a run is kept.
+pub fn value_at(s: &[u8], node: u32, j: usize, run: usize) -> Value
     requires { ⌜ Part (now s) node j 1 ⌝ }
+    requires { ⌜ run ≡ keptRun (now s) node j ⌝ }
     ensures { λ r. ⌜ r ≡ valueOf (layoutOf (codeOf (now (s .entry)) node)) (now (s .entry)) node j ⌝ }
 {
     let layout = TypeCode::layout(code(s, node));
@@ -237,6 +236,6 @@ pub fn value_at(s: &[u8], node: u32, j: usize) -> Value
         Layout::DenseUnion => dense_value(s, node, j),
         Layout::SparseUnion => sparse_value(s, node, j),
         Layout::Dictionary => dictionary_value(s, node, j),
-        Layout::Runs => run_value(s, node, j),
+        Layout::Runs => run_value(s, node, run),
     }
 }

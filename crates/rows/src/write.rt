@@ -1,16 +1,21 @@
 // The bytes of rows, put into a lent buffer that has room for them.
+use crate::output::put_again;
 use crate::output::put_bytes;
 use crate::output::put_number;
 use crate::value::Value;
 use crate::value::is_null;
 use crate::value::value_at;
-use image::record::offset;
+use accepted::column::Column;
+use accepted::column::column_of;
+use accepted::column::first_run;
+use accepted::column::run_after;
 ghost use mathlib.Core.Path.{_≡_};
 ghost use Prim.Native.Nat.{_+_, _≤_};
 ghost use lib.ListN.{length};
 ghost use Rattle.image.specs.Row.{rowAt, range};
 ghost use Rattle.image.specs.RowBytes.{rowBytes, rowsBytes};
 ghost use Rattle.accepted.specs.Parts.{Side};
+ghost use Rattle.accepted.specs.Runs.{Kept};
 ghost use Rattle.rows.specs.Output.{over, Fits};
 ghost use Rattle.rows.specs.Value.{ownBytes};
 
@@ -33,9 +38,19 @@ fn put_own(s: &[u8], v: Value, out: &mut [u8], at: usize) -> usize
     put_bytes(out, bytes, s, v.place, v.size)
 }
 
-// Row i of a node, put at a place of the buffer; the answer is the place after it.
-fn write_row(s: &[u8], node: u32, i: usize, depth: usize, out: &mut [u8], at: usize) -> usize
+// Row i of a node, beside which a run is kept, put at a place of the buffer; the answer is the place after it.
+fn write_row(
+    s: &[u8],
+    node: u32,
+    column: Column,
+    i: usize,
+    run: usize,
+    depth: usize,
+    out: &mut [u8],
+    at: usize,
+) -> usize
     requires { ⌜ Side (now s) node i 1 ⌝ }
+    requires { ⌜ Kept (now s) node column i run ⌝ }
     requires { ⌜ Fits (now out) at (rowBytes (rowAt depth (now s) node i)) ⌝ }
     ensures { λ r. ⌜ r ≡ at + length (rowBytes (rowAt depth (now (s .entry)) node i)) ⌝ }
     ensures { λ _. ⌜ now (out .exit) ≡ over (now (out .entry)) at (rowBytes (rowAt depth (now (s .entry)) node i)) ⌝ }
@@ -43,7 +58,7 @@ fn write_row(s: &[u8], node: u32, i: usize, depth: usize, out: &mut [u8], at: us
     if is_null(s, node, i, depth) {
         return put_number(out, at, NULL, MARK_WIDTH);
     }
-    let v = value_at(s, node, offset(s, node) + i);
+    let v = value_at(s, node, column.offset + i, run);
     let mut next = put_own(s, v, out, at);
     let mut c: u32 = 0;
     while c < v.parts {
@@ -53,7 +68,8 @@ fn write_row(s: &[u8], node: u32, i: usize, depth: usize, out: &mut [u8], at: us
     next
 }
 
-// n rows of a node from row i on, put at a place of the buffer; the answer is the place after them.
+// n rows of a node from row i on, put at a place of the buffer; the answer is the place after them. A row in the run of the
+// row before it is the same row, whose bytes are put again.
 pub fn write_rows(
     s: &[u8],
     node: u32,
@@ -68,11 +84,25 @@ pub fn write_rows(
     ensures { λ r. ⌜ r ≡ at + length (rowsBytes (range (rowAt depth (now (s .entry)) node) i n)) ⌝ }
     ensures { λ _. ⌜ now (out .exit) ≡ over (now (out .entry)) at (rowsBytes (range (rowAt depth (now (s .entry)) node) i n)) ⌝ }
 {
-    let mut next = at;
+    if n == 0 {
+        return at;
+    }
+    let column = column_of(s, node);
+    let mut run = first_run(s, node, column, i);
+    let mut from = at;
+    let mut next = write_row(s, node, column, i, run, depth, out, at);
     let mut k: usize = 0;
-    while k < n {
-        next = write_row(s, node, i + k, depth, out, next);
+    while k + 1 < n {
+        let last = run;
+        let before = from;
+        run = run_after(s, node, column, i + k, last);
+        from = next;
         k += 1;
+        if run == last {
+            next = put_again(out, before, from);
+        } else {
+            next = write_row(s, node, column, i + k, run, depth, out, from);
+        }
     }
     next
 }

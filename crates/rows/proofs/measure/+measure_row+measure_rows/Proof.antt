@@ -1,5 +1,3 @@
--- `measure_row` and `measure_rows` answer what room is left after rows.
--- One cycle of calls: a row asks for the rows of its children, one depth less.
 mod Measures
 mod MeasureRow
 mod MeasureRows

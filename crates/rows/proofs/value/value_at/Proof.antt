@@ -1,7 +1,11 @@
 -- `value_at` gives the value of the node's layout.
 -- Each arm is at one layout, whose function gives its value.
 use borrow.Author.Needs.{needs}
-use mathlib.Core.Path.{sym}
+use mathlib.Core.Path.{_≡_, sym}
+use Rattle.image.specs.declared.type_code.Layout.the-variants.{Runs}
+use Rattle.image.specs.Record.{codeOf}
+use Rattle.image.specs.TypeCode.{layoutOf}
+use Rattle.accepted.proofs.Columns.{kept-run, layout-runs}
 use Rattle.accepted.proofs.Nodes.{layout-is}
 use Rattle.rows.proofs.value.value_at.Statement.{statement}
 use Rattle.rows.proofs.value.value_at.Tie as tie
@@ -28,37 +32,37 @@ enum-told-3 : tie.Need-enum-told-3
 enum-told-3 c = search needs
 
 fixed-value-requires : tie.Need-fixed-value-requires
-fixed-value-requires c κs = (c .before .before .before .before .before .pre, layout-is (c .before .before .before .code .ensures) (c .before .before .layout .ensures) (sym (c .enum-told3 .given .1)))
+fixed-value-requires c κs = (c .before .before .before .before .before .pre .0, layout-is (c .before .before .before .code .ensures) (c .before .before .layout .ensures) (sym (c .enum-told3 .given .1)))
 
 enum-told-4 : tie.Need-enum-told-4
 enum-told-4 c = search needs
 
 variable-value-requires : tie.Need-variable-value-requires
-variable-value-requires c κs = (c .before .before .before .before .before .pre, layout-is (c .before .before .before .code .ensures) (c .before .before .layout .ensures) (sym (c .enum-told4 .given .1)))
+variable-value-requires c κs = (c .before .before .before .before .before .pre .0, layout-is (c .before .before .before .code .ensures) (c .before .before .layout .ensures) (sym (c .enum-told4 .given .1)))
 
 enum-told-5 : tie.Need-enum-told-5
 enum-told-5 c = search needs
 
 view-value-requires : tie.Need-view-value-requires
-view-value-requires c κs = (c .before .before .before .before .before .pre, layout-is (c .before .before .before .code .ensures) (c .before .before .layout .ensures) (sym (c .enum-told5 .given .1)))
+view-value-requires c κs = (c .before .before .before .before .before .pre .0, layout-is (c .before .before .before .code .ensures) (c .before .before .layout .ensures) (sym (c .enum-told5 .given .1)))
 
 enum-told-6 : tie.Need-enum-told-6
 enum-told-6 c = search needs
 
 list-value-requires : tie.Need-list-value-requires
-list-value-requires c κs = (c .before .before .before .before .before .pre, layout-is (c .before .before .before .code .ensures) (c .before .before .layout .ensures) (sym (c .enum-told6 .given .1)))
+list-value-requires c κs = (c .before .before .before .before .before .pre .0, layout-is (c .before .before .before .code .ensures) (c .before .before .layout .ensures) (sym (c .enum-told6 .given .1)))
 
 enum-told-7 : tie.Need-enum-told-7
 enum-told-7 c = search needs
 
 list-view-value-requires : tie.Need-list-view-value-requires
-list-view-value-requires c κs = (c .before .before .before .before .before .pre, layout-is (c .before .before .before .code .ensures) (c .before .before .layout .ensures) (sym (c .enum-told7 .given .1)))
+list-view-value-requires c κs = (c .before .before .before .before .before .pre .0, layout-is (c .before .before .before .code .ensures) (c .before .before .layout .ensures) (sym (c .enum-told7 .given .1)))
 
 enum-told-8 : tie.Need-enum-told-8
 enum-told-8 c = search needs
 
 fixed-list-value-requires : tie.Need-fixed-list-value-requires
-fixed-list-value-requires c κs = (c .before .before .before .before .before .pre, layout-is (c .before .before .before .code .ensures) (c .before .before .layout .ensures) (sym (c .enum-told8 .given .1)))
+fixed-list-value-requires c κs = (c .before .before .before .before .before .pre .0, layout-is (c .before .before .before .code .ensures) (c .before .before .layout .ensures) (sym (c .enum-told8 .given .1)))
 
 enum-told-9 : tie.Need-enum-told-9
 enum-told-9 c = search needs
@@ -70,25 +74,25 @@ enum-told-10 : tie.Need-enum-told-10
 enum-told-10 c = search needs
 
 dense-value-requires : tie.Need-dense-value-requires
-dense-value-requires c κs = (c .before .before .before .before .before .pre, layout-is (c .before .before .before .code .ensures) (c .before .before .layout .ensures) (sym (c .enum-told10 .given .1)))
+dense-value-requires c κs = (c .before .before .before .before .before .pre .0, layout-is (c .before .before .before .code .ensures) (c .before .before .layout .ensures) (sym (c .enum-told10 .given .1)))
 
 enum-told-11 : tie.Need-enum-told-11
 enum-told-11 c = search needs
 
 sparse-value-requires : tie.Need-sparse-value-requires
-sparse-value-requires c κs = (c .before .before .before .before .before .pre, layout-is (c .before .before .before .code .ensures) (c .before .before .layout .ensures) (sym (c .enum-told11 .given .1)))
+sparse-value-requires c κs = (c .before .before .before .before .before .pre .0, layout-is (c .before .before .before .code .ensures) (c .before .before .layout .ensures) (sym (c .enum-told11 .given .1)))
 
 enum-told-12 : tie.Need-enum-told-12
 enum-told-12 c = search needs
 
 dictionary-value-requires : tie.Need-dictionary-value-requires
-dictionary-value-requires c κs = (c .before .before .before .before .before .pre, layout-is (c .before .before .before .code .ensures) (c .before .before .layout .ensures) (sym (c .enum-told12 .given .1)))
+dictionary-value-requires c κs = (c .before .before .before .before .before .pre .0, layout-is (c .before .before .before .code .ensures) (c .before .before .layout .ensures) (sym (c .enum-told12 .given .1)))
 
 enum-told-13 : tie.Need-enum-told-13
 enum-told-13 c = search needs
 
 run-value-requires : tie.Need-run-value-requires
-run-value-requires c κs = (c .before .before .before .before .before .pre, layout-is (c .before .before .before .code .ensures) (c .before .before .layout .ensures) (sym (c .enum-told13 .given .1)))
+run-value-requires c κs = search needs
 
 returns : tie.Need-returns
 returns c = rw (layout-is (c .before .before .before .before .code .ensures) (c .before .before .before .layout .ensures) (sym (c .before .enum-told .given .1))) (c .leaf .ensures)
@@ -127,7 +131,9 @@ returns-12 : tie.Need-returns-12
 returns-12 c = rw (layout-is (c .before .before .before .before .code .ensures) (c .before .before .before .layout .ensures) (sym (c .before .enum-told12 .given .1))) (c .dictionary-value .ensures)
 
 returns-13 : tie.Need-returns-13
-returns-13 c = rw (layout-is (c .before .before .before .before .code .ensures) (c .before .before .before .layout .ensures) (sym (c .before .enum-told13 .given .1))) (c .run-value .ensures)
+returns-13 c =
+    let runs : layoutOf (codeOf (c .before .before .before .before .before .before .args .s .now) (c .before .before .before .before .before .before .args .node)) ≡ Runs = layout-is (c .before .before .before .before .code .ensures) (c .before .before .before .layout .ensures) (sym (c .before .enum-told13 .given .1)) in
+    rw (runs, ← kept-run _ _ _ (layout-runs _ _ runs), ← c .before .before .before .before .before .before .pre .1) (c .run-value .ensures)
 
 pub value-at-spec : {M : Type 1} → statement M
 value-at-spec =

@@ -1,5 +1,3 @@
--- `write_row` and `write_rows` put the bytes of rows over the buffer.
--- One cycle of calls: a row asks for the rows of its children, one depth less.
 mod Measures
 mod WriteRow
 mod WriteRows

@@ -1,53 +1,49 @@
 -- `measure_row` measures a row's own bytes, and then its child rows.
 -- The loop keeps that the rows of the children from child c on, in the room that is left, leave what all of them leave.
-use Prim.Native.Nat.{ℕ, _-_}
-use native.Mathlib.Omega.{arith}
-use borrow.Author.Needs.{needs}
 use mathlib.Core.Path.{sym, _∙_}
 use Rattle.image.specs.Row.{rowAt}
 use Rattle.rows.proofs.RowParts.{RowValue, childBytes, row-null, side-few, row-part, value-of}
 use Rattle.rows.proofs.Rooms.{PiecesToMeasure, measuring-start, measuring-more, measuring-short, measuring-done, none-short, null-left, value-short, value-left}
+use Prim.Native.Nat.{ℕ, _-_}
+use native.Mathlib.Omega.{arith}
+use borrow.Author.Needs.{needs}
 use Rattle.rows.proofs.measure.measure_row.Reads as measure-row
 use Rattle.rows.proofs.measure.measure_rows.Reads as measure-rows
-use Rattle.image.proofs.record.offset.Reads as offset-reads
 use Rattle.rows.proofs.value.is_null.Reads as is-null-reads
 use Rattle.rows.proofs.value.value_at.Reads as value-at-reads
 use Rattle.rows.proofs.measure.+measure_row+measure_rows.Lts-measure_row as lts
 use Rattle.rows.proofs.measure.+measure_row+measure_rows.Proof.Measures.{measure-row-at, measure-rows-below}
 
 abbrev calls : ℕ → lts.Claims
-calls t = (is-null-reads.Asked, is-null-reads.Learnt, offset-reads.Asked, offset-reads.Learnt, value-at-reads.Asked, value-at-reads.Learnt, measure-rows-below t, measure-rows.Post)
+calls t = (is-null-reads.Asked, is-null-reads.Learnt, value-at-reads.Asked, value-at-reads.Learnt, measure-rows-below t, measure-rows.Post)
 
 abbrev Inv-loop : lts.InvT-loop
-Inv-loop s node i depth room v own left₀ c₀ left c = RowValue depth s node i v × PiecesToMeasure (childBytes (rowAt (depth - 1) s) v) (v .child) (v .parts) left₀ left c
+Inv-loop s node i run depth room v own left₀ c₀ left c = RowValue depth s node i v × PiecesToMeasure (childBytes (rowAt (depth - 1) s) v) (v .child) (v .parts) left₀ left c
 
 abbrev μ-loop : lts.MeasureT-loop
-μ-loop s node i depth room v own left₀ c₀ left c = v .parts - c
+μ-loop s node i run depth room v own left₀ c₀ left c = v .parts - c
 
 -- the row is a value
 value : (t : ℕ) (c : lts.After-value-at (calls t) (measure-row-at t) measure-row.Post Inv-loop μ-loop) → RowValue (c .before .before .before .before .before .before .args .depth) (c .before .before .before .before .before .before .args .s .now) (c .before .before .before .before .before .before .args .node) (c .before .before .before .before .before .before .args .i) (c .value-at .result)
-value t c = value-of _ (c .before .before .before .before .before .before .pre .1) (c .before .before .before .is-null .ensures) (c .before .before .if2 .left) (c .before .offset .ensures) (c .value-at .ensures)
+value t c = value-of _ (c .before .before .before .before .before .before .pre .1 .0) (c .before .before .before .is-null .ensures) (c .before .before .if2 .left) (c .before .before .before .before .before .before .pre .1 .1 .column .offset) (c .value-at .ensures)
 
 returns : (t : ℕ) → lts.Need-returns (calls t) (measure-row-at t) measure-row.Post Inv-loop μ-loop
-returns t c = none-short (c .before .before .args .room) _ (c .if1 .taken)
+returns t c = none-short _ _ (c .if1 .taken)
 
 is-null-requires : (t : ℕ) → lts.Need-is-null-requires (calls t) (measure-row-at t) measure-row.Post Inv-loop μ-loop
-is-null-requires t c κs = omega (arith, side-few (c .before .before .pre .1))
+is-null-requires t c κs = omega (arith, side-few (c .before .before .pre .1 .0))
 
-sub-t13 : (t : ℕ) → lts.Need-sub-t13 (calls t) (measure-row-at t) measure-row.Post Inv-loop μ-loop
-sub-t13 t c = search needs
+sub-t15 : (t : ℕ) → lts.Need-sub-t15 (calls t) (measure-row-at t) measure-row.Post Inv-loop μ-loop
+sub-t15 t c = omega (arith, c .before .before .if1 .left)
 
 returns-2 : (t : ℕ) → lts.Need-returns-2 (calls t) (measure-row-at t) measure-row.Post Inv-loop μ-loop
-returns-2 t c = null-left (c .before .before .before .before .args .room) _ (row-null _ _ _ _ (sym (c .before .is-null .ensures) ∙ c .if2 .taken)) (c .before .before .if1 .left)
-
-offset-requires : (t : ℕ) → lts.Need-offset-requires (calls t) (measure-row-at t) measure-row.Post Inv-loop μ-loop
-offset-requires t c κs = search needs
+returns-2 t c = null-left _ _ (row-null _ _ _ _ (sym (c .before .is-null .ensures) ∙ c .if2 .taken)) (c .before .before .if1 .left)
 
 add-value-at : (t : ℕ) → lts.Need-add-value-at (calls t) (measure-row-at t) measure-row.Post Inv-loop μ-loop
-add-value-at t c = omega (arith, side-few (c .before .before .before .before .before .pre .1), c .offset .ensures .value)
+add-value-at t c = omega (arith, side-few (c .before .before .before .before .before .pre .1 .0), c .before .before .before .before .before .pre .1 .1 .column .offset .value)
 
 value-at-requires : (t : ℕ) → lts.Need-value-at-requires (calls t) (measure-row-at t) measure-row.Post Inv-loop μ-loop
-value-at-requires t c κs = row-part _ (c .before .before .before .before .before .pre .1) (c .before .before .is-null .ensures) (c .before .if2 .left) (c .offset .ensures)
+value-at-requires t c κs = (row-part _ (c .before .before .before .before .before .pre .1 .0) (c .before .before .is-null .ensures) (c .before .if2 .left) (c .before .before .before .before .before .pre .1 .1 .column .offset), c .before .before .before .before .before .pre .1 .1 .same)
 
 add-own : (t : ℕ) → lts.Need-add-own (calls t) (measure-row-at t) measure-row.Post Inv-loop μ-loop
 add-own t c = omega (arith, value t (c .before) .placed .narrow)
@@ -96,9 +92,8 @@ proof t =
     lts.spec (calls t) (measure-row-at t) measure-row.Post Inv-loop μ-loop
     (returns t)
     (is-null-requires t)
-    (sub-t13 t)
+    (sub-t15 t)
     (returns-2 t)
-    (offset-requires t)
     (add-value-at t)
     (value-at-requires t)
     (add-own t)

@@ -1,6 +1,6 @@
 -- The measures of the cycle, two for each depth.
 -- Rows ask for a row at their own depth; a row asks for rows one depth less.
-use Prim.Native.Nat.{ℕ, _+_, _*_, _<_}
+use Prim.Native.Nat.{ℕ, _+_, _-_, _*_, _<_}
 use borrow.Fn.Kinds.{In}
 use borrow.Fn.PlainCycle.{Measures, is, falls, and}
 use Rattle.rows.proofs.measure.measure_row.Reads as measure-row
@@ -9,7 +9,7 @@ use Rattle.rows.proofs.measure.measure_rows.Reads as measure-rows
 use Rattle.rows.proofs.measure.measure_rows.Kinds as measure-rows-kinds
 
 abbrev pub μ-measure-row : Measures 1 measure-row-kinds.ps ℕ
-μ-measure-row κs a = 2 * a .1 .1 .1 .0
+μ-measure-row κs a = 2 * a .1 .1 .1 .1 .1 .0
 
 abbrev pub μ-measure-rows : Measures 1 measure-rows-kinds.ps ℕ
 μ-measure-rows κs a = 2 * a .1 .1 .1 .1 .0 + 1

@@ -1,6 +1,6 @@
 -- The measures of the cycle, two for each depth.
 -- Rows ask for a row at their own depth; a row asks for rows one depth less.
-use Prim.Native.Nat.{ℕ, _+_, _*_, _<_}
+use Prim.Native.Nat.{ℕ, _+_, _-_, _*_, _<_}
 use borrow.Fn.Kinds.{In}
 use borrow.Fn.PlainCycle.{Measures, is, falls, and}
 use Rattle.rows.proofs.write.write_row.Reads as write-row
@@ -9,7 +9,7 @@ use Rattle.rows.proofs.write.write_rows.Reads as write-rows
 use Rattle.rows.proofs.write.write_rows.Kinds as write-rows-kinds
 
 abbrev pub μ-write-row : Measures 2 write-row-kinds.ps ℕ
-μ-write-row κs a = 2 * a .1 .1 .1 .0
+μ-write-row κs a = 2 * a .1 .1 .1 .1 .1 .0
 
 abbrev pub μ-write-rows : Measures 2 write-rows-kinds.ps ℕ
 μ-write-rows κs a = 2 * a .1 .1 .1 .1 .0 + 1
