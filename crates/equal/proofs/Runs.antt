@@ -4,12 +4,10 @@
 use mathlib.Core.Path.{_≡_, refl, sym, ap, ap₂, _∙_}
 use mathlib.Core.Bool.{Bool, true, false, _&&_}
 use mathlib.Core.List.{List}
-use mathlib.Core.Logic.{_⊎_, inl, inr}
 use Prim.Native.Nat.{ℕ, zero, suc, _+_, _-_, _<_, _≤_, min}
 use native.Mathlib.Omega.{arith}
-use native.Mathlib.Nat.{lt-of-not-le}
 use Rattle.image.specs.declared.type_code.Layout.the-variants.{Runs}
-use Rattle.image.specs.Record.{codeOf, lengthOf, firstChild, childCount, elementsOf}
+use Rattle.image.specs.Record.{codeOf, lengthOf, firstChild, childCount}
 use Rattle.image.specs.TypeCode.{layoutOf}
 use Rattle.image.specs.Element.{runEndAt, runAt}
 use Rattle.image.specs.Reads.{Read}
@@ -18,24 +16,14 @@ use Rattle.image.specs.Equality.{rowEqual}
 use Rattle.laws.specs.Accepted.{RunsCover}
 use Rattle.values.specs.Pairs.{all, sameRow, rangeEqual}
 use Rattle.accepted.specs.Parts.{Part, Side, RunPart}
+use Rattle.accepted.specs.Runs.{nextRun}
 use Rattle.values.specs.Parts.{Sides, Parts, RunParts, Together}
 use Rattle.accepted.proofs.Nodes.{part-node, part-at}
-use Rattle.accepted.proofs.RunEnds.{ends-before, run-is, ends-rise, run-first, runs-few}
+use Rattle.accepted.proofs.RunEnds.{ends-before, run-first, runs-few}
+use Rattle.accepted.proofs.RunSteps.{run-stays, run-turns, run-next}
 use Rattle.values.proofs.Steps.{left-none, left-fails, all-split, by-rows, all-by}
 use Rattle.equal.proofs.Rows.{one-row, RowsLeft, rows-jump, rows-fail}
 use Rattle.equal.proofs.Child.{layout-right, count-left, child-sides}
-
-module _ {s : List ℕ} {k : ℕ} (cover : RunsCover s k) where
-  -- up to the end of its run an element's run is the same
-  run-stays : (x y : ℕ) → x ≤ y → y < runEndAt s k (runAt s k x) → y < elementsOf s k → runAt s k x ≡ runAt s k y
-  run-stays x y le below lt = run-is cover y (runAt s k x) lt (λ q l. omega (arith, ends-before s k x q l)) below
-
-  -- at the end of a run the next begins
-  run-turns : (x y : ℕ) → x < elementsOf s k → y ≡ runEndAt s k (runAt s k x) → y < elementsOf s k → runAt s k x + 1 ≡ runAt s k y
-  run-turns x y lx e ly =
-      let past : runAt s k x < runAt s k y = lt-of-not-le (λ (le : runAt s k y ≤ runAt s k x). omega (arith, ends-rise cover (runAt s k y) (runAt s k x) le (cover .run x lx), cover .above y ly)) in
-      run-is cover y (runAt s k x + 1) ly (λ q l. omega (arith, ends-rise cover q (runAt s k x) (omega arith) (cover .run x lx)))
-      (omega (arith, cover .rise (runAt s k x) (runAt s k x + 1) (omega arith) (omega (arith, cover .run y ly))))
 
 -- The element at place h of a part of a run node, whose run is i and ends at e.
 module _ {s : List ℕ} {k j n : ℕ} (r : Part s k j n) (runs : layoutOf (codeOf s k) ≡ Runs) where
@@ -59,11 +47,20 @@ module _ {s : List ℕ} {k j n : ℕ} (r : Part s k j n) (runs : layoutOf (codeO
       pub run-above : j + h < e
       run-above = omega (arith, end-is, cover .above (j + h) (run-part h lt .element))
 
-      pub run-kept : (m : ℕ) → m < e - (j + h) → h + m < n → i ≡ runAt s k (j + (h + m))
-      run-kept m below l = ei ∙ run-stays cover (j + h) (j + (h + m)) (omega arith) (omega (arith, end-is)) (run-part (h + m) l .element)
+      -- up to that end the run is the same
+      run-kept : (g : ℕ) → h ≤ g → j + g < e → g < n → i ≡ runAt s k (j + g)
+      run-kept g from below l = ei ∙ run-stays cover (j + h) (j + g) (omega arith) (omega (arith, end-is)) (run-part g l .element)
 
-      pub run-next : (m : ℕ) → m ≡ e - (j + h) → h + m < n → i + 1 ≡ runAt s k (j + (h + m))
-      run-next m is l = ap (λ (x : ℕ). x + 1) ei ∙ run-turns cover (j + h) (j + (h + m)) (run-part h lt .element) (omega (arith, end-is, run-above)) (run-part (h + m) l .element)
+      -- there the next begins
+      run-after : (g : ℕ) → j + g ≡ e → g < n → i + 1 ≡ runAt s k (j + g)
+      run-after g is l = ap (λ (x : ℕ). x + 1) ei ∙ run-turns cover (j + h) (j + g) (run-part h lt .element) (is ∙ end-is) (run-part g l .element)
+
+      -- at a place up to that end, by one step from the element before it
+      run-stepped : (g : ℕ) → h < g → j + g ≤ e → g < n → nextRun (j + (g - 1)) i e ≡ runAt s k (j + g)
+      run-stepped g past to l =
+          let same : i ≡ runAt s k (j + (g - 1)) = run-kept (g - 1) (omega arith) (omega arith) (omega arith) in
+          let more : j + (g - 1) + 1 ≡ j + g = omega arith in
+          ap₂ (nextRun (j + (g - 1))) same (ee ∙ ap (runEndAt s k) same) ∙ sym (run-next (j + (g - 1)) (rw more (run-part g l))) ∙ ap (runAt s k) more
 
 -- the values children of two run nodes, as they are read
 pub run-nodes : {a b : List ℕ} {k l s t n d ca cb : ℕ} → Parts a b k l s t n d → layoutOf (codeOf a k) ≡ Runs → Read (firstChild a k) 16 ca → Read (firstChild b l) 16 cb → Side a (ca + 1) 0 0 × Side b (cb + 1) 0 0
@@ -82,10 +79,6 @@ run-row A B a b k l x y = refl
 pub record Stepping (a b : List ℕ) (k l s t n h i j : ℕ) : Type 0 where
   pub left : h < n → i ≡ runAt a k (s + h)
   pub right : h < n → j ≡ runAt b l (t + h)
-
--- a run that ended within the step of m elements is left for the next; x elements of it were left
-abbrev pub Went : ℕ → ℕ → ℕ → ℕ → Type 0
-Went m x i next = ((m ≡ x) × (next ≡ i + 1)) ⊎ ((m ≡ x → ⊥) × (next ≡ i))
 
 pub stepping-start : (a b : List ℕ) (k l s t n : ℕ) {i j : ℕ} → i ≡ runAt a k s → j ≡ runAt b l t → Stepping a b k l s t n 0 i j
 stepping-start a b k l s t n ei ej =
@@ -111,45 +104,36 @@ module _ {a b : List ℕ} {k l s t n d h i j : ℕ} (r : Parts a b k l s t n d) 
     step-fail kept e = rows-fail kept lt (sym (step-answer (s + h) (t + h) (at .left lt) (at .right lt)) ∙ e)
 
   -- m elements up to the end of the shorter run, or of the range
-  module _ {e f x y u m : ℕ} (ee : e ≡ runEndAt a k i) (ef : f ≡ runEndAt b l j) (ex : x ≡ e - (s + h)) (ey : y ≡ f - (t + h)) (eu : u ≡ min x y) (em : m ≡ min u (n - h)) where
+  module _ {e f u m : ℕ} (ee : e ≡ runEndAt a k i) (ef : f ≡ runEndAt b l j) (eu : u ≡ min (e - (s + h)) (f - (t + h))) (em : m ≡ min u (n - h)) where
     pub step-some : 0 < m
     step-some = omega (arith, run-above (r .left) runs lt (at .left lt) ee, run-above (r .right) (layout-right r runs) lt (at .right lt) ef)
-
-    pub step-within : m ≤ n - h
-    step-within = omega arith
-
-    left-goes : {next : ℕ} → Went m x i next → h + m < n → next ≡ runAt a k (s + (h + m))
-    left-goes (inl w) l = w .1 ∙ run-next (r .left) runs lt (at .left lt) ee m (w .0 ∙ ex) l
-    left-goes (inr w) l =
-        let ne : m ≡ x → ⊥ = w .0 in
-        w .1 ∙ run-kept (r .left) runs lt (at .left lt) ee m (omega arith) l
-
-    right-goes : {next : ℕ} → Went m y j next → h + m < n → next ≡ runAt b l (t + (h + m))
-    right-goes (inl w) le = w .1 ∙ run-next (r .right) (layout-right r runs) lt (at .right lt) ef m (w .0 ∙ ey) le
-    right-goes (inr w) le =
-        let ne : m ≡ y → ⊥ = w .0 in
-        w .1 ∙ run-kept (r .right) (layout-right r runs) lt (at .right lt) ef m (omega arith) le
 
     -- their rows are equal
     step-more : {ca cb : ℕ} → Read (firstChild a k) 16 ca → Read (firstChild b l) 16 cb → RowsLeft (runRow (rowAt d a) a k) (runRow (rowAt d b) b l) s t n h → rangeEqual (rowAt d a (ca + 1)) (rowAt d b (cb + 1)) i j 1 ≡ true
         → RowsLeft (runRow (rowAt d a) a k) (runRow (rowAt d b) b l) s t n (h + m)
     step-more fa fb kept is =
-        rows-jump kept m step-within
+        rows-jump kept m (omega arith)
         (sym (by-rows (runRow (rowAt d a) a k) (runRow (rowAt d b) b l) (s + h) (t + h) m)
         ∙ all-by (sameRow (runRow (rowAt d a) a k) (runRow (rowAt d b) b l)) (s + h) (t + h) m (λ g below.
         let v : s + h + g ≡ s + (h + g) = omega arith in
         let w : t + h + g ≡ t + (h + g) = omega arith in
-        let le : m ≤ n - h = step-within in
         rw (v, w)
         (sym (step-answer fa fb (s + (h + g)) (t + (h + g))
-        (run-kept (r .left) runs lt (at .left lt) ee g (omega arith) (omega arith))
-        (run-kept (r .right) (layout-right r runs) lt (at .right lt) ef g (omega arith) (omega arith))) ∙ is)))
+        (run-kept (r .left) runs lt (at .left lt) ee (h + g) (omega arith) (omega arith) (omega arith))
+        (run-kept (r .right) (layout-right r runs) lt (at .right lt) ef (h + g) (omega arith) (omega arith) (omega arith))) ∙ is)))
 
     -- the runs of the next element
     pub step-again : {ca cb inext jnext : ℕ} → Read (firstChild a k) 16 ca → Read (firstChild b l) 16 cb → RowsLeft (runRow (rowAt d a) a k) (runRow (rowAt d b) b l) s t n h → rangeEqual (rowAt d a (ca + 1)) (rowAt d b (cb + 1)) i j 1 ≡ true
-        → Went m x i inext → Went m y j jnext
+        → inext ≡ nextRun (s + (h + m - 1)) i e → jnext ≡ nextRun (t + (h + m - 1)) j f
         → Stepping a b k l s t n (h + m) inext jnext × RowsLeft (runRow (rowAt d a) a k) (runRow (rowAt d b) b l) s t n (h + m)
-    step-again fa fb kept is wa wb = (record { left = left-goes wa; right = right-goes wb }, step-more fa fb kept is)
+    step-again fa fb kept is ei ej =
+        let some : 0 < m = step-some in (
+          record {
+            left = λ less. ei ∙ run-stepped (r .left) runs lt (at .left lt) ee (h + m) (omega arith) (omega arith) less;
+            right = λ less. ej ∙ run-stepped (r .right) (layout-right r runs) lt (at .right lt) ef (h + m) (omega arith) (omega arith) less;
+          },
+          step-more fa fb kept is,
+        )
 
 -- n equal tests, and some
 all-constant : (p : ℕ → ℕ → Bool) (i j n : ℕ) (x : Bool) → 0 < n → ((h : ℕ) → h < n → p (i + h) (j + h) ≡ x) → x ≡ all p i j n
@@ -189,8 +173,8 @@ module _ {a b : List ℕ} {k l s t n d : ℕ} (r : Parts a b k l s t n d) (runs 
       let v : t + h + g ≡ t + (h + g) = omega arith in
       rw (u, v)
       (value-element i j (s + (h + g)) (t + (h + g))
-      (run-kept (r .left) runs lt ei refl g (omega arith) (omega arith))
-      (run-kept (r .right) (layout-right r runs) lt ej refl g (omega arith) (omega arith))))
+      (run-kept (r .left) runs lt ei refl (h + g) (omega arith) (omega arith) (omega arith))
+      (run-kept (r .right) (layout-right r runs) lt ej refl (h + g) (omega arith) (omega arith) (omega arith))))
 
   -- the m + 1 runs from i and j on, of the elements from place h on
   runs-block : (m h i j : ℕ) → h < n → i ≡ runAt a k (s + h) → j ≡ runAt b l (t + h) → i + m ≡ runAt a k (s + (n - 1)) → j + m ≡ runAt b l (t + (n - 1))
@@ -213,8 +197,8 @@ module _ {a b : List ℕ} {k l s t n d : ℕ} (r : Parts a b k l s t n d) (runs 
       let y : t + (h + (runEndAt a k i - (s + h))) ≡ t + h + (runEndAt a k i - (s + h)) = omega arith in
       let rest : all values (i + 1) (j + 1) (m + 1) ≡ all elements (s + (h + (runEndAt a k i - (s + h)))) (t + (h + (runEndAt a k i - (s + h)))) (n - (h + (runEndAt a k i - (s + h)))) =
       runs-block m (h + (runEndAt a k i - (s + h))) (i + 1) (j + 1) (omega arith)
-      (run-next (r .left) runs lt ei refl (runEndAt a k i - (s + h)) refl (omega arith))
-      (run-next (r .right) (layout-right r runs) lt ej refl (runEndAt a k i - (s + h)) (omega arith) (omega arith))
+      (run-after (r .left) runs lt ei refl (h + (runEndAt a k i - (s + h))) (omega arith) (omega arith))
+      (run-after (r .right) (layout-right r runs) lt ej refl (h + (runEndAt a k i - (s + h))) (omega arith) (omega arith))
       (omega arith) (omega arith)
       (λ q l.
       let p : i + 1 + q ≡ i + suc q = omega arith in

@@ -1,6 +1,7 @@
 // Run-end encoded rows. Translated from src/equal/run.rs of arrow-data 60.1.0 (Apache-2.0).
 use crate::equal_range;
 use crate::equal_row;
+use accepted::runs::next_run;
 use accepted::runs::run_of;
 use image::element::ends_of;
 use image::element::run_end;
@@ -8,7 +9,7 @@ use image::record::first_child;
 use values::leaf::leaves_of;
 use values::runs::same_runs;
 ghost use mathlib.Core.Path.{_≡_};
-ghost use Prim.Native.Nat.{_+_, _<_, min};
+ghost use Prim.Native.Nat.{min};
 ghost use Rattle.image.specs.declared.type_code.Layout.the-variants.{Runs};
 ghost use Rattle.image.specs.Record.{codeOf};
 ghost use Rattle.image.specs.TypeCode.{layoutOf};
@@ -59,16 +60,13 @@ pub fn equal(
             equal = false;
             break 'runs;
         }
-        let x = run_end(a, an, ea, i) - (s + k);
-        let y = run_end(b, bn, eb, j) - (t + k);
-        let step = least(least(x, y), n - k);
+        let x = run_end(a, an, ea, i);
+        let y = run_end(b, bn, eb, j);
+        let step = least(least(x - (s + k), y - (t + k)), n - k);
         k += step;
-        if step == x {
-            i += 1;
-        }
-        if step == y {
-            j += 1;
-        }
+        let last = k - 1;
+        i = next_run(s + last, i, x);
+        j = next_run(t + last, j, y);
     }
     equal
 }

@@ -1,6 +1,5 @@
 -- `run::equal` compares runs that end together as one range of values, others stepping over the shorter of two that overlap.
 -- The loop keeps the runs i and j of the next elements, and that the rows are equal exactly where those from row k on are.
-use mathlib.Core.Logic.{⊎-elim, inl, inr}
 use mathlib.Core.Path.{refl, sym, _∙_, _≡_}
 use mathlib.Core.Bool.{true}
 use Prim.Native.Nat.{ℕ, _-_}
@@ -8,7 +7,7 @@ use native.Mathlib.Omega.{arith}
 use borrow.Author.Tests.{not-true, not-false}
 use borrow.Author.Needs.{needs}
 use Rattle.image.specs.Row.{runRow, rowAt}
-use Rattle.equal.proofs.Runs.{Stepping, stepping-start, run-nodes, run-small, run-above, step-requires, step-fail, step-some, step-within, step-again, run-parts, together-requires, together-answer}
+use Rattle.equal.proofs.Runs.{Stepping, stepping-start, run-nodes, run-small, run-above, step-requires, step-fail, step-some, step-again, run-parts, together-requires, together-answer}
 use Rattle.equal.proofs.Child.{layout-right}
 use Rattle.accepted.proofs.Nodes.{part-small}
 use Rattle.accepted.proofs.RunEnds.{run-first}
@@ -22,12 +21,13 @@ use Rattle.image.proofs.record.first_child.Reads as first-child-reads
 use Rattle.values.proofs.leaf.leaves_of.Reads as leaves-of-reads
 use Rattle.image.proofs.element.ends_of.Reads as ends-of-reads
 use Rattle.image.proofs.element.run_end.Reads as run-end-reads
+use Rattle.accepted.proofs.runs.next_run.Reads as next-run-reads
 use Rattle.accepted.proofs.runs.run_of.Reads as run-of-reads
 use Rattle.values.proofs.runs.same_runs.Reads as same-runs-reads
 use Rattle.equal.proofs.+dictionary-equal+dictionary-long_equal+equal_range+equal_row+equal_valid+equal_values+fixed_list-equal+list-equal+list_view-equal+run-equal+structure-equal+union-block+union-dense+union-sparse.Lts-run-equal as lts
 
 abbrev calls : ℕ → lts.Claims
-calls t = (first-child-reads.Asked, first-child-reads.Learnt, run-of-reads.Asked, run-of-reads.Learnt, same-runs-reads.Asked, same-runs-reads.Learnt, equal-range-below t, equal-range.Post, leaves-of-reads.Asked, leaves-of-reads.Learnt, ends-of-reads.Asked, ends-of-reads.Learnt, equal-row-below t, equal-row.Post, run-end-reads.Asked, run-end-reads.Learnt, least-reads.Asked, least-reads.Learnt)
+calls t = (first-child-reads.Asked, first-child-reads.Learnt, run-of-reads.Asked, run-of-reads.Learnt, same-runs-reads.Asked, same-runs-reads.Learnt, equal-range-below t, equal-range.Post, leaves-of-reads.Asked, leaves-of-reads.Learnt, ends-of-reads.Asked, ends-of-reads.Learnt, equal-row-below t, equal-row.Post, run-end-reads.Asked, run-end-reads.Learnt, least-reads.Asked, least-reads.Learnt, next-run-reads.Asked, next-run-reads.Learnt)
 
 abbrev Inv-runs : lts.InvT-runs
 Inv-runs a an b bn s t n depth va vb equal₀ k₀ i₀ j₀ runs leaves ea eb equal k i j = (equal ≡ true) × (Stepping a b an bn s t n k i j × RowsLeft (runRow (rowAt depth a) a an) (runRow (rowAt depth b) b bn) s t n k)
@@ -83,50 +83,53 @@ equal-row-requires t c κs = (omega (arith, c .before .before .before .before .b
 run-end-requires : (t : ℕ) → lts.Need-run-end-requires (calls t) (run·equal-at t) run·equal.Post Inv-runs μ-runs
 run-end-requires t c κs = (omega (arith, run-small (c .before .before .before .before .before .before .before .before .before .before .before .before .before .before .before .before .pre .1 .0 .left) (c .before .before .before .before .before .before .before .before .before .before .before .before .before .before .before .before .pre .1 .1) (c .before .before .runs-test .taken) (c .before .before .before .runs .inv .1 .0 .left (c .before .before .runs-test .taken))), c .before .before .before .before .before .ends-of .ensures)
 
-add-x : (t : ℕ) → lts.Need-add-x (calls t) (run·equal-at t) run·equal.Post Inv-runs μ-runs
-add-x t c = omega (arith, part-small (c .before .before .before .before .before .before .before .before .before .before .before .before .before .before .before .before .before .pre .1 .0 .left), part-small (c .before .before .before .before .before .before .before .before .before .before .before .before .before .before .before .before .before .pre .1 .0 .right), c .before .before .before .runs-test .taken)
-
-sub-x : (t : ℕ) → lts.Need-sub-x (calls t) (run·equal-at t) run·equal.Post Inv-runs μ-runs
-sub-x t c = omega (arith, run-above (c .before .before .before .before .before .before .before .before .before .before .before .before .before .before .before .before .before .pre .1 .0 .left) (c .before .before .before .before .before .before .before .before .before .before .before .before .before .before .before .before .before .pre .1 .1) (c .before .before .before .runs-test .taken) (c .before .before .before .before .runs .inv .1 .0 .left (c .before .before .before .runs-test .taken)) (c .run-end .ensures))
-
 run-end-requires-2 : (t : ℕ) → lts.Need-run-end-requires-2 (calls t) (run·equal-at t) run·equal.Post Inv-runs μ-runs
 run-end-requires-2 t c κs = (omega (arith, run-small (c .before .before .before .before .before .before .before .before .before .before .before .before .before .before .before .before .before .pre .1 .0 .right) (layout-right (c .before .before .before .before .before .before .before .before .before .before .before .before .before .before .before .before .before .pre .1 .0) (c .before .before .before .before .before .before .before .before .before .before .before .before .before .before .before .before .before .pre .1 .1)) (c .before .before .before .runs-test .taken) (c .before .before .before .before .runs .inv .1 .0 .right (c .before .before .before .runs-test .taken))), c .before .before .before .before .before .ends-of2 .ensures)
 
-add-y : (t : ℕ) → lts.Need-add-y (calls t) (run·equal-at t) run·equal.Post Inv-runs μ-runs
-add-y t c = omega (arith, part-small (c .before .before .before .before .before .before .before .before .before .before .before .before .before .before .before .before .before .before .pre .1 .0 .left), part-small (c .before .before .before .before .before .before .before .before .before .before .before .before .before .before .before .before .before .before .pre .1 .0 .right), c .before .before .before .before .runs-test .taken)
+add-least : (t : ℕ) → lts.Need-add-least (calls t) (run·equal-at t) run·equal.Post Inv-runs μ-runs
+add-least t c = omega (arith, part-small (c .before .before .before .before .before .before .before .before .before .before .before .before .before .before .before .before .before .before .pre .1 .0 .left), c .before .before .before .before .runs-test .taken)
 
-sub-y : (t : ℕ) → lts.Need-sub-y (calls t) (run·equal-at t) run·equal.Post Inv-runs μ-runs
-sub-y t c = omega (arith, run-above (c .before .before .before .before .before .before .before .before .before .before .before .before .before .before .before .before .before .before .pre .1 .0 .right) (layout-right (c .before .before .before .before .before .before .before .before .before .before .before .before .before .before .before .before .before .before .pre .1 .0) (c .before .before .before .before .before .before .before .before .before .before .before .before .before .before .before .before .before .before .pre .1 .1)) (c .before .before .before .before .runs-test .taken) (c .before .before .before .before .before .runs .inv .1 .0 .right (c .before .before .before .before .runs-test .taken)) (c .run-end2 .ensures))
+sub-least : (t : ℕ) → lts.Need-sub-least (calls t) (run·equal-at t) run·equal.Post Inv-runs μ-runs
+sub-least t c = omega (arith, run-above (c .before .before .before .before .before .before .before .before .before .before .before .before .before .before .before .before .before .before .pre .1 .0 .left) (c .before .before .before .before .before .before .before .before .before .before .before .before .before .before .before .before .before .before .pre .1 .1) (c .before .before .before .before .runs-test .taken) (c .before .before .before .before .before .runs .inv .1 .0 .left (c .before .before .before .before .runs-test .taken)) (c .before .run-end .ensures))
+
+add-least-2 : (t : ℕ) → lts.Need-add-least-2 (calls t) (run·equal-at t) run·equal.Post Inv-runs μ-runs
+add-least-2 t c = omega (arith, part-small (c .before .before .before .before .before .before .before .before .before .before .before .before .before .before .before .before .before .before .pre .1 .0 .right), c .before .before .before .before .runs-test .taken)
+
+sub-least-2 : (t : ℕ) → lts.Need-sub-least-2 (calls t) (run·equal-at t) run·equal.Post Inv-runs μ-runs
+sub-least-2 t c = omega (arith, run-above (c .before .before .before .before .before .before .before .before .before .before .before .before .before .before .before .before .before .before .pre .1 .0 .right) (layout-right (c .before .before .before .before .before .before .before .before .before .before .before .before .before .before .before .before .before .before .pre .1 .0) (c .before .before .before .before .before .before .before .before .before .before .before .before .before .before .before .before .before .before .pre .1 .1)) (c .before .before .before .before .runs-test .taken) (c .before .before .before .before .before .runs .inv .1 .0 .right (c .before .before .before .before .runs-test .taken)) (c .run-end2 .ensures))
 
 least-requires : (t : ℕ) → lts.Need-least-requires (calls t) (run·equal-at t) run·equal.Post Inv-runs μ-runs
 least-requires t c κs = search needs
 
-sub-least : (t : ℕ) → lts.Need-sub-least (calls t) (run·equal-at t) run·equal.Post Inv-runs μ-runs
-sub-least t c = omega arith
+sub-least-3 : (t : ℕ) → lts.Need-sub-least-3 (calls t) (run·equal-at t) run·equal.Post Inv-runs μ-runs
+sub-least-3 t c = omega arith
 
 least-requires-2 : (t : ℕ) → lts.Need-least-requires-2 (calls t) (run·equal-at t) run·equal.Post Inv-runs μ-runs
 least-requires-2 t c κs = search needs
 
 add-k : (t : ℕ) → lts.Need-add-k (calls t) (run·equal-at t) run·equal.Post Inv-runs μ-runs
-add-k t c = omega (arith, step-within (c .before .before .before .before .before .before .before .before .before .before .before .before .before .before .before .before .before .before .before .before .pre .1 .0) (c .before .before .before .before .before .before .before .before .before .before .before .before .before .before .before .before .before .before .before .before .pre .1 .1) (c .before .before .before .before .before .before .before .runs .inv .1 .0) (c .before .before .before .before .before .before .runs-test .taken) (c .before .before .before .run-end .ensures) (c .before .before .run-end2 .ensures) refl refl (c .before .least .ensures) (c .least2 .ensures), part-small (c .before .before .before .before .before .before .before .before .before .before .before .before .before .before .before .before .before .before .before .before .pre .1 .0 .left))
+add-k t c = omega (arith, part-small (c .before .before .before .before .before .before .before .before .before .before .before .before .before .before .before .before .before .before .before .before .pre .1 .0 .left))
 
-add-i : (t : ℕ) → lts.Need-add-i (calls t) (run·equal-at t) run·equal.Post Inv-runs μ-runs
-add-i t c = omega (arith, run-small (c .before .before .before .before .before .before .before .before .before .before .before .before .before .before .before .before .before .before .before .before .before .pre .1 .0 .left) (c .before .before .before .before .before .before .before .before .before .before .before .before .before .before .before .before .before .before .before .before .before .pre .1 .1) (c .before .before .before .before .before .before .before .runs-test .taken) (c .before .before .before .before .before .before .before .before .runs .inv .1 .0 .left (c .before .before .before .before .before .before .before .runs-test .taken)))
+sub-last : (t : ℕ) → lts.Need-sub-last (calls t) (run·equal-at t) run·equal.Post Inv-runs μ-runs
+sub-last t c = omega (arith, step-some (c .before .before .before .before .before .before .before .before .before .before .before .before .before .before .before .before .before .before .before .before .pre .1 .0) (c .before .before .before .before .before .before .before .before .before .before .before .before .before .before .before .before .before .before .before .before .pre .1 .1) (c .before .before .before .before .before .before .before .runs .inv .1 .0) (c .before .before .before .before .before .before .runs-test .taken) (c .before .before .before .run-end .ensures) (c .before .before .run-end2 .ensures) (c .before .least .ensures) (c .least2 .ensures))
 
-add-j : (t : ℕ) → lts.Need-add-j (calls t) (run·equal-at t) run·equal.Post Inv-runs μ-runs
-add-j t c = omega (arith, run-small (c .before .before .before .before .before .before .before .before .before .before .before .before .before .before .before .before .before .before .before .before .before .before .pre .1 .0 .right) (layout-right (c .before .before .before .before .before .before .before .before .before .before .before .before .before .before .before .before .before .before .before .before .before .before .pre .1 .0) (c .before .before .before .before .before .before .before .before .before .before .before .before .before .before .before .before .before .before .before .before .before .before .pre .1 .1)) (c .before .before .before .before .before .before .before .before .runs-test .taken) (c .before .before .before .before .before .before .before .before .before .runs .inv .1 .0 .right (c .before .before .before .before .before .before .before .before .runs-test .taken)))
+add-next-run : (t : ℕ) → lts.Need-add-next-run (calls t) (run·equal-at t) run·equal.Post Inv-runs μ-runs
+add-next-run t c = omega (arith, part-small (c .before .before .before .before .before .before .before .before .before .before .before .before .before .before .before .before .before .before .before .before .pre .1 .0 .left))
+
+next-run-requires : (t : ℕ) → lts.Need-next-run-requires (calls t) (run·equal-at t) run·equal.Post Inv-runs μ-runs
+next-run-requires t c κs = (omega (arith, part-small (c .before .before .before .before .before .before .before .before .before .before .before .before .before .before .before .before .before .before .before .before .pre .1 .0 .left)), omega (arith, run-small (c .before .before .before .before .before .before .before .before .before .before .before .before .before .before .before .before .before .before .before .before .pre .1 .0 .left) (c .before .before .before .before .before .before .before .before .before .before .before .before .before .before .before .before .before .before .before .before .pre .1 .1) (c .before .before .before .before .before .before .runs-test .taken) (c .before .before .before .before .before .before .before .runs .inv .1 .0 .left (c .before .before .before .before .before .before .runs-test .taken))))
+
+add-next-run-2 : (t : ℕ) → lts.Need-add-next-run-2 (calls t) (run·equal-at t) run·equal.Post Inv-runs μ-runs
+add-next-run-2 t c = omega (arith, part-small (c .before .before .before .before .before .before .before .before .before .before .before .before .before .before .before .before .before .before .before .before .before .pre .1 .0 .right))
+
+next-run-requires-2 : (t : ℕ) → lts.Need-next-run-requires-2 (calls t) (run·equal-at t) run·equal.Post Inv-runs μ-runs
+next-run-requires-2 t c κs = (omega (arith, part-small (c .before .before .before .before .before .before .before .before .before .before .before .before .before .before .before .before .before .before .before .before .before .pre .1 .0 .right)), omega (arith, run-small (c .before .before .before .before .before .before .before .before .before .before .before .before .before .before .before .before .before .before .before .before .before .pre .1 .0 .right) (layout-right (c .before .before .before .before .before .before .before .before .before .before .before .before .before .before .before .before .before .before .before .before .before .pre .1 .0) (c .before .before .before .before .before .before .before .before .before .before .before .before .before .before .before .before .before .before .before .before .before .pre .1 .1)) (c .before .before .before .before .before .before .before .runs-test .taken) (c .before .before .before .before .before .before .before .before .runs .inv .1 .0 .right (c .before .before .before .before .before .before .before .runs-test .taken))))
 
 runs-less : (t : ℕ) → lts.Need-runs-less (calls t) (run·equal-at t) run·equal.Post Inv-runs μ-runs
-runs-less t c = omega (arith, step-some (c .before .before .before .before .before .before .before .before .before .before .before .before .before .before .before .before .before .before .before .before .before .before .pre .1 .0) (c .before .before .before .before .before .before .before .before .before .before .before .before .before .before .before .before .before .before .before .before .before .before .pre .1 .1) (c .before .before .before .before .before .before .before .before .before .runs .inv .1 .0) (c .before .before .before .before .before .before .before .before .runs-test .taken) (c .before .before .before .before .before .run-end .ensures) (c .before .before .before .before .run-end2 .ensures) refl refl (c .before .before .before .least .ensures) (c .before .before .least2 .ensures), step-within (c .before .before .before .before .before .before .before .before .before .before .before .before .before .before .before .before .before .before .before .before .before .before .pre .1 .0) (c .before .before .before .before .before .before .before .before .before .before .before .before .before .before .before .before .before .before .before .before .before .before .pre .1 .1) (c .before .before .before .before .before .before .before .before .before .runs .inv .1 .0) (c .before .before .before .before .before .before .before .before .runs-test .taken) (c .before .before .before .before .before .run-end .ensures) (c .before .before .before .before .run-end2 .ensures) refl refl (c .before .before .before .least .ensures) (c .before .before .least2 .ensures))
+runs-less t c = omega (arith, step-some (c .before .before .before .before .before .before .before .before .before .before .before .before .before .before .before .before .before .before .before .before .before .before .pre .1 .0) (c .before .before .before .before .before .before .before .before .before .before .before .before .before .before .before .before .before .before .before .before .before .before .pre .1 .1) (c .before .before .before .before .before .before .before .before .before .runs .inv .1 .0) (c .before .before .before .before .before .before .before .before .runs-test .taken) (c .before .before .before .before .before .run-end .ensures) (c .before .before .before .before .run-end2 .ensures) (c .before .before .before .least .ensures) (c .before .before .least2 .ensures))
 
 runs-again : (t : ℕ) → lts.Need-runs-again (calls t) (run·equal-at t) run·equal.Post Inv-runs μ-runs
-runs-again t c = (c .before .before .before .before .before .before .before .before .before .runs .inv .0, step-again (c .before .before .before .before .before .before .before .before .before .before .before .before .before .before .before .before .before .before .before .before .before .before .pre .1 .0) (c .before .before .before .before .before .before .before .before .before .before .before .before .before .before .before .before .before .before .before .before .before .before .pre .1 .1) (c .before .before .before .before .before .before .before .before .before .runs .inv .1 .0) (c .before .before .before .before .before .before .before .before .runs-test .taken) (c .before .before .before .before .before .run-end .ensures) (c .before .before .before .before .run-end2 .ensures) refl refl (c .before .before .before .least .ensures) (c .before .before .least2 .ensures) (c .before .before .before .before .before .before .before .before .before .before .before .before .before .before .before .before .before .before .before .first-child .ensures) (c .before .before .before .before .before .before .before .before .before .before .before .before .before .before .before .before .before .before .first-child2 .ensures) (c .before .before .before .before .before .before .before .before .before .runs .inv .1 .1) (sym (c .before .before .before .before .before .before .before .equal-row .ensures) ∙ not-false (c .before .before .before .before .before .before .before .equal-row .result) (c .before .before .before .before .before .before .if3 .left)) (⊎-elim (λ h. inl (h .0 .taken, h .1)) (λ h. inr (h .0 .left, h .1)) (c .before .if4 .came)) (inl (c .if5 .taken, refl)))
-
-runs-less-2 : (t : ℕ) → lts.Need-runs-less-2 (calls t) (run·equal-at t) run·equal.Post Inv-runs μ-runs
-runs-less-2 t c = omega (arith, step-some (c .before .before .before .before .before .before .before .before .before .before .before .before .before .before .before .before .before .before .before .before .before .before .pre .1 .0) (c .before .before .before .before .before .before .before .before .before .before .before .before .before .before .before .before .before .before .before .before .before .before .pre .1 .1) (c .before .before .before .before .before .before .before .before .before .runs .inv .1 .0) (c .before .before .before .before .before .before .before .before .runs-test .taken) (c .before .before .before .before .before .run-end .ensures) (c .before .before .before .before .run-end2 .ensures) refl refl (c .before .before .before .least .ensures) (c .before .before .least2 .ensures), step-within (c .before .before .before .before .before .before .before .before .before .before .before .before .before .before .before .before .before .before .before .before .before .before .pre .1 .0) (c .before .before .before .before .before .before .before .before .before .before .before .before .before .before .before .before .before .before .before .before .before .before .pre .1 .1) (c .before .before .before .before .before .before .before .before .before .runs .inv .1 .0) (c .before .before .before .before .before .before .before .before .runs-test .taken) (c .before .before .before .before .before .run-end .ensures) (c .before .before .before .before .run-end2 .ensures) refl refl (c .before .before .before .least .ensures) (c .before .before .least2 .ensures))
-
-runs-again-2 : (t : ℕ) → lts.Need-runs-again-2 (calls t) (run·equal-at t) run·equal.Post Inv-runs μ-runs
-runs-again-2 t c = (c .before .before .before .before .before .before .before .before .before .runs .inv .0, step-again (c .before .before .before .before .before .before .before .before .before .before .before .before .before .before .before .before .before .before .before .before .before .before .pre .1 .0) (c .before .before .before .before .before .before .before .before .before .before .before .before .before .before .before .before .before .before .before .before .before .before .pre .1 .1) (c .before .before .before .before .before .before .before .before .before .runs .inv .1 .0) (c .before .before .before .before .before .before .before .before .runs-test .taken) (c .before .before .before .before .before .run-end .ensures) (c .before .before .before .before .run-end2 .ensures) refl refl (c .before .before .before .least .ensures) (c .before .before .least2 .ensures) (c .before .before .before .before .before .before .before .before .before .before .before .before .before .before .before .before .before .before .before .first-child .ensures) (c .before .before .before .before .before .before .before .before .before .before .before .before .before .before .before .before .before .before .first-child2 .ensures) (c .before .before .before .before .before .before .before .before .before .runs .inv .1 .1) (sym (c .before .before .before .before .before .before .before .equal-row .ensures) ∙ not-false (c .before .before .before .before .before .before .before .equal-row .result) (c .before .before .before .before .before .before .if3 .left)) (⊎-elim (λ h. inl (h .0 .taken, h .1)) (λ h. inr (h .0 .left, h .1)) (c .before .if4 .came)) (inr (c .if5 .left, refl)))
+runs-again t c = (c .before .before .before .before .before .before .before .before .before .runs .inv .0, step-again (c .before .before .before .before .before .before .before .before .before .before .before .before .before .before .before .before .before .before .before .before .before .before .pre .1 .0) (c .before .before .before .before .before .before .before .before .before .before .before .before .before .before .before .before .before .before .before .before .before .before .pre .1 .1) (c .before .before .before .before .before .before .before .before .before .runs .inv .1 .0) (c .before .before .before .before .before .before .before .before .runs-test .taken) (c .before .before .before .before .before .run-end .ensures) (c .before .before .before .before .run-end2 .ensures) (c .before .before .before .least .ensures) (c .before .before .least2 .ensures) (c .before .before .before .before .before .before .before .before .before .before .before .before .before .before .before .before .before .before .before .first-child .ensures) (c .before .before .before .before .before .before .before .before .before .before .before .before .before .before .before .before .before .before .first-child2 .ensures) (c .before .before .before .before .before .before .before .before .before .runs .inv .1 .1) (sym (c .before .before .before .before .before .before .before .equal-row .ensures) ∙ not-false (c .before .before .before .before .before .before .before .equal-row .result) (c .before .before .before .before .before .before .if3 .left)) (c .before .next-run .ensures) (c .next-run2 .ensures))
 
 returns-3 : (t : ℕ) → lts.Need-returns-3 (calls t) (run·equal-at t) run·equal.Post Inv-runs μ-runs
 returns-3 t c = c .before .runs .inv .0 ∙ rows-done (c .before .runs .inv .1 .1) (c .runs-test .left)
@@ -153,20 +156,21 @@ proof t =
     (runs-holds t)
     (equal-row-requires t)
     (run-end-requires t)
-    (add-x t)
-    (sub-x t)
     (run-end-requires-2 t)
-    (add-y t)
-    (sub-y t)
-    (least-requires t)
+    (add-least t)
     (sub-least t)
+    (add-least-2 t)
+    (sub-least-2 t)
+    (least-requires t)
+    (sub-least-3 t)
     (least-requires-2 t)
     (add-k t)
-    (add-i t)
-    (add-j t)
+    (sub-last t)
+    (add-next-run t)
+    (next-run-requires t)
+    (add-next-run-2 t)
+    (next-run-requires-2 t)
     (runs-less t)
     (runs-again t)
-    (runs-less-2 t)
-    (runs-again-2 t)
     (returns-3 t)
     (returns-4 t)
