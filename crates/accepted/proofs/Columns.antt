@@ -1,24 +1,25 @@
 -- The run that is kept beside the rows of a node, from the first of them on.
--- Where the rows are in runs it is stepped by the current run's end; else each element is one. Rows beside which the same run
+-- Where the rows are in runs it stays up to the current run's end; else each element is one. Rows beside which the same run
 -- is kept are the same row: a row of runs is that of its run's value, and is never null.
 use mathlib.Core.Path.{_≡_, refl, sym, ap, _∙_}
 use mathlib.Core.Bool.{Bool, true, false}
 use mathlib.Core.List.{List}
-use Prim.Native.Nat.{ℕ, zero, suc, _+_, _<_, _≤_}
+use Prim.Native.Nat.{ℕ, zero, suc, _+_, _-_, _<_, _≤_, min}
 use native.Mathlib.Omega.{arith}
 use borrow.Author.Tests.{eqb-true, eq-eqb}
 use Rattle.image.specs.declared.type_code.Layout.the-variants.{Runs}
-use Rattle.image.specs.Record.{codeOf, offsetOf, elementsOf}
+use Rattle.image.specs.Record.{nodeCount, codeOf, offsetOf, elementsOf}
 use Rattle.image.specs.TypeCode.{layoutOf, entryOf, entries}
 use Rattle.image.specs.Element.{valid, runEndAt, runAt}
 use Rattle.image.specs.Row.{runRow, rowAt}
+use Rattle.laws.specs.Accepted.{AcceptedImage, RunsCover}
 use Rattle.laws.proofs.Codes.{runs-code}
 use Rattle.accepted.specs.declared.column.Column.{Column}
 use Rattle.accepted.specs.Parts.{Side, RunPart}
-use Rattle.accepted.specs.Runs.{nextRun, inRuns, keptRun, ColumnRead, Kept}
+use Rattle.accepted.specs.Runs.{nextRun, inRuns, keptRun, ColumnRead, Kept, Stays}
 use Rattle.accepted.proofs.Nodes.{side-small}
 use Rattle.accepted.proofs.RunEnds.{runs-cover, runs-few}
-use Rattle.accepted.proofs.RunSteps.{run-next}
+use Rattle.accepted.proofs.RunSteps.{run-stays, run-next}
 
 -- whether the rows are in runs is a matter of the layout
 pub runs-layout : (s : List ℕ) (k : ℕ) → inRuns s k ≡ true → layoutOf (codeOf s k) ≡ Runs
@@ -60,62 +61,90 @@ module _ {s : List ℕ} {k i : ℕ} {c : Column} where
     pub first-kept : {run : ℕ} → c .runs ≡ true → run ≡ runAt s k (c .offset + i) → Kept s k c i run
     first-kept e same = record { column = read; same = same ∙ sym (kept-run s k (c .offset + i) (sym (read .runs) ∙ e)) }
 
-  -- from a row to the next
-  module _ {run : ℕ} (r : Side s k i 2) (at : Kept s k c i run) where
-    pub after-small : c .offset + i + 2 ≤ 1073741824
-    after-small = omega (arith, side-small s k i 2 r, at .column .offset .value)
+  -- the rows from row i on
+  module _ {n run : ℕ} (r : Side s k i n) (some : 0 < n) (at : Kept s k c i run) where
+    pub stay-small : c .offset + i + n ≤ 1073741824
+    stay-small = omega (arith, side-small s k i n r, at .column .offset .value)
 
-    pub after-alone : c .runs ≡ false → Kept s k c (i + 1) (c .offset + i + 1)
-    after-alone none =
-        let e : c .offset + i + 1 ≡ c .offset + (i + 1) = omega arith in
-        record { column = at .column; same = e ∙ sym (kept-alone s k (c .offset + (i + 1)) (sym (at .column .runs) ∙ none)) }
+    -- where the rows are not in runs, each row is one
+    pub stay-alone : c .runs ≡ false → Stays s k c i n run (record { rows = 1; next = c .offset + i + 1 })
+    stay-alone none = record {
+      some = omega arith;
+      within = omega arith;
+      same = λ h lt.
+          let e : i + h ≡ i = omega arith in
+          rw e at;
+      next = λ lt.
+          let e : c .offset + i + 1 ≡ c .offset + (i + 1) = omega arith in
+          record { column = at .column; same = e ∙ sym (kept-alone s k (c .offset + (i + 1)) (sym (at .column .runs) ∙ none)) };
+    }
 
     module _ (e : c .runs ≡ true) where
-      after-part : RunPart s k (c .offset + i + 1)
-      after-part =
-          let place : offsetOf s k + i + 1 ≡ c .offset + i + 1 = omega (arith, at .column .offset .value) in
-          rw place at (row-runs r (sym (at .column .runs) ∙ e) 1 (omega arith))
+      element : (h : ℕ) → h < n → RunPart s k (c .offset + (i + h))
+      element h lt =
+          let place : offsetOf s k + i + h ≡ c .offset + (i + h) = omega (arith, at .column .offset .value) in
+          rw place at (row-runs r (sym (at .column .runs) ∙ e) h lt)
+
+      cover : RunsCover s k
+      cover = runs-cover (element 0 some)
 
       run-held : run ≡ runAt s k (c .offset + i)
       run-held = at .same ∙ kept-run s k (c .offset + i) (sym (at .column .runs) ∙ e)
 
-      pub after-few : run < 1073741824
-      after-few = omega (arith, run-held, runs-cover after-part .run (c .offset + i) (omega (arith, after-part .element)), runs-few after-part)
+      pub stay-few : run < 1073741824
+      stay-few =
+          let here : c .offset + i < elementsOf s k = omega (arith, element 0 some .element) in
+          omega (arith, run-held, cover .run (c .offset + i) here, runs-few (element 0 some))
 
-      pub after-kept : {end next : ℕ} → end ≡ runEndAt s k run → next ≡ nextRun (c .offset + i) run end → Kept s k c (i + 1) next
-      after-kept ee en =
-          let place : c .offset + i + 1 ≡ c .offset + (i + 1) = omega arith in
-          record {
-            column = at .column;
-            same =
-                rw (ee, run-held) at en
-                ∙ sym (run-next (c .offset + i) after-part)
-                ∙ ap (runAt s k) place
-                ∙ sym (kept-run s k (c .offset + (i + 1)) (sym (at .column .runs) ∙ e));
-          }
+      module _ {end : ℕ} (ee : end ≡ runEndAt s k run) where
+        end-held : end ≡ runEndAt s k (runAt s k (c .offset + i))
+        end-held = ee ∙ ap (runEndAt s k) run-held
 
-  -- rows beside which the same run is kept are the same row
-  module _ {run : ℕ} (r : Side s k i 2) (at : Kept s k c i run) (next : Kept s k c (i + 1) run) where
-    same-runs : c .runs ≡ true
-    same-runs = cases (c .runs) refl
-      where
-        cases : (b : Bool) → c .runs ≡ b → b ≡ true
-        cases true e = refl
-        cases false e =
-            absurd (omega (arith, at .same, next .same, kept-alone s k (c .offset + i) (sym (at .column .runs) ∙ e), kept-alone s k (c .offset + (i + 1)) (sym (at .column .runs) ∙ e)))
+        pub stay-above : c .offset + i < end
+        stay-above = omega (arith, end-held, cover .above (c .offset + i) (omega (arith, element 0 some .element)))
 
-    in-runs : inRuns s k ≡ true
-    in-runs = sym (at .column .runs) ∙ same-runs
+        -- a row below the run's end
+        stays : (h : ℕ) → h < n → c .offset + (i + h) < end → run ≡ runAt s k (c .offset + (i + h))
+        stays h lt below = run-held ∙ run-stays cover (c .offset + i) (c .offset + (i + h)) (omega arith) (omega (arith, end-held)) (element h lt .element)
 
-    same-run : runAt s k (offsetOf s k + i) ≡ runAt s k (offsetOf s k + (i + 1))
+        held : {x : ℕ} (h : ℕ) → x ≡ runAt s k (c .offset + (i + h)) → Kept s k c (i + h) x
+        held h same = record { column = at .column; same = same ∙ sym (kept-run s k (c .offset + (i + h)) (sym (at .column .runs) ∙ e)) }
+
+        pub stay-kept : {rows next : ℕ} → rows ≡ min (end - (c .offset + i)) n → next ≡ nextRun (c .offset + i + (rows - 1)) run end → Stays s k c i n run (record { rows = rows; next = next })
+        stay-kept {rows} {next} er en = record {
+          some = omega (arith, stay-above);
+          within = omega arith;
+          same = λ h lt. held h (stays h (omega arith) (omega arith));
+          next = λ lt.
+              let last : c .offset + i + (rows - 1) ≡ c .offset + (i + (rows - 1)) = omega arith in
+              let behind : c .offset + (i + (rows - 1)) + 1 ≡ c .offset + (i + rows) = omega (arith, stay-above) in
+              let run-last : run ≡ runAt s k (c .offset + (i + (rows - 1))) = stays (rows - 1) (omega arith) (omega (arith, stay-above)) in
+              let part : RunPart s k (c .offset + (i + (rows - 1)) + 1) = rw behind (element rows lt) in
+              held rows (en ∙ ap (λ (x : ℕ). nextRun x run end) last ∙ rw (ee, run-last) (sym (run-next (c .offset + (i + (rows - 1))) part)) ∙ ap (runAt s k) behind);
+        }
+
+-- rows beside which the same run is kept are the same row
+module _ {s : List ℕ} {k : ℕ} {c : Column} {x y run : ℕ} (accepted : AcceptedImage s) (node : k < nodeCount s) (at : Kept s k c x run) (to : Kept s k c y run) where
+  same-alone : inRuns s k ≡ false → x ≡ y
+  same-alone none = omega (arith, at .same, to .same, kept-alone s k (c .offset + x) none, kept-alone s k (c .offset + y) none)
+
+  module _ (e : inRuns s k ≡ true) where
+    same-run : runAt s k (offsetOf s k + x) ≡ runAt s k (offsetOf s k + y)
     same-run =
         rw (at .column .offset .value) at
-        (sym (kept-run s k (c .offset + i) in-runs) ∙ sym (at .same) ∙ next .same ∙ kept-run s k (c .offset + (i + 1)) in-runs)
+        (sym (kept-run s k (c .offset + x) e) ∙ sym (at .same) ∙ to .same ∙ kept-run s k (c .offset + y) e)
 
-    never-null : (h : ℕ) → valid s k h ≡ true
-    never-null h = r .image .node k (r .node) .known .all-valid (rw (runs-layout s k in-runs)) h
+    never-null : (i : ℕ) → valid s k i ≡ true
+    never-null i = accepted .node k node .known .all-valid (rw (runs-layout s k e)) i
 
-    pub same-row : (depth : ℕ) → rowAt depth s k i ≡ rowAt depth s k (i + 1)
+    same-value : (depth : ℕ) → rowAt depth s k x ≡ rowAt depth s k y
     unfolding rowAt runRow
-    same-row zero = refl
-    same-row (suc depth) = rw (never-null i, never-null (i + 1), runs-layout s k in-runs, same-run)
+    same-value zero = refl
+    same-value (suc depth) = rw (never-null x, never-null y, runs-layout s k e, same-run)
+
+  pub same-row : (depth : ℕ) → rowAt depth s k x ≡ rowAt depth s k y
+  same-row depth = cases (inRuns s k) refl
+    where
+      cases : (b : Bool) → inRuns s k ≡ b → rowAt depth s k x ≡ rowAt depth s k y
+      cases true e = same-value e depth
+      cases false none = ap (rowAt depth s k) (same-alone none)

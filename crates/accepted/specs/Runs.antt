@@ -2,12 +2,13 @@
 use mathlib.Core.Path.{_≡_}
 use mathlib.Core.Bool.{Bool, true, cond}
 use mathlib.Core.List.{List}
-use Prim.Native.Nat.{ℕ, _+_}
+use Prim.Native.Nat.{ℕ, _+_, _≤_, _<_}
 use lib.Dec.{eqb, ltb}
 use Rattle.image.specs.Record.{codeOf, offsetOf}
 use Rattle.image.specs.Element.{runAt}
 use Rattle.image.specs.Reads.{Read, Ends}
 use Rattle.accepted.specs.declared.column.Column.{Column}
+use Rattle.accepted.specs.declared.column.Stay.{Stay}
 
 -- From element j to the next: the run stays while that one lies below the run's end, else it is the next. Nothing of an
 -- image is asked but that end.
@@ -32,3 +33,10 @@ pub record ColumnRead (s : List ℕ) (k : ℕ) (c : Column) : Type 0 where
 pub record Kept (s : List ℕ) (k : ℕ) (c : Column) (i run : ℕ) : Type 0 where
   pub column : ColumnRead s k c
   pub same : run ≡ keptRun s k (c .offset + i)
+
+-- how long the run is kept that is kept at row i: of n rows from there on so many are in it, and the next is kept behind them
+pub record Stays (s : List ℕ) (k : ℕ) (c : Column) (i n run : ℕ) (r : Stay) : Type 0 where
+  pub some : 0 < r .rows
+  pub within : r .rows ≤ n
+  pub same : (h : ℕ) → h < r .rows → Kept s k c (i + h) run
+  pub next : r .rows < n → Kept s k c (i + r .rows) (r .next)

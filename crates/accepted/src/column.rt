@@ -1,4 +1,5 @@
 // A node whose rows are asked one after another: what is read of it once, and the run that is kept beside the row.
+use crate::runs::least;
 use crate::runs::next_run;
 use crate::runs::run_of;
 use image::element::EndsAt;
@@ -8,9 +9,9 @@ use image::record::code;
 use image::record::offset;
 use image::type_code::TypeCode;
 ghost use mathlib.Core.Path.{_≡_};
-ghost use Prim.Native.Nat.{_+_};
+ghost use Prim.Native.Nat.{_<_};
 ghost use Rattle.accepted.specs.Parts.{Side};
-ghost use Rattle.accepted.specs.Runs.{keptRun, ColumnRead, Kept};
+ghost use Rattle.accepted.specs.Runs.{ColumnRead, Kept, Stays};
 
 pub struct Column {
     // the rows are in runs
@@ -52,15 +53,30 @@ pub fn first_run(s: &[u8], node: u32, column: Column, i: usize) -> usize
     run_of(s, node, j)
 }
 
-// The run that is kept at the row after row i, from the one that is kept at row i: one run end is read, that of this run.
-pub fn run_after(s: &[u8], node: u32, column: Column, i: usize, run: usize) -> usize
-    requires { ⌜ Side (now s) node i 2 ⌝ }
+// How long a run is kept: so many rows from a row on, and the run that is kept behind them.
+pub struct Stay {
+    pub rows: usize,
+    pub next: usize,
+}
+
+// How many of the n rows from row i on are in the run that is kept at row i, and the run behind them: one run end is read,
+// that of this run.
+pub fn stay_of(s: &[u8], node: u32, column: Column, i: usize, n: usize, run: usize) -> Stay
+    requires { ⌜ Side (now s) node i n × (0 < n) ⌝ }
     requires { ⌜ Kept (now s) node column i run ⌝ }
-    ensures { λ r. ⌜ Kept (now (s .entry)) node column (i + 1) r ⌝ }
+    ensures { λ r. ⌜ Stays (now (s .entry)) node column i n run r ⌝ }
 {
     let j = column.offset + i;
     if !column.runs {
-        return j + 1;
+        return Stay {
+            rows: 1,
+            next: j + 1,
+        };
     }
-    next_run(j, run, run_end(s, node, column.ends, run))
+    let end = run_end(s, node, column.ends, run);
+    let rows = least(end - j, n);
+    Stay {
+        rows: rows,
+        next: next_run(j + (rows - 1), run, end),
+    }
 }

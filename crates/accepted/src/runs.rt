@@ -4,7 +4,7 @@ use image::element::run_end;
 use image::record::first_child;
 use image::record::length;
 ghost use mathlib.Core.Path.{_≡_};
-ghost use Prim.Native.Nat.{_<_, _^_};
+ghost use Prim.Native.Nat.{_<_, _^_, min};
 ghost use Rattle.image.specs.Element.{runAt};
 ghost use Rattle.accepted.specs.Parts.{RunPart};
 ghost use Rattle.accepted.specs.Runs.{nextRun};
@@ -26,6 +26,12 @@ pub fn run_of(s: &[u8], node: u32, j: usize) -> usize
         }
     }
     low
+}
+
+pub fn least(x: usize, y: usize) -> usize
+    ensures { λ r. ⌜ r ≡ min x y ⌝ }
+{
+    if x < y { x } else { y }
 }
 
 // The run that holds the element after j, from the run of j and its end.

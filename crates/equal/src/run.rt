@@ -1,6 +1,7 @@
 // Run-end encoded rows. Translated from src/equal/run.rs of arrow-data 60.1.0 (Apache-2.0).
 use crate::equal_range;
 use crate::equal_row;
+use accepted::runs::least;
 use accepted::runs::next_run;
 use accepted::runs::run_of;
 use image::element::ends_of;
@@ -16,12 +17,6 @@ ghost use Rattle.image.specs.TypeCode.{layoutOf};
 ghost use Rattle.image.specs.Row.{runRow, rowAt};
 ghost use Rattle.values.specs.Pairs.{rangeEqual};
 ghost use Rattle.values.specs.Parts.{Parts};
-
-fn least(x: usize, y: usize) -> usize
-    ensures { λ r. ⌜ r ≡ min x y ⌝ }
-{
-    if x < y { x } else { y }
-}
 
 // Runs: where the runs of both sides end together, their values as one range; else the values of overlapping runs, stepping
 // over the shorter of the two; the stepping ends as soon as one pair differs.

@@ -1,5 +1,6 @@
 pub mod Joined
 pub mod Over
+pub mod Repeats
 pub mod Rooms
 pub mod RowParts
 pub mod Stretches

@@ -78,7 +78,7 @@ module _ (out : List ℕ) (at : ℕ) (x : List ℕ) (fits : at + length x ≤ le
       ∙ ap (take (length x)) (drop-at (take at out) (x ++ drop (at + length x) out) at front)
       ∙ take-append-seam x (drop (at + length x) out)
 
-  over-before : (p : ℕ) → p < at → byteAt (over out at x) p ≡ byteAt out p
+  pub over-before : (p : ℕ) → p < at → byteAt (over out at x) p ≡ byteAt out p
   unfolding over
   over-before p lt =
       let front : length (take at out) ≡ at = length-take-le at out (omega arith) in
@@ -215,25 +215,6 @@ module _ {s : List ℕ} {place n : ℕ} {out₀ : List ℕ} {at : ℕ} {out : Li
 module _ {place n : ℕ} {out₀ : List ℕ} {at : ℕ} {out : List ℕ} {k : ℕ} (t : BytesToPut out₀ place n out₀ at out k) where
   pub again-more : k < n → place + n ≤ at → BytesToPut out₀ place n out₀ at (set out (at + k) (byteAt out (place + k))) (k + 1)
   again-more lt le = rw (before-kept (t .put .put) (place + k) (omega arith) (omega arith)) (bytes-more t lt)
-
--- The bytes of a row stand in the buffer from one place up to another.
-pub record Stands (out : List ℕ) (from next : ℕ) (bytes : List ℕ) : Type 0 where
-  pub ends : next ≡ from + length bytes
-  pub same : bytesAt out from (length bytes) ≡ bytes
-
-pub stands-put : {out after bytes : List ℕ} {at end : ℕ} → Fits out at bytes → after ≡ over out at bytes → end ≡ at + length bytes → Stands after at end bytes
-stands-put {out} {after} {bytes} {at} fits e f = record { ends = f; same = rw e (over-there out at bytes (fits .within)) }
-
--- they are put again behind themselves
-module _ {out bytes : List ℕ} {from at : ℕ} (t : Stands out from at bytes) where
-  again-size : at - from ≡ length bytes
-  again-size = omega (arith, t .ends)
-
-  pub again-fits : Fits out at bytes → (from ≤ at) × (at + (at - from) ≤ length out)
-  again-fits fits = (omega (arith, t .ends), omega (arith, fits .within, again-size))
-
-  pub again-put : {after : List ℕ} {end : ℕ} → (end ≡ at + (at - from)) × (after ≡ over out at (bytesAt out from (at - from))) → (end ≡ at + length bytes) × (after ≡ over out at bytes)
-  again-put p = rw (again-size, t .same) at p
 
 -- a null, one byte
 module _ {out bytes : List ℕ} {at : ℕ} (fits : Fits out at bytes) (e : bytes ≡ 0 ∷ []) where

@@ -3,7 +3,8 @@
 use mathlib.Core.Path.{_≡_, refl, sym, ap, _∙_}
 use mathlib.Core.Bool.{Bool, true, false, cond}
 use mathlib.Core.List.{List, [], _∷_}
-use Prim.Native.Nat.{ℕ, _+_, _-_, _≤_, _<_}
+use Prim.Native.Nat.{ℕ, _+_, _*_, _-_, _/_, _≤_, _<_}
+use native.Mathlib.Nat.{zero-mul, div-lt-iff-lt-mul, le-div-iff-mul-le}
 use native.Mathlib.Omega.{arith}
 use lib.Dec.{ltb}
 use lib.ListN.{length, length-append}
@@ -59,6 +60,20 @@ room-moved room n x = cases (ltb room n) refl
         let le : n ≤ room = ltb-false room n t in
         let same : room - n ≡ room + x - (x + n) = omega arith in
         sym (fits-left room n le) ∙ ap Left same ∙ fits-left (room + x) (x + n) (omega arith)
+
+-- bytes so many times, by the quotient
+module _ (room size times : ℕ) (some : 0 < size) where
+  pub times-none : times ≡ 0 → Left room ≡ roomAfter room (times * size)
+  times-none e =
+      let none : times * size ≡ 0 = rw e (zero-mul size) in
+      let same : room ≡ room - times * size = omega arith in
+      ap Left same ∙ fits-left room (times * size) (omega arith)
+
+  pub times-short : room / size < times → Short ≡ roomAfter room (times * size)
+  times-short lt = past-short room (times * size) (div-lt-iff-lt-mul some .0 lt)
+
+  pub times-fit : times ≤ room / size → times * size ≤ room
+  times-fit le = le-div-iff-mul-le some .0 le
 
 -- n bytes are still to be measured where left is left, of all bytes where there was room.
 pub record ToMeasure (room all left n : ℕ) : Type 0 where

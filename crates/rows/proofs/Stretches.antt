@@ -1,163 +1,173 @@
--- A stretch of rows, one after another: beside each a run is kept, and a row in the run of the row before it is the same row.
--- Its bytes are then those that stand before the place that is reached, and it takes as much room as the row before it took.
+-- A stretch of rows, one after another, those of one run at once: they are the same row.
+-- So the first of them, put or measured, tells the bytes of the others, which are the next pieces of the whole.
 use mathlib.Core.Path.{_≡_, sym, ap, _∙_}
-use mathlib.Core.List.{List, [], _++_}
-use Prim.Native.Nat.{ℕ, _+_, _-_, _<_, _≤_}
+use mathlib.Core.List.{List, [], _++_, append-assoc}
+use Prim.Native.Nat.{ℕ, zero, suc, _+_, _*_, _-_, _<_, _≤_}
 use native.Mathlib.Omega.{arith}
-use lib.ListN.{length}
+use lib.ListN.{length, length-append}
 use Rattle.image.specs.Bytes.{bytesAt}
 use Rattle.image.specs.Row.{rowAt, range}
 use Rattle.image.specs.RowBytes.{rowBytes, rowsBytes}
 use Rattle.accepted.specs.declared.column.Column.{Column}
+use Rattle.accepted.specs.declared.column.Stay.{Stay}
 use Rattle.accepted.specs.Parts.{Side}
-use Rattle.accepted.specs.Runs.{Kept}
+use Rattle.accepted.specs.Runs.{Kept, Stays}
 use Rattle.accepted.proofs.Columns.{same-row}
 use Rattle.rows.specs.declared.measure.Room.the-variants.{Left, Short}
-use Rattle.rows.specs.Output.{over, roomAfter, Fits}
-use Rattle.rows.proofs.Joined.{joined, joined-first, rows-joined}
-use Rattle.rows.proofs.Over.{ToPut, put-start, put-as, put-fits, put-more, put-last, put-place, put-done, PiecesToPut, pieces-from, pieces-fit, pieces-more, pieces-place, pieces-done, Stands, stands-put, again-fits, again-put}
-use Rattle.rows.proofs.Rooms.{PiecesToMeasure, measuring-start, measuring-more, measuring-short, measuring-done, left-told}
+use Rattle.rows.specs.Output.{over, repeated, roomAfter, Fits}
+use Rattle.rows.proofs.Joined.{joined, joined-start, joined-first, rows-joined}
+use Rattle.rows.proofs.Over.{ToPut, put-start, put-place, put-done, PiecesToPut, pieces-start, pieces-fit, pieces-more, pieces-place, pieces-done, put-as, put-fits, put-more}
+use Rattle.rows.proofs.Repeats.{repeated-length, Stands, stands-put}
+use Rattle.rows.proofs.Rooms.{PiecesToMeasure, measuring-start, measuring-more, measuring-short, measuring-done, measure-more, measure-short, left-told, fits-left}
+use Rattle.rows.proofs.RowParts.{row-some}
 
 -- the bytes of row j
 abbrev pub bytesOf : ℕ → List ℕ → ℕ → ℕ → List ℕ
 bytesOf depth s k j = rowBytes (rowAt depth s k j)
 
--- the rows of a stretch: the first, two that follow each other, and the run that is kept at the second
+-- pieces of which the first m are the same bytes
+joined-same : (p : ℕ → List ℕ) (i n m : ℕ) (b : List ℕ) → m ≤ n → ((h : ℕ) → h < m → p (i + h) ≡ b) → joined p i n ≡ repeated m b ++ joined p (i + m) (n - m)
+unfolding repeated
+joined-same p i n zero b le same = sym (joined-start p i n)
+joined-same p i n (suc m) b le same =
+    let here : i + 0 ≡ i = omega arith in
+    let place : i + 1 + m ≡ i + suc m = omega arith in
+    let count : n - 1 - m ≡ n - suc m = omega arith in
+    let first : p i ≡ b = rw here at (same 0 (omega arith)) in
+    let rest : joined p (i + 1) (n - 1) ≡ repeated m b ++ joined p (i + 1 + m) (n - 1 - m) = joined-same p (i + 1) (n - 1) m b (omega arith) (λ h lt.
+    let e : i + 1 + h ≡ i + suc h = omega arith in
+    rw e (same (suc h) (omega arith))) in
+    joined-first p i n (omega arith) ∙ rw (first, rest, place, count) (sym (append-assoc b (repeated m b) (joined p (i + suc m) (n - suc m))))
+
+-- what the rows of a stretch ask for: the first, and those from row h on
 module _ {s : List ℕ} {k i n : ℕ} (r : Side s k i n) where
   pub first-row : (n ≡ 0 → ⊥) → Side s k i 1
   first-row some = record { image = r .image; node = r .node; rows = omega (arith, r .rows) }
 
-  pub two-rows : (h : ℕ) → h + 1 < n → Side s k (i + h) 2
-  two-rows h lt = record { image = r .image; node = r .node; rows = omega (arith, r .rows) }
+  pub rows-from : (h : ℕ) → h < n → Side s k (i + h) (n - h)
+  rows-from h lt = record { image = r .image; node = r .node; rows = omega (arith, r .rows) }
 
-pub kept-next : {s : List ℕ} {k : ℕ} {c : Column} (i h : ℕ) {run : ℕ} → Kept s k c (i + h + 1) run → Kept s k c (i + (h + 1)) run
-kept-next i h at =
-    let e : i + h + 1 ≡ i + (h + 1) = omega arith in
-    rw e at at
-
--- the second is in the run of the first
-same-bytes : (depth : ℕ) {s : List ℕ} {k i n : ℕ} (h : ℕ) {c : Column} {last run : ℕ} → Side s k i n → h + 1 < n → Kept s k c (i + h) last → Kept s k c (i + h + 1) run → run ≡ last → bytesOf depth s k (i + h) ≡ bytesOf depth s k (i + (h + 1))
-same-bytes depth {s} {k} {i} {n} h r lt at next e =
-    let place : i + h + 1 ≡ i + (h + 1) = omega arith in
-    ap rowBytes (same-row (two-rows r h lt) at (rw (← e) next) depth ∙ ap (rowAt depth s k) place)
-
--- Of n rows from row i on the first stands, and of those behind it the ones up to row h are put; the last of them stands
--- from one place up to the place that is reached.
-pub record Writing (depth : ℕ) (s : List ℕ) (k : ℕ) (c : Column) (i n : ℕ) (out₀ : List ℕ) (at : ℕ) (out : List ℕ) (run from next h : ℕ) : Type 0 where
-  pub few : h < n
-  pub kept : Kept s k c (i + h) run
-  pub put : PiecesToPut (bytesOf depth s k) (i + 1) (n - 1) out₀ at out next h
-  pub last : Stands out from next (bytesOf depth s k (i + h))
-
-module _ (depth : ℕ) (s : List ℕ) (k i n : ℕ) {out : List ℕ} {at : ℕ} (fits : Fits out at (rowsBytes (range (rowAt depth s k) i n))) (some : n ≡ 0 → ⊥) where
-  none-put : ToPut out at (rowsBytes (range (rowAt depth s k) i n)) out at (bytesOf depth s k i ++ joined (bytesOf depth s k) (i + 1) (n - 1))
-  none-put = put-as (put-start fits) (rows-joined (rowAt depth s k) i n ∙ joined-first (bytesOf depth s k) i n some)
-
-  pub first-fits : Fits out at (bytesOf depth s k i)
-  first-fits = put-fits _ _ none-put
-
-  module _ {next : ℕ} {after : List ℕ} (f : (next ≡ at + length (bytesOf depth s k i)) × (after ≡ over out at (bytesOf depth s k i))) where
-    first-put : ToPut out at (rowsBytes (range (rowAt depth s k) i n)) after next (joined (bytesOf depth s k) (i + 1) (n - 1))
-    first-put = put-more _ _ none-put (f .1) (f .0)
-
-    pub writing-start : {c : Column} {run : ℕ} → Kept s k c i run → Writing depth s k c i n after next after run at next 0
-    writing-start kept =
-        let e : i + 0 ≡ i = omega arith in
-        record { few = omega arith; kept = rw e kept; put = pieces-from first-put; last = rw e (stands-put first-fits (f .1) (f .0)) }
-
-    pub writing-done : {c : Column} {written : List ℕ} {run from end h : ℕ} → Writing depth s k c i n after next written run from end h → n ≤ h + 1
-        → (end ≡ at + length (rowsBytes (range (rowAt depth s k) i n))) × (written ≡ over out at (rowsBytes (range (rowAt depth s k) i n)))
-    writing-done w le = put-last first-put (pieces-done (w .put) (omega arith)) (pieces-place (w .put) (omega arith))
-
--- the next row
-module _ {depth : ℕ} {s : List ℕ} {k : ℕ} {c : Column} {i n : ℕ} {out₀ : List ℕ} {at : ℕ} {out : List ℕ} {last from next h : ℕ} (w : Writing depth s k c i n out₀ at out last from next h) (lt : h + 1 < n) where
-  next-place : i + 1 + h ≡ i + (h + 1)
-  next-place = omega arith
-
-  pub next-fits : Fits out next (bytesOf depth s k (i + (h + 1)))
-  next-fits = rw next-place at (pieces-fit (w .put) (omega arith))
-
-  pub writing-more : {run end : ℕ} {after : List ℕ} → Kept s k c (i + h + 1) run → (end ≡ next + length (bytesOf depth s k (i + (h + 1)))) × (after ≡ over out next (bytesOf depth s k (i + (h + 1))))
-      → Writing depth s k c i n out₀ at after run next end (h + 1)
-  writing-more kept f = record {
-    few = lt;
-    kept = kept-next i h kept;
-    put = pieces-more (w .put) (omega arith) (rw next-place (f .1)) (rw next-place (f .0));
-    last = stands-put next-fits (f .1) (f .0);
-  }
-
-  -- it is in the run of the last
-  module _ {run : ℕ} (r : Side s k i n) (kept : Kept s k c (i + h + 1) run) (e : run ≡ last) where
-    stands-same : Stands out from next (bytesOf depth s k (i + (h + 1)))
-    stands-same = rw (same-bytes depth h r lt (w .kept) kept e) at (w .last)
-
-    pub same-fits : (from ≤ next) × (next + (next - from) ≤ length out)
-    same-fits = again-fits stands-same next-fits
-
-    pub writing-same : {end : ℕ} {after : List ℕ} → (end ≡ next + (next - from)) × (after ≡ over out next (bytesAt out from (next - from))) → Writing depth s k c i n out₀ at after run next end (h + 1)
-    writing-same f = writing-more kept (again-put stands-same f)
+-- the rows behind row i in its run are the same row
+module _ (depth : ℕ) {s : List ℕ} {k : ℕ} {c : Column} {i n : ℕ} (h : ℕ) {run : ℕ} {stay : Stay} (r : Side s k i n) (st : Stays s k c (i + h) (n - h) run stay) where
+  pub rows-same : (q : ℕ) → q < stay .rows - 1 → bytesOf depth s k (i + (h + 1) + q) ≡ bytesOf depth s k (i + h)
+  rows-same q lt =
+      let e : i + h + 0 ≡ i + h = omega arith in
+      let f : i + h + (1 + q) ≡ i + (h + 1) + q = omega arith in
+      ap rowBytes (rw (e, f) at (sym (same-row (r .image) (r .node) (st .same 0 (st .some)) (st .same (1 + q) (omega arith)) depth)))
 
 -- no rows
-pub none-written : (depth : ℕ) (s : List ℕ) (k i : ℕ) {n at : ℕ} {out : List ℕ} → n ≡ 0 → Fits out at (rowsBytes (range (rowAt depth s k) i n))
-    → (at ≡ at + length (rowsBytes (range (rowAt depth s k) i n))) × (out ≡ over out at (rowsBytes (range (rowAt depth s k) i n)))
-unfolding range rowsBytes
-none-written depth s k i e fits =
-    let none : ToPut _ _ _ _ _ [] = put-as (put-start fits) (rw e) in
-    (put-place none, put-done none)
+module _ (depth : ℕ) (s : List ℕ) (k i n : ℕ) (none : n ≡ 0) where
+  none-bytes : rowsBytes (range (rowAt depth s k) i n) ≡ []
+  unfolding range rowsBytes
+  none-bytes = rw none
 
--- Of n rows from row i on, those up to row h are measured; the last of them takes so many bytes.
-pub record Measuring (depth : ℕ) (s : List ℕ) (k : ℕ) (c : Column) (i n room run left size h : ℕ) : Type 0 where
-  pub few : h < n
-  pub kept : Kept s k c (i + h) run
-  pub taken : size ≡ length (bytesOf depth s k (i + h))
-  pub measure : PiecesToMeasure (bytesOf depth s k) i n room left (h + 1)
+  pub none-written : {at : ℕ} {out : List ℕ} → Fits out at (rowsBytes (range (rowAt depth s k) i n)) → (at ≡ at + length (rowsBytes (range (rowAt depth s k) i n))) × (out ≡ over out at (rowsBytes (range (rowAt depth s k) i n)))
+  none-written {at} {out} fits =
+      let all : ToPut out at (rowsBytes (range (rowAt depth s k) i n)) out at [] = put-as (put-start fits) none-bytes in
+      (put-place all, put-done all)
 
-module _ (depth : ℕ) (s : List ℕ) (k i n room : ℕ) where
+  pub none-measured : (room : ℕ) → Left room ≡ roomAfter room (length (rowsBytes (range (rowAt depth s k) i n)))
+  none-measured room =
+      let e : room ≡ room - length (rowsBytes (range (rowAt depth s k) i n)) = omega (arith, ap length none-bytes) in
+      ap Left e ∙ fits-left room (length (rowsBytes (range (rowAt depth s k) i n))) (omega (arith, ap length none-bytes))
+
+-- Of n rows from row i on, those before row h are put.
+pub record Writing (depth : ℕ) (s : List ℕ) (k : ℕ) (c : Column) (i n : ℕ) (out₀ : List ℕ) (at : ℕ) (out : List ℕ) (run next h : ℕ) : Type 0 where
+  pub kept : h < n → Kept s k c (i + h) run
+  pub put : PiecesToPut (bytesOf depth s k) i n out₀ at out next h
+
+pub writing-start : (depth : ℕ) (s : List ℕ) (k i n : ℕ) {c : Column} {out : List ℕ} {at run : ℕ} → Fits out at (rowsBytes (range (rowAt depth s k) i n)) → Kept s k c i run → Writing depth s k c i n out at out run at 0
+writing-start depth s k i n fits kept =
+    let e : i + 0 ≡ i = omega arith in
+    record { kept = λ lt. rw e kept; put = pieces-start (bytesOf depth s k) i n (rw (rows-joined (rowAt depth s k) i n) at fits) }
+
+module _ {depth : ℕ} {s : List ℕ} {k : ℕ} {c : Column} {i n : ℕ} {out₀ : List ℕ} {at : ℕ} {out : List ℕ} {run next h : ℕ} (w : Writing depth s k c i n out₀ at out run next h) where
+  -- the rows of a run: the first is put, and then the others
+  module _ (lt : h < n) where
+    pub row-fits : Fits out next (bytesOf depth s k (i + h))
+    row-fits = pieces-fit (w .put) lt
+
+    module _ {stay : Stay} (r : Side s k i n) (st : Stays s k c (i + h) (n - h) run stay) {end : ℕ} {one : List ℕ} (f : (end ≡ next + length (bytesOf depth s k (i + h))) × (one ≡ over out next (bytesOf depth s k (i + h)))) where
+      one-put : PiecesToPut (bytesOf depth s k) i n out₀ at one end (h + 1)
+      one-put = pieces-more (w .put) lt (f .1) (f .0)
+
+      others : joined (bytesOf depth s k) (i + (h + 1)) (n - (h + 1)) ≡ repeated (stay .rows - 1) (bytesOf depth s k (i + h)) ++ joined (bytesOf depth s k) (i + (h + 1) + (stay .rows - 1)) (n - (h + 1) - (stay .rows - 1))
+      others = joined-same (bytesOf depth s k) (i + (h + 1)) (n - (h + 1)) (stay .rows - 1) (bytesOf depth s k (i + h)) (omega (arith, st .within, st .some)) (rows-same depth h r st)
+
+      row-stands : Stands one next end (bytesOf depth s k (i + h))
+      row-stands = stands-put row-fits (f .1) (f .0)
+
+      row-size : end - next ≡ length (bytesOf depth s k (i + h))
+      row-size = omega (arith, f .0)
+
+      others-size : length (repeated (stay .rows - 1) (bytesOf depth s k (i + h))) ≡ (stay .rows - 1) * (end - next)
+      others-size = repeated-length (stay .rows - 1) (bytesOf depth s k (i + h)) ∙ ap (λ (x : ℕ). (stay .rows - 1) * x) (sym row-size)
+
+      pub others-fit : (end - next ≤ end) × (end + (stay .rows - 1) * (end - next) ≤ length one)
+      others-fit = (omega arith, omega (arith, others-size, put-fits (repeated (stay .rows - 1) (bytesOf depth s k (i + h))) (joined (bytesOf depth s k) (i + (h + 1) + (stay .rows - 1)) (n - (h + 1) - (stay .rows - 1))) (put-as (one-put .put) others) .within))
+
+      pub writing-more : {stop : ℕ} {all : List ℕ} → (stop ≡ end + (stay .rows - 1) * (end - next)) × (all ≡ over one end (repeated (stay .rows - 1) (bytesAt one (end - (end - next)) (end - next))))
+          → Writing depth s k c i n out₀ at all (stay .next) stop (h + stay .rows)
+      writing-more {stop} {all} g =
+          let from : end - (end - next) ≡ next = omega (arith, f .0) in
+          let bytes : bytesAt one (end - (end - next)) (end - next) ≡ bytesOf depth s k (i + h) = rw (from, row-size) (row-stands .same) in
+          let place : i + (h + 1) + (stay .rows - 1) ≡ i + (h + stay .rows) = omega (arith, st .some) in
+          let count : n - (h + 1) - (stay .rows - 1) ≡ n - (h + stay .rows) = omega (arith, st .some) in
+          let behind : i + h + stay .rows ≡ i + (h + stay .rows) = omega arith in
+          record {
+            kept = λ l. rw behind at (st .next (omega arith));
+            put = record { put = put-more _ _ (put-as (one-put .put) (rw (place, count) at others)) (rw bytes at (g .1)) (omega (arith, g .0, others-size)) };
+          }
+
+  pub writing-done : n ≤ h → (next ≡ at + length (rowsBytes (range (rowAt depth s k) i n))) × (out ≡ over out₀ at (rowsBytes (range (rowAt depth s k) i n)))
+  writing-done le = rw (rows-joined (rowAt depth s k) i n) (pieces-place (w .put) le, pieces-done (w .put) le)
+
+-- Of n rows from row i on, those before row h are measured.
+pub record Measuring (depth : ℕ) (s : List ℕ) (k : ℕ) (c : Column) (i n room run left h : ℕ) : Type 0 where
+  pub kept : h < n → Kept s k c (i + h) run
+  pub measure : PiecesToMeasure (bytesOf depth s k) i n room left h
+
+pub measured-start : (depth : ℕ) (s : List ℕ) (k i n room : ℕ) {c : Column} {run : ℕ} → Kept s k c i run → Measuring depth s k c i n room run room 0
+measured-start depth s k i n room kept =
+    let e : i + 0 ≡ i = omega arith in
+    record { kept = λ lt. rw e kept; measure = measuring-start (bytesOf depth s k) i n }
+
+module _ {depth : ℕ} {s : List ℕ} {k : ℕ} {c : Column} {i n room run left h : ℕ} (m : Measuring depth s k c i n room run left h) where
   as-rows : roomAfter room (length (joined (bytesOf depth s k) i n)) ≡ roomAfter room (length (rowsBytes (range (rowAt depth s k) i n)))
   as-rows = ap (λ (b : List ℕ). roomAfter room (length b)) (sym (rows-joined (rowAt depth s k) i n))
 
-  none-measured : PiecesToMeasure (bytesOf depth s k) i n room room 0
-  none-measured = measuring-start (bytesOf depth s k) i n
+  -- the rows of a run: the first is measured, and then the others
+  module _ (lt : h < n) where
+    pub row-short : Short ≡ roomAfter left (length (bytesOf depth s k (i + h))) → Short ≡ roomAfter room (length (rowsBytes (range (rowAt depth s k) i n)))
+    row-short f = measuring-short (m .measure) lt f ∙ as-rows
 
-  pub none-left : n ≡ 0 → Left room ≡ roomAfter room (length (rowsBytes (range (rowAt depth s k) i n)))
-  none-left e = measuring-done none-measured (omega arith) ∙ as-rows
+    module _ {one : ℕ} (f : Left one ≡ roomAfter left (length (bytesOf depth s k (i + h)))) where
+      pub row-took : left ≡ one + length (bytesOf depth s k (i + h))
+      row-took = left-told left (length (bytesOf depth s k (i + h))) one f
 
-  module _ (some : n ≡ 0 → ⊥) where
-    pub first-short : Short ≡ roomAfter room (length (bytesOf depth s k i)) → Short ≡ roomAfter room (length (rowsBytes (range (rowAt depth s k) i n)))
-    first-short f =
-        let e : i + 0 ≡ i = omega arith in
-        measuring-short none-measured (omega arith) (rw e f) ∙ as-rows
+      pub row-takes : 0 < left - one
+      row-takes = omega (arith, row-took, row-some (rowAt depth s k (i + h)))
 
-    pub measured-start : {c : Column} {run left : ℕ} → Kept s k c i run → Left left ≡ roomAfter room (length (bytesOf depth s k i)) → Measuring depth s k c i n room run left (room - left) 0
-    measured-start {left = left} at f =
-        let e : i + 0 ≡ i = omega arith in
-        record {
-          few = omega arith;
-          kept = rw e at;
-          taken = rw e (omega (arith, left-told room (length (bytesOf depth s k i)) left f));
-          measure = measuring-more none-measured (omega arith) (rw e f);
-        }
+      module _ {stay : Stay} (r : Side s k i n) (st : Stays s k c (i + h) (n - h) run stay) where
+        others-measured : length (joined (bytesOf depth s k) (i + (h + 1)) (n - (h + 1))) ≡ (stay .rows - 1) * (left - one) + length (joined (bytesOf depth s k) (i + (h + stay .rows)) (n - (h + stay .rows)))
+        others-measured =
+            let size : length (bytesOf depth s k (i + h)) ≡ left - one = omega (arith, row-took) in
+            let place : i + (h + 1) + (stay .rows - 1) ≡ i + (h + stay .rows) = omega (arith, st .some) in
+            let count : n - (h + 1) - (stay .rows - 1) ≡ n - (h + stay .rows) = omega (arith, st .some) in
+            ap length (joined-same (bytesOf depth s k) (i + (h + 1)) (n - (h + 1)) (stay .rows - 1) (bytesOf depth s k (i + h)) (omega (arith, st .within, st .some)) (rows-same depth h r st))
+            ∙ length-append (repeated (stay .rows - 1) (bytesOf depth s k (i + h))) (joined (bytesOf depth s k) (i + (h + 1) + (stay .rows - 1)) (n - (h + 1) - (stay .rows - 1)))
+            ∙ rw (repeated-length (stay .rows - 1) (bytesOf depth s k (i + h)), size, place, count)
 
-module _ {depth : ℕ} {s : List ℕ} {k : ℕ} {c : Column} {i n room last left size h : ℕ} (m : Measuring depth s k c i n room last left size h) where
-  -- the next row
-  module _ (lt : h + 1 < n) where
-    pub next-short : Short ≡ roomAfter left (length (bytesOf depth s k (i + (h + 1)))) → Short ≡ roomAfter room (length (rowsBytes (range (rowAt depth s k) i n)))
-    next-short f = measuring-short (m .measure) lt f ∙ as-rows depth s k i n room
+        pub others-short : Short ≡ roomAfter one ((stay .rows - 1) * (left - one)) → Short ≡ roomAfter room (length (rowsBytes (range (rowAt depth s k) i n)))
+        others-short g = measure-short (measuring-more (m .measure) lt f .measure) _ _ others-measured g ∙ as-rows
 
-    module _ {run rest : ℕ} (kept : Kept s k c (i + h + 1) run) where
-      pub measured-more : Left rest ≡ roomAfter left (length (bytesOf depth s k (i + (h + 1)))) → Measuring depth s k c i n room run rest (left - rest) (h + 1)
-      measured-more f = record { few = lt; kept = kept-next i h kept; taken = omega (arith, left-told left _ rest f); measure = measuring-more (m .measure) lt f }
+        pub measured-more : {all : ℕ} → Left all ≡ roomAfter one ((stay .rows - 1) * (left - one)) → Measuring depth s k c i n room (stay .next) all (h + stay .rows)
+        measured-more g =
+            let behind : i + h + stay .rows ≡ i + (h + stay .rows) = omega arith in
+            record {
+              kept = λ l. rw behind at (st .next (omega arith));
+              measure = record { measure = measure-more (measuring-more (m .measure) lt f .measure) _ _ others-measured g };
+            }
 
-    -- it is in the run of the last
-    module _ {run : ℕ} (r : Side s k i n) (kept : Kept s k c (i + h + 1) run) (e : run ≡ last) where
-      same-size : size ≡ length (bytesOf depth s k (i + (h + 1)))
-      same-size = m .taken ∙ ap length (same-bytes depth h r lt (m .kept) kept e)
-
-      pub same-short : Short ≡ roomAfter left size → Short ≡ roomAfter room (length (rowsBytes (range (rowAt depth s k) i n)))
-      same-short f = next-short (rw same-size at f)
-
-      pub measured-same : {rest : ℕ} → Left rest ≡ roomAfter left size → Measuring depth s k c i n room run rest size (h + 1)
-      measured-same f = record { few = lt; kept = kept-next i h kept; taken = same-size; measure = measuring-more (m .measure) lt (rw same-size at f) }
-
-  pub measured-done : n ≤ h + 1 → Left left ≡ roomAfter room (length (rowsBytes (range (rowAt depth s k) i n)))
-  measured-done le = measuring-done (m .measure) le ∙ as-rows depth s k i n room
+  pub measured-done : n ≤ h → Left left ≡ roomAfter room (length (rowsBytes (range (rowAt depth s k) i n)))
+  measured-done le = measuring-done (m .measure) le ∙ as-rows

@@ -5,8 +5,9 @@ use crate::value::value_at;
 use accepted::column::Column;
 use accepted::column::column_of;
 use accepted::column::first_run;
-use accepted::column::run_after;
+use accepted::column::stay_of;
 ghost use mathlib.Core.Path.{_≡_};
+ghost use Prim.Native.Nat.{_*_, _<_};
 ghost use lib.ListN.{length};
 ghost use Rattle.image.specs.Row.{rowAt, range};
 ghost use Rattle.image.specs.RowBytes.{rowBytes, rowsBytes};
@@ -22,14 +23,18 @@ pub enum Room {
     Short,
 }
 
-// The room that is left after so many bytes.
-fn room_after(room: usize, size: usize) -> Room
-    ensures { λ r. ⌜ r ≡ roomAfter room size ⌝ }
+// The room that is left after so many bytes, taken so many times. Nothing is multiplied that does not fit.
+fn room_after(room: usize, size: usize, times: usize) -> Room
+    requires { ⌜ 0 < size ⌝ }
+    ensures { λ r. ⌜ r ≡ roomAfter room (times * size) ⌝ }
 {
-    if room < size {
+    if times == 0 {
+        return Room::Left(room);
+    }
+    if room / size < times {
         return Room::Short;
     }
-    Room::Left(room - size)
+    Room::Left(room - times * size)
 }
 
 // The room that is left after row i of a node, beside which a run is kept.
@@ -70,8 +75,8 @@ fn measure_row(
     Room::Left(left)
 }
 
-// The room that is left after n rows of a node from row i on. A row in the run of the row before it is the same row, and
-// takes as much.
+// The room that is left after n rows of a node from row i on. The rows of one run are the same row, and
+// each takes as much.
 pub fn measure_rows(s: &[u8], node: u32, i: usize, n: usize, depth: usize, room: usize) -> Room
     requires { ⌜ Side (now s) node i n ⌝ }
     ensures { λ r. ⌜ r ≡ roomAfter room (length (rowsBytes (range (rowAt depth (now (s .entry)) node) i n))) ⌝ }
@@ -81,28 +86,19 @@ pub fn measure_rows(s: &[u8], node: u32, i: usize, n: usize, depth: usize, room:
     }
     let column = column_of(s, node);
     let mut run = first_run(s, node, column, i);
-    let Room::Left(first) = measure_row(s, node, column, i, run, depth, room) else {
-        return Room::Short;
-    };
-    let mut left = first;
-    let mut size = room - first;
+    let mut left = room;
     let mut k: usize = 0;
-    while k + 1 < n {
-        let last = run;
-        run = run_after(s, node, column, i + k, last);
-        k += 1;
-        if run == last {
-            let Room::Left(rest) = room_after(left, size) else {
-                return Room::Short;
-            };
-            left = rest;
-        } else {
-            let Room::Left(rest) = measure_row(s, node, column, i + k, run, depth, left) else {
-                return Room::Short;
-            };
-            size = left - rest;
-            left = rest;
-        }
+    while k < n {
+        let stay = stay_of(s, node, column, i + k, n - k, run);
+        let Room::Left(one) = measure_row(s, node, column, i + k, run, depth, left) else {
+            return Room::Short;
+        };
+        let Room::Left(all) = room_after(one, left - one, stay.rows - 1) else {
+            return Room::Short;
+        };
+        left = all;
+        run = stay.next;
+        k += stay.rows;
     }
     Room::Left(left)
 }

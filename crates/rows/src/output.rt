@@ -1,9 +1,10 @@
 // Bytes put into a lent buffer. Each function answers the place after what it put.
+use accepted::runs::least;
 ghost use mathlib.Core.Path.{_≡_};
-ghost use Prim.Native.Nat.{_+_, _-_, _≤_};
+ghost use Prim.Native.Nat.{_+_, _*_, _-_, _<_, _≤_, _^_};
 ghost use lib.ListN.{length};
 ghost use Rattle.image.specs.Bytes.{numberBytes, bytesAt};
-ghost use Rattle.rows.specs.Output.{over};
+ghost use Rattle.rows.specs.Output.{over, repeated};
 
 // The w bytes of a number, the lowest first.
 pub fn put_number(out: &mut [u8], at: usize, x: usize, w: usize) -> usize
@@ -35,17 +36,37 @@ pub fn put_bytes(out: &mut [u8], at: usize, s: &[u8], place: usize, n: usize) ->
     at + n
 }
 
-// The bytes from a place up to another once more, behind them.
-pub fn put_again(out: &mut [u8], from: usize, at: usize) -> usize
-    requires { ⌜ (from ≤ at) × (at + (at - from) ≤ length (now out)) ⌝ }
-    ensures { λ r. ⌜ r ≡ at + (at - from) ⌝ }
-    ensures { λ _. ⌜ now (out .exit) ≡ over (now (out .entry)) at (bytesAt (now (out .entry)) from (at - from)) ⌝ }
+// n bytes of the buffer itself, which stand before the place where they are put.
+fn put_again(out: &mut [u8], at: usize, from: usize, n: usize) -> usize
+    requires { ⌜ (from + n ≤ at) × (at + n ≤ length (now out)) ⌝ }
+    ensures { λ r. ⌜ r ≡ at + n ⌝ }
+    ensures { λ _. ⌜ now (out .exit) ≡ over (now (out .entry)) at (bytesAt (now (out .entry)) from n) ⌝ }
 {
-    let n = at - from;
     let mut k: usize = 0;
     while k < n {
         out[at + k] = out[from + k];
         k += 1;
     }
     at + n
+}
+
+// The n bytes before a place so many times more, behind them. Each time all that stands is put, so long as it is not too
+// much.
+pub fn put_times(out: &mut [u8], at: usize, n: usize, times: usize) -> usize
+    requires { ⌜ (n ≤ at) × (at + times * n ≤ length (now out)) ⌝ }
+    requires { ⌜ times < 2 ^ 34 ⌝ }
+    ensures { λ r. ⌜ r ≡ at + times * n ⌝ }
+    ensures { λ _. ⌜ now (out .exit) ≡ over (now (out .entry)) at (repeated times (bytesAt (now (out .entry)) (at - n) n)) ⌝ }
+{
+    let from = at - n;
+    let mut next = at;
+    let mut there: usize = 1;
+    let mut left = times;
+    while left > 0 {
+        let m = least(there, left);
+        next = put_again(out, next, from, m * n);
+        there += m;
+        left -= m;
+    }
+    next
 }

@@ -1,14 +1,14 @@
 // The bytes of rows, put into a lent buffer that has room for them.
-use crate::output::put_again;
 use crate::output::put_bytes;
 use crate::output::put_number;
+use crate::output::put_times;
 use crate::value::Value;
 use crate::value::is_null;
 use crate::value::value_at;
 use accepted::column::Column;
 use accepted::column::column_of;
 use accepted::column::first_run;
-use accepted::column::run_after;
+use accepted::column::stay_of;
 ghost use mathlib.Core.Path.{_≡_};
 ghost use Prim.Native.Nat.{_+_, _≤_};
 ghost use lib.ListN.{length};
@@ -68,8 +68,8 @@ fn write_row(
     next
 }
 
-// n rows of a node from row i on, put at a place of the buffer; the answer is the place after them. A row in the run of the
-// row before it is the same row, whose bytes are put again.
+// n rows of a node from row i on, put at a place of the buffer; the answer is the place after them. The rows of
+// one run are the same row, whose bytes are put again.
 pub fn write_rows(
     s: &[u8],
     node: u32,
@@ -89,20 +89,14 @@ pub fn write_rows(
     }
     let column = column_of(s, node);
     let mut run = first_run(s, node, column, i);
-    let mut from = at;
-    let mut next = write_row(s, node, column, i, run, depth, out, at);
+    let mut next = at;
     let mut k: usize = 0;
-    while k + 1 < n {
-        let last = run;
-        let before = from;
-        run = run_after(s, node, column, i + k, last);
-        from = next;
-        k += 1;
-        if run == last {
-            next = put_again(out, before, from);
-        } else {
-            next = write_row(s, node, column, i + k, run, depth, out, from);
-        }
+    while k < n {
+        let stay = stay_of(s, node, column, i + k, n - k, run);
+        let end = write_row(s, node, column, i + k, run, depth, out, next);
+        next = put_times(out, end, end - next, stay.rows - 1);
+        run = stay.next;
+        k += stay.rows;
     }
     next
 }

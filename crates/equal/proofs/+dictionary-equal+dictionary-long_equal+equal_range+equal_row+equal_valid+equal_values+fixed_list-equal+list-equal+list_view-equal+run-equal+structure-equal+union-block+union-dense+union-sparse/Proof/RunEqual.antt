@@ -16,7 +16,7 @@ use Rattle.equal.proofs.+dictionary-equal+dictionary-long_equal+equal_r
 use Rattle.equal.proofs.equal_range.Reads as equal-range
 use Rattle.equal.proofs.equal_row.Reads as equal-row
 use Rattle.equal.proofs.run.equal.Reads as run·equal
-use Rattle.equal.proofs.run.least.Reads as least-reads
+use Rattle.accepted.proofs.runs.least.Reads as least-reads
 use Rattle.image.proofs.record.first_child.Reads as first-child-reads
 use Rattle.values.proofs.leaf.leaves_of.Reads as leaves-of-reads
 use Rattle.image.proofs.element.ends_of.Reads as ends-of-reads

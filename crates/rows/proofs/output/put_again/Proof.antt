@@ -1,4 +1,4 @@
--- `put_again` puts bytes of the buffer over it once more, behind themselves.
+-- `put_again` puts bytes of the buffer over it once more, behind them.
 -- The loop keeps that the bytes from byte k on, put after those that were put, give the whole; what is read stands before.
 use mathlib.Core.Path.{refl}
 use Rattle.rows.proofs.Over.{BytesToPut, bytes-start, bytes-done, again-more}
@@ -9,13 +9,10 @@ use Rattle.rows.proofs.output.put_again.Statement.{statement}
 use Rattle.rows.proofs.output.put_again.Tie as tie
 
 abbrev Inv-loop : tie.InvT-loop
-Inv-loop out₀ from at n k₀ out k = BytesToPut out₀ from (at - from) out₀ at out k
+Inv-loop out₀ at from n k₀ out k = BytesToPut out₀ from n out₀ at out k
 
 abbrev μ-loop : tie.MeasureT-loop
-μ-loop out₀ from at n k₀ out k = at - from - k
-
-sub-n : tie.Need-sub-n Inv-loop μ-loop
-sub-n c = omega (arith, c .pre .0)
+μ-loop out₀ at from n k₀ out k = n - k
 
 loop-holds : tie.Need-loop-holds Inv-loop μ-loop
 loop-holds c = bytes-start (c .pre .1)
@@ -39,7 +36,7 @@ loop-less : tie.Need-loop-less Inv-loop μ-loop
 loop-less c = search needs
 
 loop-again : tie.Need-loop-again Inv-loop μ-loop
-loop-again c = again-more (c .before .before .loop .inv) (c .before .loop-test .taken) (omega (arith, c .before .before .before .pre .0))
+loop-again c = again-more (c .before .before .loop .inv) (c .before .loop-test .taken) (c .before .before .before .pre .0)
 
 add-result : tie.Need-add-result Inv-loop μ-loop
 add-result c = search needs
@@ -56,7 +53,6 @@ put-again-spec =
     (tie.spec
     Inv-loop
     μ-loop
-    sub-n
     loop-holds
     add-out
     slice-read-out

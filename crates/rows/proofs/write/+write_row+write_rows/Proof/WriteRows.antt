@@ -1,8 +1,7 @@
--- `write_rows` puts row after row, those in one run by putting the bytes of the row before again.
--- The loop keeps that the rows up to row k are put, where the last of them stands, and its run.
-use mathlib.Core.Path.{_∙_}
+-- `write_rows` puts row after row, those of one run by putting the bytes of the first again.
+-- The loop keeps that the rows before row k are put, and the run that is kept there.
 use Rattle.rows.proofs.RowParts.{side-few, side-row}
-use Rattle.rows.proofs.Stretches.{first-row, two-rows, kept-next, Writing, first-fits, writing-start, next-fits, writing-more, same-fits, writing-same, writing-done, none-written}
+use Rattle.rows.proofs.Stretches.{first-row, rows-from, none-written, Writing, writing-start, row-fits, others-fit, writing-more, writing-done}
 use Prim.Native.Nat.{ℕ, _-_}
 use native.Mathlib.Omega.{arith}
 use borrow.Author.Needs.{needs}
@@ -10,22 +9,22 @@ use Rattle.rows.proofs.write.write_row.Reads as write-row
 use Rattle.rows.proofs.write.write_rows.Reads as write-rows
 use Rattle.accepted.proofs.column.column_of.Reads as column-of-reads
 use Rattle.accepted.proofs.column.first_run.Reads as first-run-reads
-use Rattle.accepted.proofs.column.run_after.Reads as run-after-reads
-use Rattle.rows.proofs.output.put_again.Reads as put-again-reads
+use Rattle.accepted.proofs.column.stay_of.Reads as stay-of-reads
+use Rattle.rows.proofs.output.put_times.Reads as put-times-reads
 use Rattle.rows.proofs.write.+write_row+write_rows.Lts-write_rows as lts
 use Rattle.rows.proofs.write.+write_row+write_rows.Proof.Measures.{write-rows-at, write-row-below}
 
 abbrev calls : ℕ → lts.Claims
-calls t = (column-of-reads.Asked, column-of-reads.Learnt, first-run-reads.Asked, first-run-reads.Learnt, write-row-below t, write-row.Post, run-after-reads.Asked, run-after-reads.Learnt, put-again-reads.Asked, put-again-reads.Learnt)
+calls t = (column-of-reads.Asked, column-of-reads.Learnt, first-run-reads.Asked, first-run-reads.Learnt, stay-of-reads.Asked, stay-of-reads.Learnt, write-row-below t, write-row.Post, put-times-reads.Asked, put-times-reads.Learnt)
 
 abbrev Inv-loop : lts.InvT-loop
-Inv-loop s node i n depth out₀ at column run₀ from₀ next₀ k₀ out run from next k = Writing depth s node column i n out₀ next₀ out run from next k
+Inv-loop s node i n depth out₀ at column run₀ next₀ k₀ out run next k = Writing depth s node column i n out₀ at out run next k
 
 abbrev μ-loop : lts.MeasureT-loop
-μ-loop s node i n depth out₀ at column run₀ from₀ next₀ k₀ out run from next k = n - k
+μ-loop s node i n depth out₀ at column run₀ next₀ k₀ out run next k = n - k
 
 returns : (t : ℕ) → lts.Need-returns (calls t) (write-rows-at t) write-rows.Post Inv-loop μ-loop
-returns t c = none-written _ _ _ _ (c .if1 .taken) (c .before .before .before .pre .1 .1)
+returns t c = none-written _ _ _ _ _ (c .if1 .taken) (c .before .before .before .pre .1 .1)
 
 column-of-requires : (t : ℕ) → lts.Need-column-of-requires (calls t) (write-rows-at t) write-rows.Post Inv-loop μ-loop
 column-of-requires t c κs = search needs
@@ -33,50 +32,47 @@ column-of-requires t c κs = search needs
 first-run-requires : (t : ℕ) → lts.Need-first-run-requires (calls t) (write-rows-at t) write-rows.Post Inv-loop μ-loop
 first-run-requires t c κs = (first-row (c .before .before .before .before .pre .1 .0) (c .before .if1 .left), c .column-of .ensures)
 
-write-row-requires : (t : ℕ) → lts.Need-write-row-requires (calls t) (write-rows-at t) write-rows.Post Inv-loop μ-loop
-write-row-requires t c κs = (omega (arith, c .before .before .before .before .before .before .pre .0), (first-row (c .before .before .before .before .before .before .pre .1 .0) (c .before .before .before .if1 .left), (c .before .first-run .ensures, first-fits _ _ _ _ _ (c .before .before .before .before .before .before .pre .1 .1) (c .before .before .before .if1 .left))))
-
 loop-holds : (t : ℕ) → lts.Need-loop-holds (calls t) (write-rows-at t) write-rows.Post Inv-loop μ-loop
-loop-holds t c = writing-start _ _ _ _ _ (c .before .before .before .before .before .before .before .before .before .pre .1 .1) (c .before .before .before .before .before .before .if1 .left) (c .before .before .write-row .ensures) (c .before .before .before .before .first-run .ensures)
+loop-holds t c = writing-start _ _ _ _ _ (c .before .before .before .before .before .pre .1 .1) (c .first-run .ensures)
 
-add-loop : (t : ℕ) → lts.Need-add-loop (calls t) (write-rows-at t) write-rows.Post Inv-loop μ-loop
-add-loop t c = omega (arith, side-few (c .before .before .before .before .before .before .before .before .before .before .pre .1 .0), c .loop .inv .few)
+add-stay-of : (t : ℕ) → lts.Need-add-stay-of (calls t) (write-rows-at t) write-rows.Post Inv-loop μ-loop
+add-stay-of t c = omega (arith, side-few (c .before .before .before .before .before .before .before .pre .1 .0), c .loop-test .taken)
 
-add-run-after : (t : ℕ) → lts.Need-add-run-after (calls t) (write-rows-at t) write-rows.Post Inv-loop μ-loop
-add-run-after t c = omega (arith, side-few (c .before .before .before .before .before .before .before .before .before .before .before .pre .1 .0))
+sub-stay-of : (t : ℕ) → lts.Need-sub-stay-of (calls t) (write-rows-at t) write-rows.Post Inv-loop μ-loop
+sub-stay-of t c = omega (arith, c .loop-test .taken)
 
-run-after-requires : (t : ℕ) → lts.Need-run-after-requires (calls t) (write-rows-at t) write-rows.Post Inv-loop μ-loop
-run-after-requires t c κs = (two-rows (c .before .before .before .before .before .before .before .before .before .before .before .pre .1 .0) _ (c .loop-test .taken), c .before .loop .inv .kept)
-
-add-k : (t : ℕ) → lts.Need-add-k (calls t) (write-rows-at t) write-rows.Post Inv-loop μ-loop
-add-k t c = search needs
-
-put-again-requires : (t : ℕ) → lts.Need-put-again-requires (calls t) (write-rows-at t) write-rows.Post Inv-loop μ-loop
-put-again-requires t c κs = same-fits (c .before .before .before .before .loop .inv) (c .before .before .before .loop-test .taken) (c .before .before .before .before .before .before .before .before .before .before .before .before .before .before .pre .1 .0) (c .before .before .run-after .ensures) (c .before .if2 .taken)
-
-loop-less : (t : ℕ) → lts.Need-loop-less (calls t) (write-rows-at t) write-rows.Post Inv-loop μ-loop
-loop-less t c = search needs
-
-loop-again : (t : ℕ) → lts.Need-loop-again (calls t) (write-rows-at t) write-rows.Post Inv-loop μ-loop
-loop-again t c = writing-same (c .before .before .before .before .before .before .before .loop .inv) (c .before .before .before .before .before .before .loop-test .taken) (c .before .before .before .before .before .before .before .before .before .before .before .before .before .before .before .before .before .pre .1 .0) (c .before .before .before .before .before .run-after .ensures) (c .before .before .before .before .if2 .taken) (c .before .before .put-again .ensures)
+stay-of-requires : (t : ℕ) → lts.Need-stay-of-requires (calls t) (write-rows-at t) write-rows.Post Inv-loop μ-loop
+stay-of-requires t c κs = ((rows-from (c .before .before .before .before .before .before .before .pre .1 .0) _ (c .loop-test .taken), omega (arith, c .loop-test .taken)), c .before .loop .inv .kept (c .loop-test .taken))
 
 add-write-row : (t : ℕ) → lts.Need-add-write-row (calls t) (write-rows-at t) write-rows.Post Inv-loop μ-loop
-add-write-row t c = omega (arith, side-few (c .before .before .before .before .before .before .before .before .before .before .before .before .before .pre .1 .0), c .before .before .loop-test .taken)
+add-write-row t c = omega (arith, side-few (c .before .before .before .before .before .before .before .before .pre .1 .0), c .before .loop-test .taken)
 
-write-row-requires-2 : (t : ℕ) → lts.Need-write-row-requires-2 (calls t) (write-rows-at t) write-rows.Post Inv-loop μ-loop
-write-row-requires-2 t c κs = (omega (arith, c .before .before .before .before .before .before .before .before .before .before .before .before .before .before .pre .0), (side-row (c .before .before .before .before .before .before .before .before .before .before .before .before .before .before .pre .1 .0) (c .before .before .before .loop-test .taken), (kept-next _ _ (c .before .before .run-after .ensures), next-fits (c .before .before .before .before .loop .inv) (c .before .before .before .loop-test .taken))))
+write-row-requires : (t : ℕ) → lts.Need-write-row-requires (calls t) (write-rows-at t) write-rows.Post Inv-loop μ-loop
+write-row-requires t c κs = (omega (arith, c .before .before .before .before .before .before .before .before .before .pre .0), (side-row (c .before .before .before .before .before .before .before .before .before .pre .1 .0) (c .before .before .loop-test .taken), (c .before .before .before .loop .inv .kept (c .before .before .loop-test .taken), row-fits (c .before .before .before .loop .inv) (c .before .before .loop-test .taken))))
 
-loop-less-2 : (t : ℕ) → lts.Need-loop-less-2 (calls t) (write-rows-at t) write-rows.Post Inv-loop μ-loop
-loop-less-2 t c = search needs
+sub-put-times : (t : ℕ) → lts.Need-sub-put-times (calls t) (write-rows-at t) write-rows.Post Inv-loop μ-loop
+sub-put-times t c = omega (arith, c .before .before .before .write-row .ensures .0)
 
-loop-again-2 : (t : ℕ) → lts.Need-loop-again-2 (calls t) (write-rows-at t) write-rows.Post Inv-loop μ-loop
-loop-again-2 t c = writing-more (c .before .before .before .before .before .before .before .loop .inv) (c .before .before .before .before .before .before .loop-test .taken) (c .before .before .before .before .before .run-after .ensures) (c .before .before .write-row2 .ensures)
+sub-put-times-2 : (t : ℕ) → lts.Need-sub-put-times-2 (calls t) (write-rows-at t) write-rows.Post Inv-loop μ-loop
+sub-put-times-2 t c = omega (arith, c .before .before .before .before .before .before .stay-of .ensures .some)
+
+put-times-requires : (t : ℕ) → lts.Need-put-times-requires (calls t) (write-rows-at t) write-rows.Post Inv-loop μ-loop
+put-times-requires t c κs = (others-fit (c .before .before .before .before .before .before .before .before .loop .inv) (c .before .before .before .before .before .before .before .loop-test .taken) (c .before .before .before .before .before .before .before .before .before .before .before .before .before .before .pre .1 .0) (c .before .before .before .before .before .before .stay-of .ensures) (c .before .before .before .before .write-row .ensures), omega (arith, c .before .before .before .before .before .before .stay-of .ensures .within, side-few (c .before .before .before .before .before .before .before .before .before .before .before .before .before .before .pre .1 .0)))
+
+add-k : (t : ℕ) → lts.Need-add-k (calls t) (write-rows-at t) write-rows.Post Inv-loop μ-loop
+add-k t c = omega (arith, c .before .before .before .before .before .before .before .before .before .before .stay-of .ensures .within, side-few (c .before .before .before .before .before .before .before .before .before .before .before .before .before .before .before .before .before .before .pre .1 .0), c .before .before .before .before .before .before .before .before .before .before .before .loop-test .taken)
+
+loop-less : (t : ℕ) → lts.Need-loop-less (calls t) (write-rows-at t) write-rows.Post Inv-loop μ-loop
+loop-less t c = omega (arith, c .before .before .before .before .before .before .before .before .before .before .stay-of .ensures .some, c .before .before .before .before .before .before .before .before .before .before .stay-of .ensures .within, c .before .before .before .before .before .before .before .before .before .before .before .loop-test .taken)
+
+loop-again : (t : ℕ) → lts.Need-loop-again (calls t) (write-rows-at t) write-rows.Post Inv-loop μ-loop
+loop-again t c = writing-more (c .before .before .before .before .before .before .before .before .before .before .before .before .loop .inv) (c .before .before .before .before .before .before .before .before .before .before .before .loop-test .taken) (c .before .before .before .before .before .before .before .before .before .before .before .before .before .before .before .before .before .before .pre .1 .0) (c .before .before .before .before .before .before .before .before .before .before .stay-of .ensures) (c .before .before .before .before .before .before .before .before .write-row .ensures) (c .before .before .before .put-times .ensures)
 
 same-length : (t : ℕ) → lts.Need-same-length (calls t) (write-rows-at t) write-rows.Post Inv-loop μ-loop
-same-length t c = c .before .loop .inv .put .put .long ∙ c .before .before .before .before .write-row .kept .1 .1 .1 .1 .1 .1 .0
+same-length t c = c .before .loop .inv .put .put .long
 
 returns-2 : (t : ℕ) → lts.Need-returns-2 (calls t) (write-rows-at t) write-rows.Post Inv-loop μ-loop
-returns-2 t c = writing-done _ _ _ _ _ (c .before .before .before .before .before .before .before .before .before .before .before .pre .1 .1) (c .before .before .before .before .before .before .before .before .if1 .left) (c .before .before .before .before .write-row .ensures) (c .before .loop .inv) (c .loop-test .left)
+returns-2 t c = writing-done (c .before .loop .inv) (c .loop-test .left)
 
 pub proof : {M : Type 1} (t : ℕ) → lts.Closed (calls t) (write-rows-at t) write-rows.Post M
 proof t =
@@ -84,18 +80,17 @@ proof t =
     (returns t)
     (column-of-requires t)
     (first-run-requires t)
-    (write-row-requires t)
     (loop-holds t)
-    (add-loop t)
-    (add-run-after t)
-    (run-after-requires t)
+    (add-stay-of t)
+    (sub-stay-of t)
+    (stay-of-requires t)
+    (add-write-row t)
+    (write-row-requires t)
+    (sub-put-times t)
+    (sub-put-times-2 t)
+    (put-times-requires t)
     (add-k t)
-    (put-again-requires t)
     (loop-less t)
     (loop-again t)
-    (add-write-row t)
-    (write-row-requires-2 t)
-    (loop-less-2 t)
-    (loop-again-2 t)
     (same-length t)
     (returns-2 t)
