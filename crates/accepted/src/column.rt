@@ -26,17 +26,18 @@ pub struct Column {
 pub fn column_of(s: &[u8], node: u32) -> Column
     ensures { λ r. ⌜ ColumnRead (now (s .entry)) node r ⌝ }
 {
-    if code(s, node) == TypeCode::RUN_END_ENCODED {
+    let first = offset(s, node);
+    if code(s, node) != TypeCode::RUN_END_ENCODED {
         return Column {
-            runs: true,
-            offset: offset(s, node),
-            ends: ends_of(s, node),
+            runs: false,
+            offset: first,
+            ends: EndsAt { width: 0, place: 0 },
         };
     }
     Column {
-        runs: false,
-        offset: offset(s, node),
-        ends: EndsAt { width: 0, place: 0 },
+        runs: true,
+        offset: first,
+        ends: ends_of(s, node),
     }
 }
 

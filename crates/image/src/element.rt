@@ -55,14 +55,6 @@ pub fn is_kept(image: &[u8], node: u32, mask: Mask, i: usize) -> bool
     bit(image, mask.place, mask.first + i)
 }
 
-// Row i is not null.
-pub fn is_valid(image: &[u8], node: u32, i: usize) -> bool
-    requires { ⌜ i < 2 ^ 34 ⌝ }
-    ensures { λ r. ⌜ r ≡ valid (now (image .entry)) node i ⌝ }
-{
-    is_kept(image, node, mask_of(image, node), i)
-}
-
 // The width in bytes of an element of the node's first buffer.
 pub fn element_width(image: &[u8], node: u32) -> usize
     ensures { λ r. ⌜ r ≡ elementWidth (now (image .entry)) node ⌝ }

@@ -7,8 +7,8 @@ use Prim.Native.Nat.{ℕ, zero, suc, _+_, _-_, _≤_, _<_}
 use native.Mathlib.Omega.{arith}
 use lib.ListN.{length, length-append}
 use borrow.Author.Tests.{not-true, not-false}
-use Rattle.image.specs.Bytes.{numberBytes, bytesAt}
-use Rattle.image.specs.Record.{codeOf, offsetOf}
+use Rattle.image.specs.Bytes.{bitAt, numberBytes, bytesAt}
+use Rattle.image.specs.Record.{codeOf, offsetOf, hasBitmap, bitmapPlace, firstBit}
 use Rattle.image.specs.TypeCode.{layoutOf}
 use Rattle.image.specs.Element.{valid}
 use Rattle.image.specs.Reads.{Read}
@@ -44,6 +44,15 @@ pub bit-null : (depth : ℕ) (s : List ℕ) (k i : ℕ) {b : Bool} → (depth �
 unfolding isNull
 bit-null zero s k i deep e = absurd (deep refl)
 bit-null (suc depth) s k i deep e = ap not e
+
+-- the row's bit, by whether there is a bitmap
+pub no-bitmap : (s : List ℕ) (k i : ℕ) → hasBitmap s k ≡ false → true ≡ valid s k i
+unfolding valid
+no-bitmap s k i e = rw e
+
+pub by-bitmap : (s : List ℕ) (k i : ℕ) {p f : ℕ} {b : Bool} → hasBitmap s k ≡ true → Read (bitmapPlace s k) 32 p → Read (firstBit s k) 32 f → b ≡ bitAt s p (f + i) → b ≡ valid s k i
+unfolding valid
+by-bitmap s k i e ep ef eb = rw (e, ← ep .value, ← ef .value) eb
 
 -- a null is one byte
 pub row-null : (depth : ℕ) (s : List ℕ) (k i : ℕ) → isNull depth s k i ≡ true → rowBytes (rowAt depth s k i) ≡ 0 ∷ []

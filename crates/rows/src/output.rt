@@ -36,22 +36,21 @@ pub fn put_bytes(out: &mut [u8], at: usize, s: &[u8], place: usize, n: usize) ->
     at + n
 }
 
-// n bytes of the buffer itself, which stand before the place where they are put.
-fn put_again(out: &mut [u8], at: usize, from: usize, n: usize) -> usize
-    requires { ⌜ (from + n ≤ at) × (at + n ≤ length (now out)) ⌝ }
-    ensures { λ r. ⌜ r ≡ at + n ⌝ }
-    ensures { λ _. ⌜ now (out .exit) ≡ over (now (out .entry)) at (bytesAt (now (out .entry)) from n) ⌝ }
+// Bytes of the buffer itself, which stand before the place where they are put.
+fn put_again(out: &mut [u8], at: usize, from: usize, size: usize) -> usize
+    requires { ⌜ (from + size ≤ at) × (at + size ≤ length (now out)) ⌝ }
+    ensures { λ r. ⌜ r ≡ at + size ⌝ }
+    ensures { λ _. ⌜ now (out .exit) ≡ over (now (out .entry)) at (bytesAt (now (out .entry)) from size) ⌝ }
 {
     let mut k: usize = 0;
-    while k < n {
+    while k < size {
         out[at + k] = out[from + k];
         k += 1;
     }
-    at + n
+    at + size
 }
 
-// The n bytes before a place so many times more, behind them. Each time all that stands is put, so long as it is not too
-// much.
+// The n bytes before a place so many times more, behind them. Each time all of them that stand are put, if so many are left.
 pub fn put_times(out: &mut [u8], at: usize, n: usize, times: usize) -> usize
     requires { ⌜ (n ≤ at) × (at + times * n ≤ length (now out)) ⌝ }
     requires { ⌜ times < 2 ^ 34 ⌝ }

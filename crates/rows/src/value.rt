@@ -9,12 +9,14 @@ use image::bytes::wide;
 use image::element::VIEW_SIZE;
 use image::element::child_with_id;
 use image::element::element_width;
-use image::element::is_valid;
 use image::element::offset_at;
+use image::record::bitmap_place;
 use image::record::buffer_place;
 use image::record::child_count;
 use image::record::code;
+use image::record::first_bit;
 use image::record::first_child;
+use image::record::has_bitmap;
 use image::record::p1;
 use image::type_code::Layout;
 use image::type_code::TypeCode;
@@ -213,7 +215,10 @@ pub fn is_null(s: &[u8], node: u32, i: usize, depth: usize) -> bool
     if depth == 0 {
         return true;
     }
-    !is_valid(s, node, i)
+    if !has_bitmap(s, node) {
+        return false;
+    }
+    !bit(s, bitmap_place(s, node), first_bit(s, node) + i)
 }
 
 // The value at element j of a node, beside which a run is kept.

@@ -9,10 +9,10 @@ use Rattle.rows.proofs.output.put_again.Statement.{statement}
 use Rattle.rows.proofs.output.put_again.Tie as tie
 
 abbrev Inv-loop : tie.InvT-loop
-Inv-loop out₀ at from n k₀ out k = BytesToPut out₀ from n out₀ at out k
+Inv-loop out₀ at from size k₀ out k = BytesToPut out₀ from size out₀ at out k
 
 abbrev μ-loop : tie.MeasureT-loop
-μ-loop out₀ at from n k₀ out k = n - k
+μ-loop out₀ at from size k₀ out k = size - k
 
 loop-holds : tie.Need-loop-holds Inv-loop μ-loop
 loop-holds c = bytes-start (c .pre .1)
