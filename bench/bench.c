@@ -14,7 +14,7 @@
  * rows have a bitmap too. Where row 0 differs, the figures are the least of 301: the call, `editions_check` of both images, the
  * call on no rows, which checks both images and compares their types, and the first less the last, which is the search.
  *
- * The third table, of text, is that of text.c. */
+ * The third table, of text, is that of text.c; the fourth, of rows of runs that are written, that of write.c. */
 #include "../host/editions_calls.h"
 #include "bench.h"
 
@@ -570,7 +570,7 @@ static void search_table(void)
 static const struct table {
     const char *name;
     void (*print)(void);
-} TABLES[] = {{"compare", compare_table}, {"search", search_table}, {"text", text_table}};
+} TABLES[] = {{"compare", compare_table}, {"search", search_table}, {"text", text_table}, {"write", write_table}};
 
 enum { TABLE_COUNT = sizeof TABLES / sizeof TABLES[0] };
 

@@ -62,4 +62,7 @@ static inline double median(double *times)
 /* The third table: what the check of text takes. */
 void text_table(void);
 
+/* The fourth table: what writing rows of runs takes. */
+void write_table(void);
+
 #endif
