@@ -8,7 +8,7 @@ use Prim.Native.Nat.{ℕ, _+_, _<_, _≤_}
 use native.Mathlib.Omega.{arith}
 use native.Mathlib.Nat.{lt-of-not-le, le-antisymm}
 use lib.Dec.{ltb}
-use borrow.Author.Tests.{ltb-true, ltb-false}
+use borrow.Author.Tests.{lt-ltb, le-ltb, ltb-true, ltb-false}
 use Rattle.image.specs.Record.{elementsOf}
 use Rattle.image.specs.Element.{runEndAt, runAt}
 use Rattle.laws.specs.Accepted.{RunsCover}
@@ -27,6 +27,15 @@ module _ {s : List ℕ} {k : ℕ} (cover : RunsCover s k) where
       let past : runAt s k x < runAt s k y = lt-of-not-le (λ (le : runAt s k y ≤ runAt s k x). omega (arith, ends-rise cover (runAt s k y) (runAt s k x) le (cover .run x lx), cover .above y ly)) in
       run-is cover y (runAt s k x + 1) ly (λ q l. omega (arith, ends-rise cover q (runAt s k x) (omega arith) (cover .run x lx)))
       (omega (arith, cover .rise (runAt s k x) (runAt s k x + 1) (omega arith) (omega (arith, cover .run y ly))))
+
+-- the step, where the next element lies below the run's end, and where it does not
+pub step-stays : (j run end : ℕ) → j + 1 < end → run ≡ nextRun j run end
+unfolding nextRun
+step-stays j run end lt = rw (lt-ltb (j + 1) end lt)
+
+pub step-leaves : (j run end : ℕ) → end ≤ j + 1 → run + 1 ≡ nextRun j run end
+unfolding nextRun
+step-leaves j run end le = rw (le-ltb (j + 1) end le)
 
 -- From an element to the next: the run of the next is `nextRun` of the run and of that run's end.
 pub run-next : {s : List ℕ} {k : ℕ} (j : ℕ) → RunPart s k (j + 1) → runAt s k (j + 1) ≡ nextRun j (runAt s k j) (runEndAt s k (runAt s k j))

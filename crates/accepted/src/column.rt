@@ -22,6 +22,12 @@ pub struct Column {
     pub ends: EndsAt,
 }
 
+// How long a run is kept: so many rows from a row on, and the run that is kept behind them.
+pub struct Stay {
+    pub rows: usize,
+    pub next: usize,
+}
+
 // What is read once of a node.
 pub fn column_of(s: &[u8], node: u32) -> Column
     ensures { λ r. ⌜ ColumnRead (now (s .entry)) node r ⌝ }
@@ -54,14 +60,8 @@ pub fn first_run(s: &[u8], node: u32, column: Column, i: usize) -> usize
     run_of(s, node, j)
 }
 
-// How long a run is kept: so many rows from a row on, and the run that is kept behind them.
-pub struct Stay {
-    pub rows: usize,
-    pub next: usize,
-}
-
-// How many of the n rows from row i on are in the run that is kept at row i, and the run behind them: one run end is read,
-// that of this run.
+// How many of the n rows from row i on are in the run that is kept at row i, and the run behind them: of run ends only
+// that of this run is read.
 pub fn stay_of(s: &[u8], node: u32, column: Column, i: usize, n: usize, run: usize) -> Stay
     requires { ⌜ Side (now s) node i n × (0 < n) ⌝ }
     requires { ⌜ Kept (now s) node column i run ⌝ }

@@ -75,8 +75,8 @@ fn measure_row(
     Room::Left(left)
 }
 
-// The room that is left after n rows of a node from row i on. The rows of one run are the same row, and
-// each takes as much.
+// The room that is left after n rows of a node from row i on. The rows of one run are the same row, and take as much
+// each.
 pub fn measure_rows(s: &[u8], node: u32, i: usize, n: usize, depth: usize, room: usize) -> Room
     requires { ⌜ Side (now s) node i n ⌝ }
     ensures { λ r. ⌜ r ≡ roomAfter room (length (rowsBytes (range (rowAt depth (now (s .entry)) node) i n))) ⌝ }

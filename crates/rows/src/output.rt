@@ -50,7 +50,7 @@ fn put_again(out: &mut [u8], at: usize, from: usize, size: usize) -> usize
     at + size
 }
 
-// The n bytes before a place so many times more, behind them. Each time all of them that stand are put, if so many are left.
+// The n bytes before a place so many times more, behind them. Each time as many are put as stand, or as are left.
 pub fn put_times(out: &mut [u8], at: usize, n: usize, times: usize) -> usize
     requires { ⌜ (n ≤ at) × (at + times * n ≤ length (now out)) ⌝ }
     requires { ⌜ times < 2 ^ 34 ⌝ }

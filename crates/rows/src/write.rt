@@ -68,8 +68,8 @@ fn write_row(
     next
 }
 
-// n rows of a node from row i on, put at a place of the buffer; the answer is the place after them. The rows of
-// one run are the same row, whose bytes are put again.
+// n rows of a node from row i on, put at a place of the buffer; the answer is the place after them. The rows of one
+// run are the same row, whose bytes are put again.
 pub fn write_rows(
     s: &[u8],
     node: u32,

@@ -1,7 +1,7 @@
 -- `next_run` steps by the current run's end.
-use borrow.Author.Tests.{lt-ltb, le-ltb}
-use Rattle.accepted.specs.Runs.{nextRun}
+use native.Mathlib.Omega.{arith}
 use borrow.Author.Needs.{needs}
+use Rattle.accepted.proofs.RunSteps.{step-stays, step-leaves}
 use Rattle.accepted.proofs.runs.next_run.Statement.{statement}
 use Rattle.accepted.proofs.runs.next_run.Tie as tie
 
@@ -12,12 +12,10 @@ add-result : tie.Need-add-result
 add-result c = search needs
 
 returns : tie.Need-returns
-unfolding nextRun
-returns c = rw (lt-ltb _ _ (c .if1 .taken))
+returns c = step-stays _ _ _ (omega (arith, c .if1 .taken))
 
 returns-2 : tie.Need-returns-2
-unfolding nextRun
-returns-2 c = rw (le-ltb _ _ (c .if1 .left))
+returns-2 c = step-leaves _ _ _ (omega (arith, c .if1 .left))
 
 pub next-run-spec : {M : Type 1} → statement M
 next-run-spec = tie.close (tie.spec add-if1 add-result returns returns-2)
