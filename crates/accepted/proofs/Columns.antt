@@ -2,11 +2,14 @@
 -- Where the rows are in runs it stays up to the current run's end; else each element is one. Rows beside which the same run
 -- is kept are the same row: a row of runs is that of its run's value, and is never null.
 use mathlib.Core.Path.{_≡_, refl, sym, ap, _∙_}
-use mathlib.Core.Bool.{Bool, true, false}
-use mathlib.Core.List.{List}
+use mathlib.Core.Bool.{Bool, true, false, cond}
+use mathlib.Core.List.{List, replicate}
 use Prim.Native.Nat.{ℕ, zero, suc, _+_, _-_, _<_, _≤_, min}
 use native.Mathlib.Omega.{arith}
-use borrow.Author.Tests.{eqb-true, eq-eqb}
+use lib.Dec.{eqb}
+use lib.ListN.{length, getD, set, length-set, length-replicate, getD-replicate}
+use lib.Seq.{getD-set-same, getD-set-other}
+use borrow.Author.Tests.{eqb-true, eqb-false, eq-eqb}
 use Rattle.image.specs.declared.type_code.Layout.the-variants.{Runs}
 use Rattle.image.specs.Record.{nodeCount, codeOf, offsetOf, elementsOf}
 use Rattle.image.specs.TypeCode.{layoutOf, entryOf, entries}
@@ -16,7 +19,7 @@ use Rattle.laws.specs.Accepted.{AcceptedImage, RunsCover}
 use Rattle.laws.proofs.Codes.{runs-code}
 use Rattle.accepted.specs.declared.column.Column.{Column}
 use Rattle.accepted.specs.Parts.{Side, RunPart}
-use Rattle.accepted.specs.Runs.{nextRun, inRuns, keptRun, ColumnRead, Kept, Stays}
+use Rattle.accepted.specs.Runs.{nextRun, inRuns, keptRun, ColumnRead, Kept, Behind, Stays, Remembered, remembering}
 use Rattle.accepted.proofs.Nodes.{side-small}
 use Rattle.accepted.proofs.RunEnds.{runs-cover, runs-few}
 use Rattle.accepted.proofs.RunSteps.{run-stays, run-next}
@@ -44,6 +47,10 @@ row-runs : {s : List ℕ} {k i n : ℕ} → Side s k i n → inRuns s k ≡ true
 unfolding elementsOf
 row-runs {s} {k} r e h lt = record { image = r .image; node = r .node; runs = runs-layout s k e; element = omega (arith, r .rows) }
 
+-- a node's number
+pub node-few : {s : List ℕ} {k i n : ℕ} → Side s k i n → k < 256
+node-few r = omega (arith, r .node, r .image .tables .few-nodes)
+
 module _ {s : List ℕ} {k i : ℕ} {c : Column} where
   -- the first of the rows that are asked
   module _ (r : Side s k i 1) (read : ColumnRead s k c) where
@@ -61,6 +68,9 @@ module _ {s : List ℕ} {k i : ℕ} {c : Column} where
     pub first-kept : {run : ℕ} → c .runs ≡ true → run ≡ runAt s k (c .offset + i) → Kept s k c i run
     first-kept e same = record { column = read; same = same ∙ sym (kept-run s k (c .offset + i) (sym (read .runs) ∙ e)) }
 
+    pub first-remembered : {runs : List ℕ} → Remembered s runs → c .runs ≡ true → getD runs k 0 ≡ c .offset + i + 1 → Kept s k c i (getD runs (256 + k) 0)
+    first-remembered t e place = first-kept e (t .run k (c .offset + i) (node-few r) place (first-part e))
+
   -- the rows from row i on
   module _ {n run : ℕ} (r : Side s k i n) (some : 0 < n) (at : Kept s k c i run) where
     pub stay-small : c .offset + i + n ≤ 1073741824
@@ -74,9 +84,13 @@ module _ {s : List ℕ} {k i : ℕ} {c : Column} where
       same = λ h lt.
           let e : i + h ≡ i = omega arith in
           rw e at;
-      next = λ lt.
-          let e : c .offset + i + 1 ≡ c .offset + (i + 1) = omega arith in
-          record { column = at .column; same = e ∙ sym (kept-alone s k (c .offset + (i + 1)) (sym (at .column .runs) ∙ none)) };
+      next = record {
+        column = at .column;
+        alone = λ _. omega arith;
+        held = λ e part.
+            let differ : _≡_ {A = ℕ} 0 1 = cc in
+            absurd (omega arith);
+      };
     }
 
     module _ (e : c .runs ≡ true) where
@@ -115,13 +129,83 @@ module _ {s : List ℕ} {k i : ℕ} {c : Column} where
           some = omega (arith, stay-above);
           within = omega arith;
           same = λ h lt. held h (stays h (omega arith) (omega arith));
-          next = λ lt.
-              let last : c .offset + i + (rows - 1) ≡ c .offset + (i + (rows - 1)) = omega arith in
-              let behind : c .offset + (i + (rows - 1)) + 1 ≡ c .offset + (i + rows) = omega (arith, stay-above) in
-              let run-last : run ≡ runAt s k (c .offset + (i + (rows - 1))) = stays (rows - 1) (omega arith) (omega (arith, stay-above)) in
-              let part : RunPart s k (c .offset + (i + (rows - 1)) + 1) = rw behind (element rows lt) in
-              held rows (en ∙ ap (λ (x : ℕ). nextRun x run end) last ∙ rw (ee, run-last) (sym (run-next (c .offset + (i + (rows - 1))) part)) ∙ ap (runAt s k) behind);
+          next = record {
+            column = at .column;
+            alone = λ none. let differ : _≡_ {A = ℕ} 0 1 = cc in absurd (omega arith);
+            held = λ _ part.
+                let last : c .offset + i + (rows - 1) ≡ c .offset + (i + (rows - 1)) = omega arith in
+                let behind : c .offset + (i + (rows - 1)) + 1 ≡ c .offset + (i + rows) = omega (arith, stay-above) in
+                let run-last : run ≡ runAt s k (c .offset + (i + (rows - 1))) = stays (rows - 1) (omega arith) (omega (arith, stay-above)) in
+                en ∙ ap (λ (x : ℕ). nextRun x run end) last ∙ rw (ee, run-last) (sym (run-next (c .offset + (i + (rows - 1))) (rw behind part))) ∙ ap (runAt s k) behind;
+          };
         }
+
+-- a row that is there, beside which a run is kept if it is there
+pub behind-kept : {s : List ℕ} {k i n run : ℕ} {c : Column} → Side s k i n → 0 < n → Behind s k c i run → Kept s k c i run
+behind-kept {s} {k} {i} {n} {run} {c} r some at = record { column = at .column; same = cases (c .runs) refl }
+  where
+    cases : (b : Bool) → c .runs ≡ b → run ≡ keptRun s k (c .offset + i)
+    cases true e =
+        let place : offsetOf s k + i + 0 ≡ c .offset + i = omega (arith, at .column .offset .value) in
+        at .held e (rw place at (row-runs r (sym (at .column .runs) ∙ e) 0 some)) ∙ sym (kept-run s k (c .offset + i) (sym (at .column .runs) ∙ e))
+    cases false e = at .alone e ∙ sym (kept-alone s k (c .offset + i) (sym (at .column .runs) ∙ e))
+
+pub kept-behind : {s : List ℕ} {k i run : ℕ} {c : Column} → Kept s k c i run → Behind s k c i run
+kept-behind {s} {k} {i} {run} {c} at = record {
+  column = at .column;
+  alone = λ e. at .same ∙ kept-alone s k (c .offset + i) (sym (at .column .runs) ∙ e);
+  held = λ e part. at .same ∙ kept-run s k (c .offset + i) (sym (at .column .runs) ∙ e);
+}
+
+-- the runs that are remembered: none at first, then the one behind some rows
+pub none-remembered : (s : List ℕ) → Remembered s (replicate 512 0)
+none-remembered s = record {
+  sized = length-replicate {A = ℕ} 512 0;
+  run = λ k j lt e part. absurd (omega (arith, e, getD-replicate {A = ℕ} 512 k 0 0 (omega arith)));
+}
+
+remembered-more : {s runs : List ℕ} {k i run : ℕ} {c : Column} → Remembered s runs → k < 256 → Behind s k c i run → Remembered s (remembering runs k c i run)
+unfolding remembering
+remembered-more {s} {runs} {k} {i} {run} {c} t few at = cases (c .runs) refl
+  where
+    all : List ℕ
+    all = set (set runs k (c .offset + i + 1)) (256 + k) run
+
+    long : length (set runs k (c .offset + i + 1)) ≡ 512
+    long = length-set runs k (c .offset + i + 1) ∙ t .sized
+
+    -- of this node
+    here : c .runs ≡ true → (j : ℕ) → getD all k 0 ≡ j + 1 → RunPart s k j → getD all (256 + k) 0 ≡ runAt s k j
+    here e j place part =
+        let apart : k ≡ 256 + k → ⊥ = λ (x : k ≡ 256 + k). omega arith in
+        let first : getD all k 0 ≡ c .offset + i + 1 = getD-set-other (set runs k (c .offset + i + 1)) (256 + k) k run 0 apart ∙ getD-set-same runs k (c .offset + i + 1) 0 (omega (arith, t .sized)) in
+        let same : j ≡ c .offset + i = omega arith in
+        getD-set-same (set runs k (c .offset + i + 1)) (256 + k) run 0 (omega (arith, long)) ∙ at .held e (rw same at part) ∙ ap (runAt s k) (sym same)
+
+    -- of another
+    other : (l : ℕ) → l < 256 → (l ≡ k → ⊥) → (j : ℕ) → getD all l 0 ≡ j + 1 → RunPart s l j → getD all (256 + l) 0 ≡ runAt s l j
+    other l lt ne j place part =
+        let a : l ≡ 256 + k → ⊥ = λ (x : l ≡ 256 + k). omega arith in
+        let b : 256 + l ≡ 256 + k → ⊥ = λ (x : 256 + l ≡ 256 + k). ne (omega arith) in
+        let d : 256 + l ≡ k → ⊥ = λ (x : 256 + l ≡ k). omega arith in
+        let first : getD all l 0 ≡ getD runs l 0 = getD-set-other (set runs k (c .offset + i + 1)) (256 + k) l run 0 a ∙ getD-set-other runs k l (c .offset + i + 1) 0 ne in
+        getD-set-other (set runs k (c .offset + i + 1)) (256 + k) (256 + l) run 0 b ∙ getD-set-other runs k (256 + l) (c .offset + i + 1) 0 d ∙ t .run l j lt (sym first ∙ place) part
+
+    of : c .runs ≡ true → (l j : ℕ) → l < 256 → getD all l 0 ≡ j + 1 → RunPart s l j → getD all (256 + l) 0 ≡ runAt s l j
+    of e l j lt place part = by (eqb l k) refl
+      where
+        by : (b : Bool) → eqb l k ≡ b → getD all (256 + l) 0 ≡ runAt s l j
+        by true t =
+            let x : l ≡ k = eqb-true l k t in
+            rw x (here e j (rw x at place) (rw x at part))
+        by false t = other l lt (eqb-false l k t) j place part
+
+    cases : (b : Bool) → c .runs ≡ b → Remembered s (cond b all runs)
+    cases true e = record { sized = length-set (set runs k (c .offset + i + 1)) (256 + k) run ∙ long; run = of e }
+    cases false e = t
+
+pub remembered-now : {s runs after : List ℕ} {k i run : ℕ} {c : Column} → after ≡ remembering runs k c i run → Remembered s runs → k < 256 → Behind s k c i run → Remembered s after
+remembered-now e t few at = rw e (remembered-more t few at)
 
 -- rows beside which the same run is kept are the same row
 module _ {s : List ℕ} {k : ℕ} {c : Column} {x y run : ℕ} (accepted : AcceptedImage s) (node : k < nodeCount s) (at : Kept s k c x run) (to : Kept s k c y run) where

@@ -9,9 +9,16 @@ use image::record::code;
 use image::record::offset;
 use image::type_code::TypeCode;
 ghost use mathlib.Core.Path.{_≡_};
-ghost use Prim.Native.Nat.{_<_};
+ghost use Prim.Native.Nat.{_+_, _<_, _^_};
+ghost use lib.ListN.{length};
 ghost use Rattle.accepted.specs.Parts.{Side};
-ghost use Rattle.accepted.specs.Runs.{ColumnRead, Kept, Stays};
+ghost use Rattle.accepted.specs.Runs.{ColumnRead, Kept, Stays, Remembered, remembering};
+
+// How many nodes an image has at most, and how many numbers the runs have that are remembered: two for each node, the
+// element behind the last that was asked for, and one more; and its run.
+const MOST_NODES: usize = 256;
+
+pub const REMEMBERED: usize = 512;
 
 pub struct Column {
     // the rows are in runs
@@ -47,17 +54,36 @@ pub fn column_of(s: &[u8], node: u32) -> Column
     }
 }
 
-// The run that is kept at row i, the first of those that are asked: found by bisection.
-pub fn first_run(s: &[u8], node: u32, column: Column, i: usize) -> usize
+// The run that is kept at row i, the first of a range: the one that is remembered, where the range of the node before it
+// ended at row i; else it is found by bisection.
+pub fn first_run(s: &[u8], node: u32, column: Column, i: usize, runs: &[usize]) -> usize
     requires { ⌜ Side (now s) node i 1 ⌝ }
     requires { ⌜ ColumnRead (now s) node column ⌝ }
+    requires { ⌜ Remembered (now s) (now runs) ⌝ }
     ensures { λ r. ⌜ Kept (now (s .entry)) node column i r ⌝ }
 {
     let j = column.offset + i;
     if !column.runs {
         return j;
     }
+    let place = node as usize;
+    if runs[place] == j + 1 {
+        return runs[MOST_NODES + place];
+    }
     run_of(s, node, j)
+}
+
+// The run behind a range of rows is remembered, that of row i, where the node has runs.
+pub fn remember(node: u32, column: Column, i: usize, run: usize, runs: &mut [usize])
+    requires { ⌜ node < 256 ⌝ }
+    requires { ⌜ (column .offset + i < 2 ^ 34) × (length (now runs) ≡ 512) ⌝ }
+    ensures { λ _. ⌜ now (runs .exit) ≡ remembering (now (runs .entry)) node column i run ⌝ }
+{
+    if column.runs {
+        let place = node as usize;
+        runs[place] = column.offset + i + 1;
+        runs[MOST_NODES + place] = run;
+    }
 }
 
 // How many of the n rows from row i on are in the run that is kept at row i, and the run behind them: of run ends only

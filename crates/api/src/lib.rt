@@ -1,5 +1,6 @@
 // The public calls: check an image, compare two tables, compare ranges of their rows, find the first row in which ranges
 // differ, write rows. Each checks its images itself.
+use accepted::column::REMEMBERED;
 use answers::Bounds;
 use answers::Compared;
 use answers::Difference;
@@ -226,8 +227,9 @@ pub fn write(image: &[u8], start: usize, count: usize, out: &mut [u8]) -> Writte
         return Written::OutOfRange;
     }
     let room = out.len();
-    let Room::Left(rest) = measure_rows(image, 0, start, count, MAX_DEPTH, room) else {
+    let mut runs = [0usize; REMEMBERED];
+    let Room::Left(rest) = measure_rows(image, 0, start, count, MAX_DEPTH, &mut runs, room) else {
         return Written::TooLong;
     };
-    Written::Bytes(write_rows(image, 0, start, count, MAX_DEPTH, out, 0))
+    Written::Bytes(write_rows(image, 0, start, count, MAX_DEPTH, &mut runs, out, 0))
 }

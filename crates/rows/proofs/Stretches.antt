@@ -11,8 +11,8 @@ use Rattle.image.specs.RowBytes.{rowBytes, rowsBytes}
 use Rattle.accepted.specs.declared.column.Column.{Column}
 use Rattle.accepted.specs.declared.column.Stay.{Stay}
 use Rattle.accepted.specs.Parts.{Side}
-use Rattle.accepted.specs.Runs.{Kept, Stays}
-use Rattle.accepted.proofs.Columns.{same-row}
+use Rattle.accepted.specs.Runs.{Kept, Behind, Stays}
+use Rattle.accepted.proofs.Columns.{kept-behind, behind-kept, same-row}
 use Rattle.rows.specs.declared.measure.Room.the-variants.{Left, Short}
 use Rattle.rows.specs.Output.{over, repeated, roomAfter, Fits}
 use Rattle.rows.proofs.Joined.{joined, joined-start, joined-first, rows-joined}
@@ -47,6 +47,14 @@ module _ {s : List ℕ} {k i n : ℕ} (r : Side s k i n) where
   pub rows-from : (h : ℕ) → h < n → Side s k (i + h) (n - h)
   rows-from h lt = record { image = r .image; node = r .node; rows = omega (arith, r .rows) }
 
+  -- the run that is kept at a row that is there
+  pub row-kept : {c : Column} {run : ℕ} (h : ℕ) → h < n → Behind s k c (i + h) run → Kept s k c (i + h) run
+  row-kept h lt at = behind-kept (rows-from h lt) (omega arith) at
+
+-- two things, and a third
+pub and-last : {A B C : Type 0} → A × B → C → A × (B × C)
+and-last p c = (p .0, (p .1, c))
+
 -- the rows behind row i in its run are the same row
 module _ (depth : ℕ) {s : List ℕ} {k : ℕ} {c : Column} {i n : ℕ} (h : ℕ) {run : ℕ} {stay : Stay} (r : Side s k i n) (st : Stays s k c (i + h) (n - h) run stay) where
   pub rows-same : (q : ℕ) → q < stay .rows - 1 → bytesOf depth s k (i + (h + 1) + q) ≡ bytesOf depth s k (i + h)
@@ -73,13 +81,14 @@ module _ (depth : ℕ) (s : List ℕ) (k i n : ℕ) (none : n ≡ 0) where
 
 -- Of n rows from row i on, those before row h are put.
 pub record Writing (depth : ℕ) (s : List ℕ) (k : ℕ) (c : Column) (i n : ℕ) (out₀ : List ℕ) (at : ℕ) (out : List ℕ) (run next h : ℕ) : Type 0 where
-  pub kept : h < n → Kept s k c (i + h) run
+  pub few : h ≤ n
+  pub kept : Behind s k c (i + h) run
   pub put : PiecesToPut (bytesOf depth s k) i n out₀ at out next h
 
 pub writing-start : (depth : ℕ) (s : List ℕ) (k i n : ℕ) {c : Column} {out : List ℕ} {at run : ℕ} → Fits out at (rowsBytes (range (rowAt depth s k) i n)) → Kept s k c i run → Writing depth s k c i n out at out run at 0
 writing-start depth s k i n fits kept =
     let e : i + 0 ≡ i = omega arith in
-    record { kept = λ lt. rw e kept; put = pieces-start (bytesOf depth s k) i n (rw (rows-joined (rowAt depth s k) i n) at fits) }
+    record { few = omega arith; kept = rw e (kept-behind kept); put = pieces-start (bytesOf depth s k) i n (rw (rows-joined (rowAt depth s k) i n) at fits) }
 
 module _ {depth : ℕ} {s : List ℕ} {k : ℕ} {c : Column} {i n : ℕ} {out₀ : List ℕ} {at : ℕ} {out : List ℕ} {run next h : ℕ} (w : Writing depth s k c i n out₀ at out run next h) where
   -- the rows of a run: the first is put, and then the others
@@ -115,7 +124,8 @@ module _ {depth : ℕ} {s : List ℕ} {k : ℕ} {c : Column} {i n : ℕ} {out₀
           let count : n - (h + 1) - (stay .rows - 1) ≡ n - (h + stay .rows) = omega (arith, st .some) in
           let behind : i + h + stay .rows ≡ i + (h + stay .rows) = omega arith in
           record {
-            kept = λ l. rw behind at (st .next (omega arith));
+            few = omega (arith, st .within);
+            kept = rw behind at (st .next);
             put = record { put = put-more _ _ (put-as (one-put .put) (rw (place, count) at others)) (rw bytes at (g .1)) (omega (arith, g .0, others-size)) };
           }
 
@@ -124,13 +134,14 @@ module _ {depth : ℕ} {s : List ℕ} {k : ℕ} {c : Column} {i n : ℕ} {out₀
 
 -- Of n rows from row i on, those before row h are measured.
 pub record Measuring (depth : ℕ) (s : List ℕ) (k : ℕ) (c : Column) (i n room run left h : ℕ) : Type 0 where
-  pub kept : h < n → Kept s k c (i + h) run
+  pub few : h ≤ n
+  pub kept : Behind s k c (i + h) run
   pub measure : PiecesToMeasure (bytesOf depth s k) i n room left h
 
 pub measured-start : (depth : ℕ) (s : List ℕ) (k i n room : ℕ) {c : Column} {run : ℕ} → Kept s k c i run → Measuring depth s k c i n room run room 0
 measured-start depth s k i n room kept =
     let e : i + 0 ≡ i = omega arith in
-    record { kept = λ lt. rw e kept; measure = measuring-start (bytesOf depth s k) i n }
+    record { few = omega arith; kept = rw e (kept-behind kept); measure = measuring-start (bytesOf depth s k) i n }
 
 module _ {depth : ℕ} {s : List ℕ} {k : ℕ} {c : Column} {i n room run left h : ℕ} (m : Measuring depth s k c i n room run left h) where
   as-rows : roomAfter room (length (joined (bytesOf depth s k) i n)) ≡ roomAfter room (length (rowsBytes (range (rowAt depth s k) i n)))
@@ -165,7 +176,8 @@ module _ {depth : ℕ} {s : List ℕ} {k : ℕ} {c : Column} {i n room run left 
         measured-more g =
             let behind : i + h + stay .rows ≡ i + (h + stay .rows) = omega arith in
             record {
-              kept = λ l. rw behind at (st .next (omega arith));
+              few = omega (arith, st .within);
+              kept = rw behind at (st .next);
               measure = record { measure = measure-more (measuring-more (m .measure) lt f .measure) _ _ others-measured g };
             }
 

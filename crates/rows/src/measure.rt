@@ -5,6 +5,7 @@ use crate::value::value_at;
 use accepted::column::Column;
 use accepted::column::column_of;
 use accepted::column::first_run;
+use accepted::column::remember;
 use accepted::column::stay_of;
 ghost use mathlib.Core.Path.{_≡_};
 ghost use Prim.Native.Nat.{_*_, _<_};
@@ -12,7 +13,7 @@ ghost use lib.ListN.{length};
 ghost use Rattle.image.specs.Row.{rowAt, range};
 ghost use Rattle.image.specs.RowBytes.{rowBytes, rowsBytes};
 ghost use Rattle.accepted.specs.Parts.{Side};
-ghost use Rattle.accepted.specs.Runs.{Kept};
+ghost use Rattle.accepted.specs.Runs.{Kept, Remembered};
 ghost use Rattle.rows.specs.Output.{roomAfter};
 
 // The room of an output after some bytes.
@@ -45,11 +46,14 @@ fn measure_row(
     i: usize,
     run: usize,
     depth: usize,
+    runs: &mut [usize],
     room: usize,
 ) -> Room
     requires { ⌜ Side (now s) node i 1 ⌝ }
     requires { ⌜ Kept (now s) node column i run ⌝ }
+    requires { ⌜ Remembered (now s) (now runs) ⌝ }
     ensures { λ r. ⌜ r ≡ roomAfter room (length (rowBytes (rowAt depth (now (s .entry)) node i))) ⌝ }
+    ensures { λ _. ⌜ Remembered (now (s .entry)) (now (runs .exit)) ⌝ }
 {
     if room == 0 {
         return Room::Short;
@@ -65,7 +69,7 @@ fn measure_row(
     let mut left = room - own;
     let mut c: u32 = 0;
     while c < v.parts {
-        let Room::Left(rest) = measure_rows(s, v.child + c, v.start, v.count, depth - 1, left)
+        let Room::Left(rest) = measure_rows(s, v.child + c, v.start, v.count, depth - 1, runs, left)
         else {
             return Room::Short;
         };
@@ -77,20 +81,30 @@ fn measure_row(
 
 // The room that is left after n rows of a node from row i on. The rows of one run are the same row, and take as much
 // each.
-pub fn measure_rows(s: &[u8], node: u32, i: usize, n: usize, depth: usize, room: usize) -> Room
+pub fn measure_rows(
+    s: &[u8],
+    node: u32,
+    i: usize,
+    n: usize,
+    depth: usize,
+    runs: &mut [usize],
+    room: usize,
+) -> Room
     requires { ⌜ Side (now s) node i n ⌝ }
+    requires { ⌜ Remembered (now s) (now runs) ⌝ }
     ensures { λ r. ⌜ r ≡ roomAfter room (length (rowsBytes (range (rowAt depth (now (s .entry)) node) i n))) ⌝ }
+    ensures { λ _. ⌜ Remembered (now (s .entry)) (now (runs .exit)) ⌝ }
 {
     if n == 0 {
         return Room::Left(room);
     }
     let column = column_of(s, node);
-    let mut run = first_run(s, node, column, i);
+    let mut run = first_run(s, node, column, i, runs);
     let mut left = room;
     let mut k: usize = 0;
     while k < n {
         let stay = stay_of(s, node, column, i + k, n - k, run);
-        let Room::Left(one) = measure_row(s, node, column, i + k, run, depth, left) else {
+        let Room::Left(one) = measure_row(s, node, column, i + k, run, depth, runs, left) else {
             return Room::Short;
         };
         let Room::Left(all) = room_after(one, left - one, stay.rows - 1) else {
@@ -100,5 +114,6 @@ pub fn measure_rows(s: &[u8], node: u32, i: usize, n: usize, depth: usize, room:
         run = stay.next;
         k += stay.rows;
     }
+    remember(node, column, i + k, run, runs);
     Room::Left(left)
 }

@@ -8,6 +8,7 @@ use crate::value::value_at;
 use accepted::column::Column;
 use accepted::column::column_of;
 use accepted::column::first_run;
+use accepted::column::remember;
 use accepted::column::stay_of;
 ghost use mathlib.Core.Path.{_≡_};
 ghost use Prim.Native.Nat.{_+_, _≤_};
@@ -15,7 +16,7 @@ ghost use lib.ListN.{length};
 ghost use Rattle.image.specs.Row.{rowAt, range};
 ghost use Rattle.image.specs.RowBytes.{rowBytes, rowsBytes};
 ghost use Rattle.accepted.specs.Parts.{Side};
-ghost use Rattle.accepted.specs.Runs.{Kept};
+ghost use Rattle.accepted.specs.Runs.{Kept, Remembered};
 ghost use Rattle.rows.specs.Output.{over, Fits};
 ghost use Rattle.rows.specs.Value.{ownBytes};
 
@@ -46,14 +47,17 @@ fn write_row(
     i: usize,
     run: usize,
     depth: usize,
+    runs: &mut [usize],
     out: &mut [u8],
     at: usize,
 ) -> usize
     requires { ⌜ Side (now s) node i 1 ⌝ }
     requires { ⌜ Kept (now s) node column i run ⌝ }
+    requires { ⌜ Remembered (now s) (now runs) ⌝ }
     requires { ⌜ Fits (now out) at (rowBytes (rowAt depth (now s) node i)) ⌝ }
     ensures { λ r. ⌜ r ≡ at + length (rowBytes (rowAt depth (now (s .entry)) node i)) ⌝ }
     ensures { λ _. ⌜ now (out .exit) ≡ over (now (out .entry)) at (rowBytes (rowAt depth (now (s .entry)) node i)) ⌝ }
+    ensures { λ _. ⌜ Remembered (now (s .entry)) (now (runs .exit)) ⌝ }
 {
     if is_null(s, node, i, depth) {
         return put_number(out, at, NULL, MARK_WIDTH);
@@ -62,7 +66,7 @@ fn write_row(
     let mut next = put_own(s, v, out, at);
     let mut c: u32 = 0;
     while c < v.parts {
-        next = write_rows(s, v.child + c, v.start, v.count, depth - 1, out, next);
+        next = write_rows(s, v.child + c, v.start, v.count, depth - 1, runs, out, next);
         c += 1;
     }
     next
@@ -76,27 +80,31 @@ pub fn write_rows(
     i: usize,
     n: usize,
     depth: usize,
+    runs: &mut [usize],
     out: &mut [u8],
     at: usize,
 ) -> usize
     requires { ⌜ Side (now s) node i n ⌝ }
+    requires { ⌜ Remembered (now s) (now runs) ⌝ }
     requires { ⌜ Fits (now out) at (rowsBytes (range (rowAt depth (now s) node) i n)) ⌝ }
     ensures { λ r. ⌜ r ≡ at + length (rowsBytes (range (rowAt depth (now (s .entry)) node) i n)) ⌝ }
     ensures { λ _. ⌜ now (out .exit) ≡ over (now (out .entry)) at (rowsBytes (range (rowAt depth (now (s .entry)) node) i n)) ⌝ }
+    ensures { λ _. ⌜ Remembered (now (s .entry)) (now (runs .exit)) ⌝ }
 {
     if n == 0 {
         return at;
     }
     let column = column_of(s, node);
-    let mut run = first_run(s, node, column, i);
+    let mut run = first_run(s, node, column, i, runs);
     let mut next = at;
     let mut k: usize = 0;
     while k < n {
         let stay = stay_of(s, node, column, i + k, n - k, run);
-        let end = write_row(s, node, column, i + k, run, depth, out, next);
+        let end = write_row(s, node, column, i + k, run, depth, runs, out, next);
         next = put_times(out, end, end - next, stay.rows - 1);
         run = stay.next;
         k += stay.rows;
     }
+    remember(node, column, i + k, run, runs);
     next
 }

@@ -8,20 +8,20 @@ use Rattle.rows.proofs.write.write_row.Kinds as write-row-kinds
 use Rattle.rows.proofs.write.write_rows.Reads as write-rows
 use Rattle.rows.proofs.write.write_rows.Kinds as write-rows-kinds
 
-abbrev pub μ-write-row : Measures 2 write-row-kinds.ps ℕ
+abbrev pub μ-write-row : Measures 3 write-row-kinds.ps ℕ
 μ-write-row κs a = 2 * a .1 .1 .1 .1 .1 .0
 
-abbrev pub μ-write-rows : Measures 2 write-rows-kinds.ps ℕ
+abbrev pub μ-write-rows : Measures 3 write-rows-kinds.ps ℕ
 μ-write-rows κs a = 2 * a .1 .1 .1 .1 .0 + 1
 
-abbrev pub write-row-at : ℕ → In 2 write-row-kinds.ps
-write-row-at t = and 2 write-row-kinds.ps (is 2 write-row-kinds.ps μ-write-row t) write-row.Pre
+abbrev pub write-row-at : ℕ → In 3 write-row-kinds.ps
+write-row-at t = and 3 write-row-kinds.ps (is 3 write-row-kinds.ps μ-write-row t) write-row.Pre
 
-abbrev pub write-row-below : ℕ → In 2 write-row-kinds.ps
-write-row-below t = and 2 write-row-kinds.ps (falls 2 write-row-kinds.ps _<_ μ-write-row t) write-row.Pre
+abbrev pub write-row-below : ℕ → In 3 write-row-kinds.ps
+write-row-below t = and 3 write-row-kinds.ps (falls 3 write-row-kinds.ps _<_ μ-write-row t) write-row.Pre
 
-abbrev pub write-rows-at : ℕ → In 2 write-rows-kinds.ps
-write-rows-at t = and 2 write-rows-kinds.ps (is 2 write-rows-kinds.ps μ-write-rows t) write-rows.Pre
+abbrev pub write-rows-at : ℕ → In 3 write-rows-kinds.ps
+write-rows-at t = and 3 write-rows-kinds.ps (is 3 write-rows-kinds.ps μ-write-rows t) write-rows.Pre
 
-abbrev pub write-rows-below : ℕ → In 2 write-rows-kinds.ps
-write-rows-below t = and 2 write-rows-kinds.ps (falls 2 write-rows-kinds.ps _<_ μ-write-rows t) write-rows.Pre
+abbrev pub write-rows-below : ℕ → In 3 write-rows-kinds.ps
+write-rows-below t = and 3 write-rows-kinds.ps (falls 3 write-rows-kinds.ps _<_ μ-write-rows t) write-rows.Pre
