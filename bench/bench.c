@@ -14,7 +14,8 @@
  * rows have a bitmap too. Where row 0 differs, the figures are the least of 301: the call, `editions_check` of both images, the
  * call on no rows, which checks both images and compares their types, and the first less the last, which is the search.
  *
- * The third table, of text, is that of text.c; the fourth, of rows of runs that are written, that of write.c. */
+ * The third table, of text, is that of text.c; the fourth, of rows of runs that are written, that of write.c; the fifth, of
+ * numbers at fewer digits, that of digits.c. */
 #include "../host/editions_calls.h"
 #include "bench.h"
 
@@ -31,22 +32,10 @@ static int32_t rust_equal(const void *left, const void *right) { return left != 
 static void rust_free(void *array) { (void)array; }
 #endif
 
-/* what a comparison that says yes answers */
-#define YES ((uint64_t)1 << 8)
-
 enum { SHORT_TIMES = 301 };
-
-static struct side side(int nulls, int other)
-{
-    struct side x = {other ? 3 : 0, nulls, other, nulls, NONE, NONE};
-    return x;
-}
 
 /* The value of a row: this one, or another. */
 static uint64_t value(struct side x, uint32_t row, uint64_t v) { return row == x.changed ? ~v : v; }
-
-/* What stands where no row of the side is read: other bytes on the other side. */
-static uint64_t unread(struct side x, uint32_t i) { return x.other ? ~mix(i) : mix(i); }
 
 /* The elements of a fixed-width node, those before its first row too. */
 static void elements(struct image *m, uint32_t record, struct side x, uint32_t width, uint32_t rows, uint32_t seed)
@@ -570,7 +559,11 @@ static void search_table(void)
 static const struct table {
     const char *name;
     void (*print)(void);
-} TABLES[] = {{"compare", compare_table}, {"search", search_table}, {"text", text_table}, {"write", write_table}};
+} TABLES[] = {{"compare", compare_table},
+              {"search", search_table},
+              {"text", text_table},
+              {"write", write_table},
+              {"digits", digits_table}};
 
 enum { TABLE_COUNT = sizeof TABLES / sizeof TABLES[0] };
 

@@ -12,6 +12,11 @@ enum { ROWS = 1000000, TIMES = 31 };
 /* no row */
 #define NONE UINT32_MAX
 
+/* what a comparison that says yes answers */
+#define YES ((uint64_t)1 << 8)
+
+#define ALWAYS_INLINE static inline __attribute__((always_inline))
+
 /* How one side is laid out: elements before the first row; whether every tenth row is null; whether it is laid out
  * otherwise where the layout leaves a choice (bytes under nulls, order of keys and of what is stored, cuts of runs); whether
  * it has a bitmap, as where rows are null; a row that has another value, or none; a row that the bitmap has null where it would
@@ -24,7 +29,24 @@ struct side {
 
 static const struct side PLAIN = {0, 0, 0, 0, NONE, NONE};
 
+/* A side without nulls, or with every tenth row null; the other one is sliced by 3. */
+static inline struct side side(int nulls, int other)
+{
+    struct side x = {other ? 3 : 0, nulls, other, nulls, NONE, NONE};
+    return x;
+}
+
 static inline uint64_t mix(uint64_t i) { return (i + 1) * 0x9e3779b97f4a7c15u; }
+
+/* Numbers whose low bits, too, do not come round. */
+static inline uint64_t scatter(uint64_t i)
+{
+    uint64_t v = mix(i);
+    return mix(v ^ v >> 32) >> 16;
+}
+
+/* What stands where no row of the side is read: other bytes on the other side. */
+static inline uint64_t unread(struct side x, uint32_t i) { return x.other ? ~mix(i) : mix(i); }
 
 static inline int is_null(struct side x, uint32_t i) { return x.nulls && i % 10 == 9; }
 
@@ -64,5 +86,8 @@ void text_table(void);
 
 /* The fourth table: what writing rows of runs takes. */
 void write_table(void);
+
+/* The fifth table: what comparing numbers at fewer digits takes. */
+void digits_table(void);
 
 #endif

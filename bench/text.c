@@ -44,13 +44,6 @@ static const struct script SCRIPTS[] = {
 
 enum { SCRIPT_COUNT = sizeof SCRIPTS / sizeof SCRIPTS[0] };
 
-/* Numbers whose low bits, too, do not come round. */
-static uint64_t scatter(uint64_t i)
-{
-    uint64_t v = mix(i);
-    return mix(v ^ v >> 32) >> 16;
-}
-
 static uint32_t letter(const struct script *s, uint64_t seed)
 {
     uint64_t v = scatter(seed);

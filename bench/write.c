@@ -15,8 +15,6 @@
 #include <stdio.h>
 #include <string.h>
 
-#define ALWAYS_INLINE static inline __attribute__((always_inline))
-
 /* What a line's column stands in: nothing, a Struct behind an Int32, or lists of four of its rows each. */
 enum within { ALONE, IN_STRUCT, IN_LISTS };
 

@@ -37,11 +37,12 @@ uint64_t editions_write(const uint8_t *image, size_t image_length, uint32_t star
 }
 #endif
 
-/* The refusals; editions_refusal_text says what each is. The three calls above never answer EDITIONS_TYPES. */
+/* The refusals; editions_refusal_text says what each is. The three calls above never answer EDITIONS_TYPES
+ * or EDITIONS_DIGITS. */
 enum {
     EDITIONS_SIZE = 10, EDITIONS_CODE = 11, EDITIONS_TREE = 12, EDITIONS_NAME = 13, EDITIONS_BUFFER = 14,
     EDITIONS_TOO_FEW = 15, EDITIONS_CHILD = 16, EDITIONS_OFFSETS = 17, EDITIONS_ROWS = 18, EDITIONS_TEXT = 19,
-    EDITIONS_TYPES = 20, EDITIONS_RANGE = 21, EDITIONS_OUTPUT = 43
+    EDITIONS_TYPES = 20, EDITIONS_RANGE = 21, EDITIONS_DIGITS = 22, EDITIONS_OUTPUT = 43
 };
 
 enum { EDITIONS_LEFT = 0, EDITIONS_RIGHT = 1 };
@@ -75,6 +76,7 @@ static inline const char *editions_refusal_text(unsigned refusal)
     case EDITIONS_TEXT: return "A text of a row that is not null is not well-formed UTF-8.";
     case EDITIONS_TYPES: return "Ranges of tables of unequal type are not compared.";
     case EDITIONS_RANGE: return "The range passes the table's last row.";
+    case EDITIONS_DIGITS: return "Digits are dropped of Decimal32 and Decimal64 at the root alone, and at most nine.";
     case EDITIONS_OUTPUT: return "The output is longer than the buffer.";
     default: return "The number is not a refusal of these calls.";
     }

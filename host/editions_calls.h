@@ -1,12 +1,14 @@
-/* editions_calls.h: which rows of two ranges are equal, and where they part.
+/* editions_calls.h: which rows of two ranges are equal, where they part, and which agree at fewer digits.
  *
  * Further calls on the tables of editions.h. What editions.h says of images, lent memory, threads and answers holds here too,
  * and its functions take these answers apart. Link with libcalls_c.a; it needs no other library, and a program may link it
  * beside libeditions_c.a.
  *
- * A range is `count` rows of a table from row `start` on. Both calls are refused alike, by the first of these that holds:
+ * A range is `count` rows of a table from row `start` on. Each call is refused by the first of these that holds:
  *   - 10 to 19, with the side and the node, as editions_compare refuses an image, left before right;
  *   - EDITIONS_TYPES, where the tables' types do not agree, also where count is 0;
+ *   - EDITIONS_DIGITS, editions_compare_digits alone, where the root is neither Decimal32 nor Decimal64 or `digits` is above 9,
+ *     also where count is 0;
  *   - EDITIONS_RANGE, with the side, where start + count exceeds the table's length, left before right. The sum does not wrap,
  *     and a start that is the length, with count 0, is no fault. */
 #ifndef EDITIONS_CALLS_H
@@ -27,6 +29,13 @@ uint64_t editions_compare_range(const uint8_t *left, size_t left_length, const u
  * there is none, that is where editions_compare_range says yes, and else one more than the row. */
 uint64_t editions_first_difference(const uint8_t *left, size_t left_length, const uint8_t *right, size_t right_length,
                                    uint32_t left_start, uint32_t right_start, uint32_t count);
+
+/* Whether the numbers of two ranges agree, in turn, once their last `digits` digits are dropped, 0 to 9. Of a row that is not
+ * null the stored whole number, an i32 or i64, is divided by 10 to the `digits`, to the nearest, halves away from zero: with
+ * one digit dropped 25 gives 3, -25 gives -3, and 4 and -4 give 0. Null agrees only with null. The answer's value is 1 for yes
+ * and 0 for no; ranges without rows agree, and with `digits` 0 it is the answer of editions_compare_range. */
+uint64_t editions_compare_digits(const uint8_t *left, size_t left_length, const uint8_t *right, size_t right_length,
+                                 uint32_t left_start, uint32_t right_start, uint32_t count, uint32_t digits);
 
 #ifdef __cplusplus
 }

@@ -1,11 +1,13 @@
-"""A model of document 01, written from its sentences: the image check, types, rows, row bytes, and the session; and of two
-things that document 02 adds, the first unequal row of two ranges, and text that is UTF-8 (RFC 3629).
+"""A model of document 01, written from its sentences: the image check, types, rows, row bytes, and the session; and of three
+things that document 02 adds, the first unequal row of two ranges, text that is UTF-8 (RFC 3629), and the comparison at fewer
+digits.
 
 It is the second opinion that the proved program is held to, so it shares nothing with it: numbers are Python's, rows are
 tuples, and speed is no aim.
 """
 
 NULL, BOOLEAN = 0, 1
+DECIMAL32, DECIMAL64 = 15, 16
 UTF8, BINARY, LARGE_UTF8, LARGE_BINARY, FIXED_SIZE_BINARY, UTF8_VIEW, BINARY_VIEW = 26, 27, 28, 29, 30, 31, 32
 LIST, LARGE_LIST, LIST_VIEW, LARGE_LIST_VIEW, FIXED_SIZE_LIST, STRUCT = 33, 34, 35, 36, 37, 38
 DENSE_UNION, SPARSE_UNION, DICTIONARY, MAP, RUN_END_ENCODED = 39, 40, 41, 42, 43
@@ -47,6 +49,9 @@ WIDEST = 16_777_216
 
 # a view, and the longest text that stands in it
 VIEW, INLINE = 16, 12
+
+# how many digits may be dropped
+MOST_DIGITS = 9
 
 # the widths of the codes 2 to 25
 WIDTHS = {2: 1, 3: 2, 4: 4, 5: 8, 6: 1, 7: 2, 8: 4, 9: 8, 10: 2, 11: 4, 12: 8, 13: 4, 14: 8}
@@ -525,17 +530,27 @@ def compare(left, right):
     return (0, 0, 0, int(same))
 
 
-def ranges(left, right, i, j, n):
-    """Both images, where n rows of the one from row i on may be compared with n rows of the other from row j on."""
+def typed(left, right):
+    """Both images, where their types agree."""
     images, refused = both(left, right)
-    if refused:
-        return None, refused
-    if not types_agree(*images):
+    if not refused and not types_agree(*images):
         return None, (20, 0, 0, 0)
+    return images, refused
+
+
+def too_long(images, i, j, n):
+    """How n rows of the one from row i on, and of the other from row j on, are refused; none where both have them."""
     for side, (image, start) in enumerate(zip(images, (i, j))):
         if start + n > image.nodes[0].length:
-            return None, (21, side, 0, 0)
-    return images, None
+            return (21, side, 0, 0)
+    return None
+
+
+def ranges(left, right, i, j, n):
+    """Both images, where n rows of the one from row i on may be compared with n rows of the other from row j on."""
+    images, refused = typed(left, right)
+    refused = refused or too_long(images, i, j, n)
+    return (None, refused) if refused else (images, None)
 
 
 def compare_range(left, right, i, j, n):
@@ -556,6 +571,40 @@ def first_difference(left, right, i, j, n):
         if a.row(0, i + k) != b.row(0, j + k):
             return (0, 0, 0, k + 1)
     return (0, 0, 0, 0)
+
+
+def of_half(below, above):
+    """Which of the two whole numbers beside a half is kept of it: the one away from zero."""
+    return max(below, above, key=abs)
+
+
+def kept(stored, digits):
+    """A whole number divided by 10 to the digits, to the nearest whole number."""
+    power = 10**digits
+    below, rest = divmod(stored, power)
+    if 2 * rest == power:
+        return of_half(below, below + 1)
+    return below if 2 * rest < power else below + 1
+
+
+def kept_rows(image, start, count, digits):
+    """What is kept of the root's rows, decimals of 4 or 8 bytes, in two's complement; None of a null."""
+    rows = image.rows(0, start, start + count)
+    return [None if row is None else kept(signed(row[1], 0, len(row[1])), digits) for row in rows]
+
+
+def compare_digits(left, right, i, j, n, digits):
+    """The value is 1 where the rows agree once so many digits are dropped, else 0."""
+    images, refused = typed(left, right)
+    if refused:
+        return refused
+    a, b = images
+    if a.nodes[0].code not in (DECIMAL32, DECIMAL64) or digits > MOST_DIGITS:
+        return (22, 0, 0, 0)
+    refused = too_long(images, i, j, n)
+    if refused:
+        return refused
+    return (0, 0, 0, int(kept_rows(a, i, n, digits) == kept_rows(b, j, n, digits)))
 
 
 def write(data, i, n, room):

@@ -1,14 +1,15 @@
 #!/usr/bin/env python3
-"""Writes calls with their answers for the host tests: document 01's pairs and the texts of tests/texts.py with their answers,
-and random images, good and damaged, with what the model says of them.
+"""Writes calls with their answers for the host tests: document 01's pairs, the texts of tests/texts.py and the decimals of
+tests/decimals.py with their answers, and random images, good and damaged, with what the model says of them.
 
     python3 tests/host/cases.py FILE COUNT SEED [CORPUS]
 
 FILE gets records. A record of one call has its number (0 check, 1 compare, 2 write), the images (u32 length, bytes), for a
 write u32 start, count and room, then the answer as u64 and, for a write, the bytes written (u32 length, bytes). A record
 of ranges has the number 3, two images and the number of ranges as u32; then for each range left start, right start and count
-as u32, and as u64 the answers of the range comparison and of the first difference. CORPUS, a directory, gets inputs of
-tests/host/fuzz.c, to start a fuzzer from.
+as u32, and as u64 the answers of the range comparison and of the first difference. A record of digits has the number 4 and is
+like one of ranges; each range has the digits as a fourth number, and the answer of the comparison at fewer digits. CORPUS, a
+directory, gets inputs of tests/host/fuzz.c, to start a fuzzer from.
 """
 
 import functools
@@ -19,13 +20,14 @@ import sys
 sys.path.insert(0, os.path.join(os.path.dirname(os.path.abspath(__file__)), ".."))
 
 import columns
+import decimals
 import model
 import pairs
 import texts
+from decimals import LARGEST
 from image import CODES, number
-
-# the largest start and count
-LARGEST = 0xFFFFFFFF
+from model import DECIMAL32, DECIMAL64, MOST_DIGITS
+from nodes import INT32, INT64
 
 # the longest input that a fuzzer starts from
 LONGEST_INPUT = 4096
@@ -79,6 +81,14 @@ def ranges_call(left, right, ranges):
     return record
 
 
+def digits_call(left, right, asked):
+    """The comparison at fewer digits, with the model's answers."""
+    record = b"\x04" + sized(left) + sized(right) + number(4, len(asked))
+    for each in asked:
+        record += b"".join(number(4, x) for x in each) + packed(model.compare_digits(left, right, *each))
+    return record
+
+
 def document_calls():
     """Document 01's pairs, with its answers. A pair of ranges is asked for its first difference too, which is the model's."""
     for _, (call, images, rest), answer in pairs.PAIRS:
@@ -105,6 +115,15 @@ def text_calls():
         for left, right in ((image, image), (image, b""), (other, image)):
             yield b"\x01" + sized(left) + sized(right) + packed(model.compare(left, right))
             yield ranges_call(left, right, [(0, 0, 1)])
+
+
+def decimal_calls():
+    """The pairs of tests/decimals.py."""
+    for stored, digits, kept in decimals.KEPT:
+        assert model.kept(stored, digits) == kept, (stored, digits)
+    for words, left, right, asked, answer in decimals.PAIRS:
+        assert model.compare_digits(left, right, *asked) == answer, words
+        yield digits_call(left, right, [asked])
 
 
 def calls(rng, seed):
@@ -183,9 +202,67 @@ def range_calls(rng, seed):
         yield ranges_call(other, one, [(j, i, n) for i, j, n in ranges])
 
 
+def both_ways(left, right, asked):
+    yield digits_call(left, right, asked)
+    yield digits_call(right, left, [(j, i, n, digits) for i, j, n, digits in asked])
+
+
+def near_decimals(rng, seed):
+    """A type of decimals, rows of it and the digits that they are near a half of."""
+    kind = columns.random_type(rng, 1, rng.choice([DECIMAL32, DECIMAL64]))
+    digits = seed % (MOST_DIGITS + 1)
+    count = rng.choice([0, 1, 3, 9, 40, 70, 150])
+    return kind, [decimals.some_row(rng, kind.code, digits) for _ in range(count)], digits
+
+
+def other_decimals(rng, kind):
+    """Another type of the same width: of another precision or scale, or integers."""
+    integers = columns.Type(INT32 if kind.code == DECIMAL32 else INT64)
+    return rng.choice([kind.copy(p1=kind.p1 % 9 + 1), kind.copy(p2=(kind.p2 + 1) % 100), integers])
+
+
+def near_calls(rng, seed):
+    """Ranges of a table of decimals and of one whose numbers are near."""
+    kind, rows, digits = near_decimals(rng, seed)
+    shift = rng.choice([0, 0, 1, 3, 8, 67])
+    before, after = ([decimals.some_row(rng, kind.code, digits) for _ in range(n)] for n in (shift, rng.choice([0, 2])))
+
+    def beside(unlike=()):
+        """The rows' neighbours, of which those do not agree, with the others before and after them."""
+        return before + [decimals.near_row(rng, kind.code, row, digits, k not in unlike) for k, row in enumerate(rows)] + after
+
+    whole = beside()
+    left, right = laid(rng, kind, rows), laid(rng, kind, whole)
+
+    def anyhow(ranges):
+        """Each range at these digits and at others."""
+        return [(*each, dropped) for each in ranges for dropped in (digits, decimals.any_digits(rng))]
+
+    # rows that agree, at all digits, and others
+    asked = [(0, shift, len(rows), dropped) for dropped in range(MOST_DIGITS + 2)]
+    yield from both_ways(left, right, asked + anyhow(anywhere(rng, len(rows), len(whole))))
+    # one row that does not
+    for k in {0, len(rows) - 1, rng.randrange(len(rows))} if rows else ():
+        yield from both_ways(left, laid(rng, kind, beside({k})), anyhow(around(rng, k, len(rows), shift)))
+    # another type; damaged images, of which some are still accepted
+    typed = laid(rng, other_decimals(rng, kind), whole)
+    damaged = [columns.damage(rng, image) for image in (left, right, typed)]
+    for one, other in ((left, typed), (left, damaged[1]), (left, damaged[2]), (damaged[0], damaged[1])):
+        yield from both_ways(one, other, anyhow(anywhere(rng, len(rows), len(whole))))
+
+
+def rooted_calls(rng, seed):
+    """Tables of any root, at any digits."""
+    kind, rows = table(rng, seed)
+    left, right = laid(rng, kind, rows), laid(rng, kind, rows)
+    for one, other in ((left, right), (left, columns.damage(rng, right))):
+        asked = [(*each, decimals.any_digits(rng)) for each in anywhere(rng, len(rows), len(rows))]
+        yield from both_ways(one, other, [(0, 0, len(rows), 0)] + asked)
+
+
 def two_images(rng, left, right):
-    """Two images and any starts and count, as tests/host/fuzz.c reads them."""
-    return b"".join(number(2, x) for x in (len(left), *(rng.randrange(1 << 16) for _ in range(3)))) + left + right
+    """Two images, any starts and count, and any number of digits, as tests/host/fuzz.c reads them."""
+    return b"".join(number(2, x) for x in (len(left), *(rng.randrange(1 << 16) for _ in range(4)))) + left + right
 
 
 def fuzz_input(rng, seed):
@@ -198,20 +275,28 @@ def fuzz_input(rng, seed):
     return two_images(rng, laid(rng, kind, rows), laid(rng, kind, other))
 
 
+def decimal_input(rng, seed):
+    """Two tables of decimals whose rows are near, of which most agree."""
+    kind, rows, digits = near_decimals(rng, seed)
+    other = [decimals.near_row(rng, kind.code, row, digits, rng.random() < 0.98) for row in rows]
+    return two_images(rng, laid(rng, kind, rows), laid(rng, kind, other))
+
+
 def records(rng, seed):
     yield from calls(rng, seed)
-    # every code has its turn, since 44 is no multiple of 3
-    if seed % 3 == 0:
-        yield from range_calls(rng, seed)
+    # every code has its turn at the first and the last, since 44 is no multiple of 3
+    yield from (range_calls, near_calls, rooted_calls)[seed % 3](rng, seed)
 
 
 def fuzz_inputs(seeds):
-    """Random tables, and each text of tests/texts.py beside the one after it."""
+    """Random tables, one of decimals beside every seventh, and each text of tests/texts.py beside the one after it."""
     for seed in seeds:
         try:
             yield fuzz_input(random.Random(seed), seed)
         except NoLayout:
             continue
+        if seed % 7 == 0:
+            yield decimal_input(random.Random(seed), seed)
     images = [image for _, image, _ in texts.IMAGES]
     for k, (left, right) in enumerate(zip(images, images[1:])):
         yield two_images(random.Random(k), left, right)
@@ -230,6 +315,7 @@ def main():
     with open(path, "wb") as file:
         file.write(b"".join(document_calls()))
         file.write(b"".join(text_calls()))
+        file.write(b"".join(decimal_calls()))
         for seed in seeds:
             try:
                 file.write(b"".join(records(random.Random(seed), seed)))

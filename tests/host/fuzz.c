@@ -1,10 +1,12 @@
 /* Mutated images through the calls of both headers. What must hold of any bytes is asked: an accepted image equals itself, a
  * comparison is symmetric, equal tables write the same bytes, a refused write changes nothing, and an output that fits
  * exactly does not fit into one byte less. Both calls on ranges are refused alike and in the right order; a first difference
- * is none exactly when the ranges are equal, the rows before it are equal, and its row is not.
+ * is none exactly when the ranges are equal, the rows before it are equal, and its row is not. The comparison at fewer digits
+ * is refused as they are, or by 22 before 21; it is symmetric, says yes of equal rows, of no others where no digit is dropped,
+ * and of a range exactly when it does of both halves.
  *
- * An input is four numbers of two bytes, the left image and the right one. The numbers: how long the left image is; then, of
- * ranges, the left start, the right start and the count, as `ranged` takes them.
+ * An input is five numbers of two bytes, the left image and the right one. The numbers: how long the left image is; then, of
+ * ranges, the left start, the right start and the count, and the digits, as `ranged` takes them.
  *
  * With LIBFUZZER defined this is a target of libFuzzer; else a program that mutates the inputs of a directory for some
  * seconds: fuzz CORPUS SECONDS SEED. */
@@ -20,7 +22,17 @@
 enum { MOST = 1 << 16, ROOM = 4096 };
 
 /* The numbers of an input: their places, and how many bytes they have together. */
-enum { INPUT_LEFT_LENGTH = 0, INPUT_LEFT_START = 2, INPUT_RIGHT_START = 4, INPUT_COUNT = 6, INPUT_NUMBERS = 8 };
+enum {
+    INPUT_LEFT_LENGTH = 0,
+    INPUT_LEFT_START = 2,
+    INPUT_RIGHT_START = 4,
+    INPUT_COUNT = 6,
+    INPUT_DIGITS = 8,
+    INPUT_NUMBERS = 10
+};
+
+/* The type codes whose digits may be dropped, and how many. */
+enum { DECIMAL32 = 15, DECIMAL64 = 16, MOST_DIGITS = 9 };
 
 /* what a comparison that says yes answers */
 static const uint64_t EQUAL = (uint64_t)1 << 8;
@@ -131,6 +143,44 @@ static void ranges(const struct pair *p, uint64_t a, uint64_t b, uint64_t ab)
         must(compare_range(&whole, 0, whole.count) == ab, "the range of all rows and the tables are not equal alike");
 }
 
+static uint64_t compare_digits(const struct pair *p, uint32_t skipped, uint32_t count, uint32_t digits)
+{
+    return editions_compare_digits(p->left, p->left_length, p->right, p->right_length, p->left_start + skipped,
+                                   p->right_start + skipped, count, digits);
+}
+
+/* Rows that may be compared at fewer digits, where `same` says whether they are equal. */
+static void agreeing(const struct pair *p, uint64_t same, uint32_t digits)
+{
+    uint64_t agree = compare_digits(p, 0, p->count, digits);
+    must(agree == EQUAL || agree == 0, "a comparison at fewer digits that says neither yes nor no");
+    if (same == EQUAL || digits == 0)
+        must(agree == same, "equal rows that do not agree, or unequal ones that agree with no digit dropped");
+    const struct pair turned = {p->right, p->left, p->right_length, p->left_length, p->right_start, p->left_start, p->count};
+    must(compare_digits(&turned, 0, p->count, digits) == agree, "a comparison at fewer digits that is not symmetric");
+    uint32_t half = p->count / 2;
+    int parts = compare_digits(p, 0, half, digits) == EQUAL && compare_digits(p, half, p->count - half, digits) == EQUAL;
+    must(parts == (agree == EQUAL), "rows that agree otherwise than their two halves");
+}
+
+/* The comparison at fewer digits, at that many and, where it is not refused, at all that there may be. */
+static void fewer_digits(const struct pair *p, uint32_t digits)
+{
+    uint64_t same = compare_range(p, 0, p->count), agree = compare_digits(p, 0, p->count, digits);
+    if (editions_refusal(same) != 0 && editions_refusal(same) != EDITIONS_RANGE) {
+        must(agree == same, "images or types are refused otherwise at fewer digits");
+        return;
+    }
+    int root = p->left[image_record(0) + RECORD_CODE];
+    if ((root != DECIMAL32 && root != DECIMAL64) || digits > MOST_DIGITS)
+        must(agree == EDITIONS_DIGITS, "digits are dropped that may not be");
+    else if (editions_refusal(same) != 0)
+        must(agree == same, "ranges are refused otherwise at fewer digits");
+    else
+        for (uint32_t dropped = 0; dropped <= MOST_DIGITS; dropped++)
+            agreeing(p, same, dropped);
+}
+
 /* The check and the comparison of two images, and the write of the left one. */
 static void three_calls(const struct pair *p, uint64_t a, uint64_t b, uint64_t ab)
 {
@@ -166,11 +216,11 @@ static void three_calls(const struct pair *p, uint64_t a, uint64_t b, uint64_t a
     }
 }
 
-/* A start or count: most numbers give one of 0 to one more than so many rows, the others one of the four largest. */
-static uint32_t ranged(const uint8_t *number, uint64_t rows)
+/* A start, a count or a number of digits: mostly one of 0 to one more than the most, else one of the four largest. */
+static uint32_t ranged(const uint8_t *number, uint64_t most)
 {
     uint32_t x = (uint32_t)image_get(number, 0, 2);
-    return x < 61440 ? (uint32_t)(x % (rows + 2)) : UINT32_MAX - x % 4;
+    return x < 61440 ? (uint32_t)(x % (most + 2)) : UINT32_MAX - x % 4;
 }
 
 static void one(const uint8_t *data, size_t size)
@@ -189,9 +239,12 @@ static void one(const uint8_t *data, size_t size)
     p.count = ranged(data + INPUT_COUNT, p.left_start <= rows ? rows - p.left_start : rows);
     uint64_t a = editions_check(left, cut), b = editions_check(right, rest), ab = editions_compare(left, cut, right, rest);
     three_calls(&p, a, b, ab);
+    uint32_t digits = ranged(data + INPUT_DIGITS, MOST_DIGITS);
     ranges(&p, a, b, ab);
+    fewer_digits(&p, digits);
     p.right_start = p.left_start;
     ranges(&p, a, b, ab);
+    fewer_digits(&p, digits);
     must(memcmp(left, images, cut) == 0 && memcmp(right, images + cut, rest) == 0, "an image was changed");
 }
 
@@ -226,7 +279,7 @@ static uint32_t next(uint32_t below)
     return (uint32_t)((state >> 32) % below);
 }
 
-enum { SEEDS = 512 };
+enum { SEEDS = 1024 };
 
 static struct {
     uint8_t *left, *right;

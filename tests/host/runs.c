@@ -9,6 +9,7 @@
 #include "../../host/editions.h"
 #include "../../host/editions_calls.h"
 #include "../image.h"
+#include "drawn.h"
 #include "expect.h"
 #include "memory.h"
 
@@ -39,21 +40,8 @@ struct type {
     const struct type *children[CHILDREN];  /* of runs the values alone */
 };
 
-/* The generator, and what the values of a column are drawn from. */
-static uint64_t state, salt;
-
-static uint64_t mix(uint64_t x)
-{
-    x = (x ^ x >> 30) * UINT64_C(0xbf58476d1ce4e5b9);
-    x = (x ^ x >> 27) * UINT64_C(0x94d049bb133111eb);
-    return x ^ x >> 31;
-}
-
-static uint32_t drawn(uint32_t below)
-{
-    state += UINT64_C(0x9e3779b97f4a7c15);
-    return (uint32_t)(mix(state) >> 32) % below;
-}
+/* What the values of a column are drawn from. */
+static uint64_t salt;
 
 /* Memory of one column after the other, all zero. */
 static struct {

@@ -93,9 +93,24 @@ static void ranges_case(struct cursor *c, unsigned long which, int at_end)
     unchanged(right, which);
 }
 
+static void digits_case(struct cursor *c, unsigned long which, int at_end)
+{
+    struct copy left = copied(c, memory[0], at_end), right = copied(c, memory[1], at_end);
+    for (uint64_t ranges = number(c, 4); ranges > 0; ranges--) {
+        uint32_t i = (uint32_t)number(c, 4), j = (uint32_t)number(c, 4), count = (uint32_t)number(c, 4);
+        uint32_t digits = (uint32_t)number(c, 4);
+        uint64_t wanted = number(c, 8);
+        expect("compare_digits", which,
+               editions_compare_digits(left.bytes, left.length, right.bytes, right.length, i, j, count, digits), wanted);
+    }
+    unchanged(left, which);
+    unchanged(right, which);
+}
+
 static void model_cases(const char *path)
 {
-    static void (*const cases[])(struct cursor *, unsigned long, int) = {check_case, compare_case, write_case, ranges_case};
+    static void (*const cases[])(struct cursor *, unsigned long, int) = {check_case, compare_case, write_case, ranges_case,
+                                                                         digits_case};
     size_t size;
     uint8_t *whole = whole_file(path, &size);
     struct cursor c = {whole};
@@ -410,7 +425,7 @@ static void unions(void)
 /* Every number has a sentence of its own; all those that no call answers share one. */
 static void texts(void)
 {
-    static const unsigned numbers[] = {0, 10, 11, 12, 13, 14, 15, 16, 17, 18, 19, 20, 21, 43};
+    static const unsigned numbers[] = {0, 10, 11, 12, 13, 14, 15, 16, 17, 18, 19, 20, 21, 22, 43};
     enum { COUNT = sizeof numbers / sizeof numbers[0] };
     const char *other = editions_refusal_text(255);
     for (unsigned k = 0; k < COUNT; k++) {

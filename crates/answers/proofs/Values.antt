@@ -18,8 +18,10 @@ use Rattle.answers.specs.declared.Compared.{Compared}
 use Rattle.answers.specs.declared.Compared.the-variants.{Yes, No, Refused as CompareRefused, UnequalTypes, OutOfRange as RangeOut}
 use Rattle.answers.specs.declared.Difference.{Difference}
 use Rattle.answers.specs.declared.Difference.the-variants.{Nowhere, At}
+use Rattle.answers.specs.declared.DigitsCompared.{DigitsCompared}
+use Rattle.answers.specs.declared.DigitsCompared.the-variants.{Yes as DigitsYes, No as DigitsNo, Refused as DigitsRefused, UnequalTypes as DigitsUnequal, NotDigits, OutOfRange as DigitsOut}
 use Rattle.answers.specs.Answers.{pairedOf, boundsOf, boundedDifference, pairedDifference, differenceAnswer}
-use Rattle.answers.specs.Numbers.{checkedNumbers, comparedNumbers, differenceNumbers}
+use Rattle.answers.specs.Numbers.{checkedNumbers, comparedNumbers, differenceNumbers, digitsNumbers}
 
 -- the values of checks and comparisons
 pub checked-small : (answer : Checked) → checkedNumbers answer .value < 2 ^ 56
@@ -32,6 +34,14 @@ compared-small No = omega arith
 compared-small (CompareRefused side f) = omega arith
 compared-small UnequalTypes = omega arith
 compared-small (RangeOut side) = omega arith
+
+pub digits-small : (answer : DigitsCompared) → digitsNumbers answer .value < 2 ^ 56
+digits-small DigitsYes = omega arith
+digits-small DigitsNo = omega arith
+digits-small (DigitsRefused side f) = omega arith
+digits-small DigitsUnequal = omega arith
+digits-small NotDigits = omega arith
+digits-small (DigitsOut side) = omega arith
 
 -- the value of a search over fewer than 2 ^ 56 rows
 pub difference-small : (s t : List ℕ) (i j n : ℕ) {r : Difference} → r ≡ differenceAnswer s t i j n → n < 2 ^ 56 → differenceNumbers r .value < 2 ^ 56

@@ -12,6 +12,7 @@ use Rattle.image.specs.Faults.{checkImage}
 use Rattle.image.specs.Types.{typesAgree}
 use Rattle.image.specs.Equality.{rangesEqual, tablesEqual, firstDifference}
 use Rattle.image.specs.RowBytes.{rangeBytes}
+use Rattle.image.specs.Digits.{digitsEqual, notDigits}
 use Rattle.answers.specs.declared.Paired.{Paired}
 use Rattle.answers.specs.declared.Paired.the-variants.{Agreed, Refused as PairRefused, UnequalTypes as PairUnequal}
 use Rattle.answers.specs.declared.Bounds.{Bounds}
@@ -20,6 +21,8 @@ use Rattle.answers.specs.declared.Compared.{Compared}
 use Rattle.answers.specs.declared.Compared.the-variants.{Yes, No, Refused as CompareRefused, UnequalTypes, OutOfRange}
 use Rattle.answers.specs.declared.Difference.{Difference}
 use Rattle.answers.specs.declared.Difference.the-variants.{Nowhere, At, Refused as DifferenceRefused, UnequalTypes as DifferenceUnequal, OutOfRange as DifferenceOut}
+use Rattle.answers.specs.declared.DigitsCompared.{DigitsCompared}
+use Rattle.answers.specs.declared.DigitsCompared.the-variants.{Yes as DigitsYes, No as DigitsNo, Refused as DigitsRefused, UnequalTypes as DigitsUnequal, NotDigits, OutOfRange as DigitsOut}
 use Rattle.answers.specs.declared.Written.{Written}
 use Rattle.answers.specs.declared.Written.the-variants.{Bytes, Refused as WriteRefused, OutOfRange as WriteOutOfRange, TooLong}
 
@@ -93,6 +96,24 @@ differenceAnswer s t i j n =
     let row = differsAt n (firstDifference s t i j n) in
     let bounded = boundedDifference (boundsOf s t i j n) row in
     pairedDifference (pairedOf s t) bounded
+
+-- Comparison at fewer digits. "It takes two ranges of equal type and answers yes or no"; 22 comes "after 20 and before 21".
+abbrev pub boundedDigits : Bounds → Bool → DigitsCompared
+boundedDigits (BoundsOut side) agree = DigitsOut side
+boundedDigits Within true = DigitsYes
+boundedDigits Within false = DigitsNo
+
+abbrev pub pairedDigits : Paired → DigitsCompared → DigitsCompared
+pairedDigits (PairRefused side f) c = DigitsRefused side f
+pairedDigits PairUnequal c = DigitsUnequal
+pairedDigits Agreed c = c
+
+unfoldable pub digitsAnswer : List ℕ → List ℕ → ℕ → ℕ → ℕ → ℕ → DigitsCompared
+digitsAnswer s t i j n d =
+    let agree = digitsEqual d s t i j n in
+    let bounded = boundedDigits (boundsOf s t i j n) agree in
+    let fit = cond (notDigits s d) NotDigits bounded in
+    pairedDigits (pairedOf s t) fit
 
 -- 43: "output longer than the buffer"
 unfoldable pub writeRange : List ℕ → ℕ → ℕ → List ℕ → Written

@@ -11,6 +11,8 @@ use Rattle.answers.specs.declared.Compared.{Compared}
 use Rattle.answers.specs.declared.Compared.the-variants.{Yes, No, Refused as CompareRefused, UnequalTypes, OutOfRange}
 use Rattle.answers.specs.declared.Difference.{Difference}
 use Rattle.answers.specs.declared.Difference.the-variants.{Nowhere, At, Refused as DifferenceRefused, UnequalTypes as DifferenceUnequal, OutOfRange as DifferenceOut}
+use Rattle.answers.specs.declared.DigitsCompared.{DigitsCompared}
+use Rattle.answers.specs.declared.DigitsCompared.the-variants.{Yes as DigitsYes, No as DigitsNo, Refused as DigitsRefused, UnequalTypes as DigitsUnequal, NotDigits, OutOfRange as DigitsOut}
 use Rattle.answers.specs.declared.Written.{Written}
 use Rattle.answers.specs.declared.Written.the-variants.{Bytes, Refused as WriteRefused, OutOfRange as WriteOutOfRange, TooLong}
 use Rattle.answers.specs.declared.numbers.Numbers.{Numbers}
@@ -48,6 +50,15 @@ differenceNumbers (At row) = numbers 0 0 0 (row + 1)
 differenceNumbers (DifferenceRefused side f) = faultNumbers side f
 differenceNumbers DifferenceUnequal = numbers 20 0 0 0
 differenceNumbers (DifferenceOut side) = numbers 21 (sideNumber side) 0 0
+
+-- as those of a range comparison, and 22, which returns "only the number"
+abbrev pub digitsNumbers : DigitsCompared → Numbers
+digitsNumbers DigitsYes = numbers 0 0 0 1
+digitsNumbers DigitsNo = numbers 0 0 0 0
+digitsNumbers (DigitsRefused side f) = faultNumbers side f
+digitsNumbers DigitsUnequal = numbers 20 0 0 0
+digitsNumbers NotDigits = numbers 22 0 0 0
+digitsNumbers (DigitsOut side) = numbers 21 (sideNumber side) 0 0
 
 -- the value of a write is how many bytes it put out
 abbrev pub writtenNumbers : Written → Numbers

@@ -47,6 +47,20 @@ pub enum Difference {
     OutOfRange(Side),
 }
 
+// The answer of a comparison of ranges at fewer digits.
+pub enum DigitsCompared {
+    Yes,
+    No,
+    // 10 to 19
+    Refused(Side, Fault),
+    // 20: ranges of rows whose types differ
+    UnequalTypes,
+    // 22: the root is neither Decimal32 nor Decimal64, or the digits are more than nine
+    NotDigits,
+    // 21: start + count exceeds the length
+    OutOfRange(Side),
+}
+
 // The answer of a writer of rows.
 pub enum Written {
     // so many bytes stand at the front of the buffer

@@ -1,13 +1,14 @@
 // The numbers of an answer, and these as one number of 64 bits.
 use crate::Compared;
 use crate::Difference;
+use crate::DigitsCompared;
 use crate::Written;
 use image::answer::Checked;
 use image::answer::Fault;
 use image::answer::Side;
 ghost use mathlib.Core.Path.{_≡_};
 ghost use Prim.Native.Nat.{_<_, _^_};
-ghost use Rattle.answers.specs.Numbers.{sideNumber, numbers, faultNumbers, checkedNumbers, comparedNumbers, differenceNumbers, writtenNumbers, packed};
+ghost use Rattle.answers.specs.Numbers.{sideNumber, numbers, faultNumbers, checkedNumbers, comparedNumbers, differenceNumbers, digitsNumbers, writtenNumbers, packed};
 
 // 0 or the refusal's number; the side, 0 left and 1 right; the node; the value. What an answer does not have is 0.
 pub struct Numbers {
@@ -82,6 +83,19 @@ pub fn difference_numbers(answer: Difference) -> Numbers
         Difference::Refused(side, fault) => fault_numbers(fault, side),
         Difference::UnequalTypes => numbers_of(20, 0, 0, 0),
         Difference::OutOfRange(side) => numbers_of(21, side_number(side), 0, 0),
+    }
+}
+
+pub fn digits_numbers(answer: DigitsCompared) -> Numbers
+    ensures { λ r. ⌜ r ≡ digitsNumbers answer ⌝ }
+{
+    match answer {
+        DigitsCompared::Yes => numbers_of(0, 0, 0, 1),
+        DigitsCompared::No => numbers_of(0, 0, 0, 0),
+        DigitsCompared::Refused(side, fault) => fault_numbers(fault, side),
+        DigitsCompared::UnequalTypes => numbers_of(20, 0, 0, 0),
+        DigitsCompared::NotDigits => numbers_of(22, 0, 0, 0),
+        DigitsCompared::OutOfRange(side) => numbers_of(21, side_number(side), 0, 0),
     }
 }
 

@@ -4,3 +4,4 @@ pub mod RefusedWrites
 pub mod Demand2
 pub mod Demand3
 pub mod Difference
+pub mod Digits

@@ -1,11 +1,14 @@
 // The public calls: check an image, compare two tables, compare ranges of their rows, find the first row in which ranges
-// differ, write rows. Each checks its images itself.
+// differ, compare ranges of decimal numbers at fewer digits, write rows. Each checks its images itself.
 use accepted::column::REMEMBERED;
 use answers::Bounds;
 use answers::Compared;
 use answers::Difference;
+use answers::DigitsCompared;
 use answers::Paired;
 use answers::Written;
+use digits::digits_equal;
+use digits::not_digits;
 use equal::equal_range;
 use image::answer::Checked;
 use image::answer::Side;
@@ -18,11 +21,14 @@ use rows::write::write_rows;
 use values::types::types_equal;
 use values::utils::base_equal;
 ghost use mathlib.Core.Path.{_≡_};
+ghost use mathlib.Core.Bool.{cond};
 ghost use Rattle.image.specs.declared.answer.Checked.the-variants.{Accepted};
 ghost use Rattle.image.specs.Equality.{tablesEqual, rangesEqual, firstDifference};
 ghost use Rattle.image.specs.Faults.{checkImage};
+ghost use Rattle.image.specs.Digits.{digitsEqual, notDigits};
 ghost use Rattle.answers.specs.declared.Paired.the-variants.{Agreed};
-ghost use Rattle.answers.specs.Answers.{compareAnswer, pairedOf, boundsOf, boundedAnswer, compareRangeAnswer, differsAt, boundedDifference, differenceAnswer, writeAnswer, writeOutput, exceeds, yesOrNo};
+ghost use Rattle.answers.specs.declared.DigitsCompared.the-variants.{NotDigits};
+ghost use Rattle.answers.specs.Answers.{compareAnswer, pairedOf, boundsOf, boundedAnswer, compareRangeAnswer, differsAt, boundedDifference, differenceAnswer, boundedDigits, digitsAnswer, writeAnswer, writeOutput, exceeds, yesOrNo};
 
 // The image check.
 pub fn check(image: &[u8]) -> Checked
@@ -211,6 +217,51 @@ pub fn first_difference(
         Paired::Refused(side, fault) => Difference::Refused(side, fault),
         Paired::UnequalTypes => Difference::UnequalTypes,
         Paired::Agreed => difference_agreed(left, right, left_start, right_start, count),
+    }
+}
+
+// The comparison at fewer digits of ranges of two accepted tables of equal type.
+fn digits_agreed(
+    left: &[u8],
+    right: &[u8],
+    left_start: usize,
+    right_start: usize,
+    count: usize,
+    digits: usize,
+) -> DigitsCompared
+    requires { ⌜ pairedOf (now left) (now right) ≡ Agreed ⌝ }
+    ensures { λ r. ⌜ r ≡ cond (notDigits (now (left .entry)) digits) NotDigits (boundedDigits (boundsOf (now (left .entry)) (now (right .entry)) «left_start» «right_start» count) (digitsEqual digits (now (left .entry)) (now (right .entry)) «left_start» «right_start» count)) ⌝ }
+{
+    let bounds = bounds_of(left, right, left_start, right_start, count);
+    if not_digits(left, digits) {
+        return DigitsCompared::NotDigits;
+    }
+    if let Bounds::OutOfRange(side) = bounds {
+        return DigitsCompared::OutOfRange(side);
+    }
+    if digits_equal(left, right, left_start, right_start, count, digits) {
+        DigitsCompared::Yes
+    } else {
+        DigitsCompared::No
+    }
+}
+
+// Whether `count` rows of two tables of decimal numbers from their starts on agree, once so many digits are dropped.
+pub fn compare_digits(
+    left: &[u8],
+    right: &[u8],
+    left_start: usize,
+    right_start: usize,
+    count: usize,
+    digits: usize,
+) -> DigitsCompared
+    ensures { λ r. ⌜ r ≡ digitsAnswer (now (left .entry)) (now (right .entry)) «left_start» «right_start» count digits ⌝ }
+{
+    let both = paired(left, right);
+    match both {
+        Paired::Refused(side, fault) => DigitsCompared::Refused(side, fault),
+        Paired::UnequalTypes => DigitsCompared::UnequalTypes,
+        Paired::Agreed => { digits_agreed(left, right, left_start, right_start, count, digits) }
     }
 }
 

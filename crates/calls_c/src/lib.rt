@@ -1,12 +1,14 @@
 // Further calls for a host written in C, each answering with one number. host/editions_calls.h says what they answer.
 use answers::numbers::compared_numbers;
 use answers::numbers::difference_numbers;
+use answers::numbers::digits_numbers;
 use answers::numbers::pack;
+use api::compare_digits;
 use api::compare_range;
 use api::first_difference;
 ghost use mathlib.Core.Path.{_≡_};
-ghost use Rattle.answers.specs.Answers.{compareRangeAnswer, differenceAnswer};
-ghost use Rattle.answers.specs.Numbers.{comparedNumbers, differenceNumbers, packed};
+ghost use Rattle.answers.specs.Answers.{compareRangeAnswer, differenceAnswer, digitsAnswer};
+ghost use Rattle.answers.specs.Numbers.{comparedNumbers, differenceNumbers, digitsNumbers, packed};
 
 // Whether `count` rows of two tables from their starts on are equal.
 #[no_mangle]
@@ -40,4 +42,23 @@ pub extern "C" fn editions_first_difference(
     let j = right_start as usize;
     let n = count as usize;
     pack(difference_numbers(first_difference(left, right, i, j, n)))
+}
+
+// Whether these rows agree once so many digits are dropped.
+#[no_mangle]
+pub extern "C" fn editions_compare_digits(
+    left: &[u8],
+    right: &[u8],
+    left_start: u32,
+    right_start: u32,
+    count: u32,
+    digits: u32,
+) -> u64
+    ensures { λ r. ⌜ r ≡ packed (digitsNumbers (digitsAnswer (now (left .entry)) (now (right .entry)) «left_start» «right_start» count digits)) ⌝ }
+{
+    let i = left_start as usize;
+    let j = right_start as usize;
+    let n = count as usize;
+    let d = digits as usize;
+    pack(digits_numbers(compare_digits(left, right, i, j, n, d)))
 }

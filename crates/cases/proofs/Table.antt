@@ -1,4 +1,4 @@
--- Cases P1 to P10 and those of the first unequal row and of text hold: each call of the table has the answer that stands beside it.
+-- Cases P1 to P10 and those of the first unequal row, of text and of fewer digits hold: each call of the table has the answer that stands beside it.
 -- One test over the whole table is computed; the test of two lists is their equality, which gives each case.
 use mathlib.Core.Path.{_≡_, refl, sym, subst}
 use mathlib.Core.Bool.{Bool, true, _&&_, false≢true}
@@ -18,6 +18,7 @@ use Rattle.image.specs.Types
 use Rattle.image.specs.Row
 use Rattle.image.specs.Equality
 use Rattle.image.specs.RowBytes
+use Rattle.image.specs.Digits
 use Rattle.answers.specs.Answers
 use Rattle.image.specs.Types.{sameBytes}
 use Rattle.cases.specs.Build
@@ -61,6 +62,7 @@ unfolding passes
     Cases.mapOf Cases.mapAtRoot Cases.mapInList Cases.binaryOf Cases.under Cases.depthOf Cases.p1 Cases.p2 Cases.p3
     Cases.p4 Cases.p5 Cases.p6 Cases.p7 Cases.p8 Cases.p9 Cases.p10 Cases.runsLeft Cases.runsRight Cases.differences
     Cases.bytesOf Cases.textOf Cases.viewOf Cases.unusedHalf Cases.halfAndKey Cases.letter Cases.half Cases.textCases
+    Cases.decimal32Of Cases.decimal64Of Cases.frequencies Cases.otherFrequencies Cases.structOfDecimal Cases.digitCases
     Cases.cases
     Ranges.any Ranges.every Ranges.first Ranges.sumTo Ranges.rises
     Bytes.numberAt Bytes.numberBytes Bytes.bitAt Bytes.bytesAt
@@ -81,8 +83,10 @@ unfolding passes
     Row.tableRows
     Equality.rangesEqual Equality.tablesEqual Equality.rowsEqual Equality.rowsDiffer Equality.firstDifference
     RowBytes.rangeBytes RowBytes.rowsBytes
+    Digits.midway Digits.nearest Digits.divided Digits.wholeNumber Digits.storedAt Digits.keptAt Digits.sameWhole
+    Digits.keptAgree Digits.digitsEqual Digits.notDigits
     Answers.compareAnswer Answers.exceeds Answers.pairedOf Answers.boundsOf Answers.compareRangeAnswer
-    Answers.differenceAnswer Answers.writeRange Answers.writeAnswer Answers.writeOutput
+    Answers.differenceAnswer Answers.digitsAnswer Answers.writeRange Answers.writeAnswer Answers.writeOutput
     mathlib.Core.List.flatten mathlib.Core.List.flatMap
 all-pass = refl
 

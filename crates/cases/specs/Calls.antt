@@ -4,9 +4,9 @@ use mathlib.Core.Path.{_≡_}
 use mathlib.Core.List.{List, [], _∷_}
 use Prim.Native.Nat.{ℕ, suc}
 use Rattle.image.specs.Faults.{checkImage}
-use Rattle.answers.specs.Answers.{compareAnswer, compareRangeAnswer, differenceAnswer, writeAnswer, writeOutput}
+use Rattle.answers.specs.Answers.{compareAnswer, compareRangeAnswer, differenceAnswer, digitsAnswer, writeAnswer, writeOutput}
 use Rattle.answers.specs.declared.numbers.Numbers.{Numbers}
-use Rattle.answers.specs.Numbers.{checkedNumbers, comparedNumbers, differenceNumbers, writtenNumbers}
+use Rattle.answers.specs.Numbers.{checkedNumbers, comparedNumbers, differenceNumbers, digitsNumbers, writtenNumbers}
 
 pub data Call : Type 0 where
   -- check an image
@@ -17,6 +17,8 @@ pub data Call : Type 0 where
   compareRange : List ℕ → List ℕ → ℕ → ℕ → ℕ → Call
   -- the first of such rows that is not equal
   difference : List ℕ → List ℕ → ℕ → ℕ → ℕ → Call
+  -- compare such rows at fewer digits: the digits come last
+  compareDigits : List ℕ → List ℕ → ℕ → ℕ → ℕ → ℕ → Call
   -- write rows of an image: start, count, and what the buffer holds before
   write : List ℕ → ℕ → ℕ → List ℕ → Call
 
@@ -29,6 +31,7 @@ answer (check s) = told (checkedNumbers (checkImage s)) []
 answer (compare s t) = told (comparedNumbers (compareAnswer s t)) []
 answer (compareRange s t i j n) = told (comparedNumbers (compareRangeAnswer s t i j n)) []
 answer (difference s t i j n) = told (differenceNumbers (differenceAnswer s t i j n)) []
+answer (compareDigits s t i j n d) = told (digitsNumbers (digitsAnswer s t i j n d)) []
 answer (write s i n out) = told (writtenNumbers (writeAnswer s i n out)) (writeOutput s i n out)
 
 -- Answers by name.

@@ -1,11 +1,11 @@
--- Cases P1 to P10 of document 01 ("Pairs from the proof desk"), cases of the first unequal row and cases of text: their
+-- Cases P1 to P10 of document 01 ("Pairs from the proof desk"), cases of the first unequal row, of text and of fewer digits: their
 -- images, their calls and the answers, one table. Each image is laid out from a description of its Arrow columns.
 use mathlib.Core.List.{List, [], _∷_, _++_, flatMap}
-use Prim.Native.Nat.{ℕ, zero, suc, _-_, _^_}
+use Prim.Native.Nat.{ℕ, zero, suc, _*_, _-_, _^_}
 use Prim.Native.String.{String}
 use lib.ListN.{length}
 use Rattle.cases.specs.Build.{Column, Field, Stored, u32, column, image, field, nullable, stored, numbers, texts, lists, masked}
-use Rattle.cases.specs.Calls.{check, compare, compareRange, difference, write, accepted, equal, unequal, nowhere, atRow, refused, written, tooLong, Case, _answers_}
+use Rattle.cases.specs.Calls.{check, compare, compareRange, difference, compareDigits, write, accepted, equal, unequal, nowhere, atRow, refused, written, tooLong, Case, _answers_}
 
 -- The type codes that the cases use.
 abbrev pub int8 : ℕ
@@ -16,6 +16,15 @@ int16 = 3
 
 abbrev pub float32 : ℕ
 float32 = 11
+
+abbrev pub decimal32 : ℕ
+decimal32 = 15
+
+abbrev pub decimal64 : ℕ
+decimal64 = 16
+
+abbrev pub decimal128 : ℕ
+decimal128 = 17
 
 abbrev pub utf8 : ℕ
 utf8 = 26
@@ -268,6 +277,59 @@ textCases =
     ∷ compareRange half sessionLeft 0 0 1 answers refused 19 0 0
     ∷ []
 
+-- Numbers "at fewer digits". A negative number of w bytes is written as 2 ^ (8 * w) more.
+abbrev pub minus : ℕ → ℕ → ℕ
+minus w x = 2 ^ (8 * w) - x
+
+unfoldable pub decimal32Of : Stored → List ℕ
+decimal32Of d = image (leaf (field decimal32 9 "") d)
+
+unfoldable pub decimal64Of : List ℕ → List ℕ
+decimal64Of xs = image (leaf (field decimal64 18 "") (numbers 8 xs))
+
+-- 25, a null and -25 against 26, a null and -30; other bytes stand under the nulls
+unfoldable pub frequencies : List ℕ
+frequencies = decimal32Of (masked (1 ∷ 0 ∷ 1 ∷ []) (numbers 4 (25 ∷ 7 ∷ minus 4 25 ∷ [])))
+
+unfoldable pub otherFrequencies : List ℕ
+otherFrequencies = decimal32Of (masked (1 ∷ 0 ∷ 1 ∷ []) (numbers 4 (26 ∷ minus 4 9 ∷ minus 4 30 ∷ [])))
+
+-- a Struct of one Decimal32 column
+unfoldable pub structOfDecimal : List ℕ
+structOfDecimal = image (column (field struct 0 "") (stored 1 []) (leaf (field decimal32 9 "d") (numbers 4 (25 ∷ [])) ∷ []))
+
+unfoldable pub digitCases : List Case
+digitCases =
+    compareDigits frequencies otherFrequencies 0 0 3 1 answers equal
+    ∷ compareDigits frequencies otherFrequencies 0 0 3 0 answers unequal
+    ∷ compareDigits frequencies otherFrequencies 0 0 3 2 answers equal
+    -- a null against a number, also against 0
+    ∷ compareDigits frequencies frequencies 0 1 1 1 answers unequal
+    ∷ compareDigits (decimal32Of (masked (0 ∷ []) (numbers 4 (0 ∷ [])))) (decimal32Of (numbers 4 (0 ∷ []))) 0 0 1 9 answers unequal
+    -- 4 and -4 are both 0, and 5 and -5 are 1 and -1
+    ∷ compareDigits (decimal32Of (numbers 4 (4 ∷ 5 ∷ []))) (decimal32Of (numbers 4 (minus 4 4 ∷ minus 4 5 ∷ []))) 0 0 1 1 answers equal
+    ∷ compareDigits (decimal32Of (numbers 4 (4 ∷ 5 ∷ []))) (decimal32Of (numbers 4 (minus 4 4 ∷ minus 4 5 ∷ []))) 0 0 2 1 answers unequal
+    -- the ends of both widths: -(2 ^ 31) and 2 ^ 31 - 1, -(2 ^ 63) and 2 ^ 63 - 1
+    ∷ compareDigits (decimal32Of (numbers 4 (2 ^ 31 ∷ (2 ^ 31 - 1) ∷ []))) (decimal32Of (numbers 4 (minus 4 2000000000 ∷ 2000000000 ∷ []))) 0 0 2 9 answers equal
+    ∷ compareDigits (decimal32Of (numbers 4 ((2 ^ 31 - 1) ∷ []))) (decimal32Of (numbers 4 (2147483645 ∷ []))) 0 0 1 1 answers equal
+    ∷ compareDigits (decimal64Of (2 ^ 63 ∷ (2 ^ 63 - 1) ∷ [])) (decimal64Of (minus 8 9223372036500000000 ∷ 9223372036500000000 ∷ [])) 0 0 2 9 answers equal
+    ∷ compareDigits (decimal64Of (2 ^ 63 ∷ [])) (decimal64Of (minus 8 9223372036499999999 ∷ [])) 0 0 1 9 answers unequal
+    -- 20 before 22, 22 before 21, 21 left before right
+    ∷ compareDigits frequencies sessionLeft 0 0 1 10 answers refused 20 0 0
+    ∷ compareDigits frequencies otherFrequencies 0 0 4 10 answers refused 22 0 0
+    ∷ compareDigits frequencies otherFrequencies 0 0 0 10 answers refused 22 0 0
+    ∷ compareDigits frequencies otherFrequencies 0 0 4 9 answers refused 21 0 0
+    ∷ compareDigits frequencies otherFrequencies 0 1 3 9 answers refused 21 1 0
+    ∷ compareDigits frequencies otherFrequencies 3 3 0 9 answers equal
+    -- other roots, also with no digit dropped and no rows
+    ∷ compareDigits sessionLeft sessionRight 0 0 3 0 answers refused 22 0 0
+    ∷ compareDigits sessionLeft sessionRight 4 0 0 0 answers refused 22 0 0
+    ∷ compareDigits (image (leaf (field decimal128 38 "") (stored 0 ([] ∷ [])))) (image (leaf (field decimal128 38 "") (stored 0 ([] ∷ [])))) 0 0 0 1 answers refused 22 0 0
+    ∷ compareDigits structOfDecimal structOfDecimal 0 0 1 1 answers refused 22 0 0
+    -- an image that is refused, before all of these
+    ∷ compareDigits frequencies half 0 0 9 10 answers refused 19 1 0
+    ∷ []
+
 -- the table
 unfoldable pub cases : List Case
-cases = p1 ++ p2 ++ p3 ++ p4 ++ p5 ++ p6 ++ p7 ++ p8 ++ p9 ++ p10 ++ differences ++ textCases
+cases = p1 ++ p2 ++ p3 ++ p4 ++ p5 ++ p6 ++ p7 ++ p8 ++ p9 ++ p10 ++ differences ++ textCases ++ digitCases

@@ -1,3 +1,4 @@
 pub mod Build
 pub mod Calls
 pub mod Cases
+pub mod Kept

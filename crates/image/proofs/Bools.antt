@@ -60,6 +60,12 @@ flags-same true false e = cc
 flags-same false true e = cc
 flags-same false false e = refl
 
+-- two tests that hold together are the same
+pub tests-same : (x y : Bool) → (x ≡ true → y ≡ true) → (y ≡ true → x ≡ true) → x ≡ y
+tests-same true y to from = sym (to refl)
+tests-same false true to from = from refl
+tests-same false false to from = refl
+
 -- The same as equivalences, for `simp facts at`: a test becomes what it says.
 pub or-false-is : (x y : Bool) → (x || y ≡ false) ↔ ((x ≡ false) × (y ≡ false))
 or-false-is x y = (λ e. (or-left x y e, or-right x y e), λ p. rw (p .0) (p .1))

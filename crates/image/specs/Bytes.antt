@@ -1,13 +1,17 @@
 -- Little-endian numbers and bits of a list of bytes. Past the list's end every byte reads as 0.
 use mathlib.Core.Bool.{Bool}
 use mathlib.Core.List.{List, [], _∷_}
-use Prim.Native.Nat.{ℕ, zero, suc, _+_, _*_, _/_, _%_, _^_}
+use Prim.Native.Nat.{ℕ, zero, suc, _+_, _*_, _/_, _%_, _^_, _<_}
 use lib.ListN.{getD}
 use lib.Dec.{eqb}
 
 -- the byte at a place
 abbrev pub byteAt : List ℕ → ℕ → ℕ
 byteAt s i = getD s i 0
+
+-- each number of the list is a byte, as it is in a slice
+abbrev pub AllBytes : List ℕ → Type 0
+AllBytes s = (k : ℕ) → byteAt s k < 256
 
 -- "Little-endian": the number that the w bytes at a place make
 unfoldable pub numberAt : ℕ → List ℕ → ℕ → ℕ

@@ -10,3 +10,4 @@ pub mod Types
 pub mod Row
 pub mod Equality
 pub mod RowBytes
+pub mod Digits

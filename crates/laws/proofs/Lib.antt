@@ -1,4 +1,5 @@
 pub mod Sound
+pub mod Rounding
 pub mod TypeLaws
 pub mod NoneBelow
 pub mod Codes

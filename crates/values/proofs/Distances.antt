@@ -1,7 +1,7 @@
 -- Offsets that stand equally far above the first of them make equal spans, and the other way.
 -- Each offset is the first and the spans up to it; a span is the difference of two such distances.
-use mathlib.Core.Path.{_≡_, refl, sym, ap₂, _∙_}
-use mathlib.Core.Bool.{Bool, true, false, _&&_}
+use mathlib.Core.Path.{_≡_, sym, ap₂, _∙_}
+use mathlib.Core.Bool.{Bool, true, _&&_}
 use mathlib.Core.List.{List}
 use mathlib.Core.Logic.{_⊎_, inl, inr}
 use Prim.Native.Nat.{ℕ, suc, _+_, _*_, _-_, _<_, _≤_}
@@ -14,6 +14,7 @@ use Rattle.image.specs.Bytes.{numberAt}
 use Rattle.image.specs.Record.{bufferPlace}
 use Rattle.image.specs.Element.{elementWidth, elementPlace, elementAt}
 use Rattle.image.specs.Reads.{Read, isWidth, Packed}
+use Rattle.image.proofs.Bools.{tests-same}
 use Rattle.values.specs.Pairs.{all, sameSpan, spanAt, sameDistance}
 use Rattle.values.specs.Parts.{Spans, Above}
 use Rattle.values.proofs.Steps.{all-by, all-snoc}
@@ -81,11 +82,6 @@ pub narrow-width : {w v : ℕ} → (w ≡ 4) ⊎ (w ≡ 8) → v ≡ w → v ≤
 narrow-width (inl e) f = omega (arith, e, f)
 narrow-width (inr e) f = omega (arith, e, f)
 
-both : (x y : Bool) → (x ≡ true → y ≡ true) → (y ≡ true → x ≡ true) → x ≡ y
-both true y to from = sym (to refl)
-both false true to from = from refl
-both false false to from = refl
-
 -- what was read of the two sides: the width of their offsets, where these start, and the first of each
 pub record Firsts (a b : List ℕ) (k l i j w p q x y : ℕ) : Type 0 where
   pub width : w ≡ elementWidth a k
@@ -149,7 +145,7 @@ module _ {a b : List ℕ} {k l i j n : ℕ} (r : Spans a b k l i j n) {w p q x y
   pub distances-spans : all (sameDistance a p b q w x y) i j (n + 1) ≡ all (sameSpan a k b l) i j n
   unfolding sameSpan spanAt
   distances-spans =
-      both _ _
+      tests-same _ _
       (λ e. all-by (sameSpan a k b l) i j n (λ h lt. eq-eqb _ _
       (distances-span (elementAt a k) (elementAt b l) i j n (r .left) (r .right)
       (λ m le. eqb-true _ _ (sym (distance-at m) ∙ all-at (sameDistance a p b q w x y) i j (n + 1) e m (omega arith))) h lt)))

@@ -61,7 +61,7 @@ unfolding validSame bitOf
 valid-test bits a b w x y h e = rw e
 
 -- where the element of row i starts, from that of row 0
-place-of : (s : List ℕ) (k i : ℕ) {p w : ℕ} → p ≡ elementPlace s k (offsetOf s k) → w ≡ elementWidth s k → p + i * w ≡ elementPlace s k (offsetOf s k + i)
+pub place-of : (s : List ℕ) (k i : ℕ) {p w : ℕ} → p ≡ elementPlace s k (offsetOf s k) → w ≡ elementWidth s k → p + i * w ≡ elementPlace s k (offsetOf s k + i)
 unfolding elementPlace
 place-of s k i ep ew =
     let e : (offsetOf s k + i) * elementWidth s k ≡ offsetOf s k * elementWidth s k + i * elementWidth s k = add-mul (offsetOf s k) i (elementWidth s k) in

@@ -10,7 +10,7 @@ use native.Mathlib.Nat.{eq-or-lt-of-le, mod-one, mod-add-div, mod-lt, mod-eq-of-
 use lib.Dec.{eqb}
 use lib.Pow.{pow-pos}
 use borrow.Author.Tests.{eqb-true, eqb-false, eq-eqb, ne-eqb}
-use Rattle.image.specs.Bytes.{byteAt, numberAt, bitAt}
+use Rattle.image.specs.Bytes.{byteAt, AllBytes, numberAt, bitAt}
 use Rattle.image.specs.Reads.{Read}
 use Rattle.image.specs.Ranges.{every}
 use Rattle.image.proofs.Compare.{is-eq, is-ne}
@@ -59,7 +59,7 @@ pub halved : (x r : ℕ) → x / 2 ^ r / 2 ≡ x / 2 ^ suc r
 halved x r = div-div-eq-div-mul x (2 ^ r) 2 ∙ ap (λ (y : ℕ). x / y) (sym (pow-suc 2 r))
 
 -- n bits from bit i on are the number at bit i's byte, without the bits below bit i, cut off after n bits
-module _ (s : List ℕ) (small : (k : ℕ) → byteAt s k < 256) (p : ℕ) where
+module _ (s : List ℕ) (small : AllBytes s) (p : ℕ) where
   next : (i w n : ℕ) → i % 8 + suc n ≤ 8 * suc w → ((v : ℕ) → suc i % 8 + n ≤ 8 * v → bitsAt s p (suc i) n ≡ numberAt v s (p + suc i / 8) / 2 ^ (suc i % 8) % 2 ^ n)
       → (i % 8 ≡ 7) ⊎ (i % 8 < 7) → bitsAt s p (suc i) n ≡ numberAt (suc w) s (p + i / 8) / 2 ^ (i % 8) / 2 % 2 ^ n
   unfolding numberAt
@@ -92,7 +92,7 @@ number-nine s i =
     rw e (omega arith)
 
 -- the 64 bits from bit i on, by a read of eight bytes and one of the byte after them
-module _ (s : List ℕ) (small : (k : ℕ) → byteAt s k < 256) (p i : ℕ) {low : ℕ} (lows : Read (numberAt 8 s (p + i / 8)) 64 low) where
+module _ (s : List ℕ) (small : AllBytes s) (p i : ℕ) {low : ℕ} (lows : Read (numberAt 8 s (p + i / 8)) 64 low) where
   pub word-whole : i % 8 ≡ 0 → low ≡ bitsAt s p i 64
   word-whole e =
       let x : bitsAt s p i 64 ≡ numberAt 8 s (p + i / 8) / 2 ^ (i % 8) % 2 ^ 64 = bits-number s small p 64 i 8 (omega arith) in

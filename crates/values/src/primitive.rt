@@ -150,7 +150,7 @@ pub struct Columns {
     pub first: usize,
 }
 
-fn columns_of(a: &[u8], an: u32, b: &[u8], bn: u32, s: usize, t: usize, n: usize) -> Columns
+pub fn columns_of(a: &[u8], an: u32, b: &[u8], bn: u32, s: usize, t: usize, n: usize) -> Columns
     requires { ⌜ Masked FixedWidth (now a) (now b) an bn s t n ⌝ }
     ensures { λ r. ⌜ ColumnsAt (now (a .entry)) (now (b .entry)) an bn r ⌝ }
 {
@@ -208,7 +208,7 @@ fn words_equal(a: &[u8], an: u32, b: &[u8], bn: u32, s: usize, t: usize, n: usiz
 }
 
 // A chunk of rows: where not all bytes are the same, those of the rows that are not null.
-fn chunk_equal(a: &[u8], an: u32, b: &[u8], bn: u32, s: usize, t: usize, n: usize) -> bool
+pub fn chunk_equal(a: &[u8], an: u32, b: &[u8], bn: u32, s: usize, t: usize, n: usize) -> bool
     requires { ⌜ Masked FixedWidth (now a) (now b) an bn s t n ⌝ }
     ensures { λ r. ⌜ r ≡ rangeEqual (maskedRow fixedRow (now (a .entry)) an) (maskedRow fixedRow (now (b .entry)) bn) s t n ⌝ }
 {
