@@ -33,7 +33,8 @@ uint64_t editions_first_difference(const uint8_t *left, size_t left_length, cons
 /* Whether the numbers of two ranges agree, in turn, once their last `digits` digits are dropped, 0 to 9. Of a row that is not
  * null the stored whole number, an i32 or i64, is divided by 10 to the `digits`, to the nearest, halves away from zero: with
  * one digit dropped 25 gives 3, -25 gives -3, and 4 and -4 give 0. Null agrees only with null. The answer's value is 1 for yes
- * and 0 for no; ranges without rows agree, and with `digits` 0 it is the answer of editions_compare_range. */
+ * and 0 for no; ranges without rows agree. With `digits` 0 the answer is that of editions_compare_range, where it is not
+ * EDITIONS_DIGITS. */
 uint64_t editions_compare_digits(const uint8_t *left, size_t left_length, const uint8_t *right, size_t right_length,
                                  uint32_t left_start, uint32_t right_start, uint32_t count, uint32_t digits);
 
