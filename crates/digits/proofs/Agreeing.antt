@@ -61,7 +61,7 @@ same-number a b (suc w) i j e =
 -- One row of each, whose masks agree.
 module _ (p : ℕ) (a b : List ℕ) (i j : ℕ) (mask : valid a 0 i ≡ valid b 0 j) where
   -- both are null
-  pub null-agree : valid a 0 i ≡ false → keptAgree p a b i j ≡ true
+  null-agree : valid a 0 i ≡ false → keptAgree p a b i j ≡ true
   unfolding keptAgree
   null-agree e =
       let f : valid b 0 j ≡ false = sym mask ∙ e in
@@ -75,7 +75,7 @@ module _ (p : ℕ) (a b : List ℕ) (i j : ℕ) (mask : valid a 0 i ≡ valid b 
       rw (e, f)
 
   -- rows that are equal agree
-  pub row-agrees : elementWidth a 0 ≡ elementWidth b 0 → sameRow (maskedRow fixedRow a 0) (maskedRow fixedRow b 0) i j ≡ true → keptAgree p a b i j ≡ true
+  row-agrees : elementWidth a 0 ≡ elementWidth b 0 → sameRow (maskedRow fixedRow a 0) (maskedRow fixedRow b 0) i j ≡ true → keptAgree p a b i j ≡ true
   unfolding sameRow maskedRow fixedRow rowEqual keptAt storedAt elementAt
   row-agrees width e = cases (valid a 0 i) refl
     where
@@ -88,7 +88,7 @@ module _ (p : ℕ) (a b : List ℕ) (i j : ℕ) (mask : valid a 0 i ≡ valid b 
           kept-decide is ∙ rw (← width, number) (same-whole _ _ .1 refl)
 
   -- the stored numbers, as they are read
-  pub numbers-decide : {w x y place-a place-b : ℕ} → w ≡ elementWidth a 0 → w ≡ elementWidth b 0 → valid a 0 i ≡ true
+  numbers-decide : {w x y place-a place-b : ℕ} → w ≡ elementWidth a 0 → w ≡ elementWidth b 0 → valid a 0 i ≡ true
       → place-a ≡ elementPlace a 0 (offsetOf a 0 + i) → place-b ≡ elementPlace b 0 (offsetOf b 0 + j)
       → x ≡ numberAt w a place-a → y ≡ numberAt w b place-b
       → agreedAt p w x y ≡ keptAgree p a b i j

@@ -31,7 +31,7 @@ sign-twice : (w : ℕ) → 1 ≤ w → w ≤ 8 → 2 * signBit w ≡ 2 ^ (8 * w)
 unfolding signBit
 sign-twice w low high = agree (λ (w : ℕ). 2 * signBit w) (λ (w : ℕ). 2 ^ (8 * w)) 1 8 refl w low (omega arith)
 
-pub sign-top : (w : ℕ) → 1 ≤ w → w ≤ 8 → signBit w ≤ 2 ^ 63
+sign-top : (w : ℕ) → 1 ≤ w → w ≤ 8 → signBit w ≤ 2 ^ 63
 unfolding signBit
 sign-top w low high = leb-true _ _ (agree (λ (w : ℕ). leb (signBit w) (2 ^ 63)) (λ (w : ℕ). true) 1 8 refl w low (omega arith))
 
