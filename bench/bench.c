@@ -15,7 +15,7 @@
  * call on no rows, which checks both images and compares their types, and the first less the last, which is the search.
  *
  * The third table, of text, is that of text.c; the fourth, of rows of runs that are written, that of write.c; the fifth, of
- * numbers at fewer digits, that of digits.c. */
+ * numbers at fewer digits, that of digits.c; the sixth, of the names of Maps, that of names.c. */
 #include "../host/editions_calls.h"
 #include "bench.h"
 
@@ -563,7 +563,8 @@ static const struct table {
               {"search", search_table},
               {"text", text_table},
               {"write", write_table},
-              {"digits", digits_table}};
+              {"digits", digits_table},
+              {"names", names_table}};
 
 enum { TABLE_COUNT = sizeof TABLES / sizeof TABLES[0] };
 

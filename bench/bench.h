@@ -90,4 +90,7 @@ void write_table(void);
 /* The fifth table: what comparing numbers at fewer digits takes. */
 void digits_table(void);
 
+/* The sixth table: what asking for the names of Maps takes. */
+void names_table(void);
+
 #endif

@@ -1,10 +1,11 @@
-/* editions_calls.h: which rows of two ranges are equal, where they part, and which agree at fewer digits.
+/* editions_calls.h: which rows of two ranges are equal, where they part, and which agree at fewer digits; and how a table's Maps
+ * are named.
  *
  * Further calls on the tables of editions.h. What editions.h says of images, lent memory, threads and answers holds here too,
  * and its functions take these answers apart. Link with libcalls_c.a; it needs no other library, and a program may link it
  * beside libeditions_c.a.
  *
- * A range is `count` rows of a table from row `start` on. Each call is refused by the first of these that holds:
+ * A range is `count` rows of a table from row `start` on. Each call on two ranges is refused by the first of these that holds:
  *   - 10 to 19, with the side and the node, as editions_compare refuses an image, left before right;
  *   - EDITIONS_TYPES, where the tables' types do not agree, also where count is 0;
  *   - EDITIONS_DIGITS, editions_compare_digits alone, where the root is neither Decimal32 nor Decimal64 or `digits` is above 9,
@@ -37,6 +38,12 @@ uint64_t editions_first_difference(const uint8_t *left, size_t left_length, cons
  * EDITIONS_DIGITS. */
 uint64_t editions_compare_digits(const uint8_t *left, size_t left_length, const uint8_t *right, size_t right_length,
                                  uint32_t left_start, uint32_t right_start, uint32_t count, uint32_t digits);
+
+/* Whether every Map's entries are named `entries` and their two fields `key` and `value`, in this order, byte for byte. Every
+ * Map of the tree counts, at any depth, also one without rows, one in a Dictionary's values, and one in a union's child that
+ * no row names. The answer's value is 1 for yes and 0 for no; a table without Maps: yes. Refused by 10 to 19 as
+ * editions_check, and by nothing else. */
+uint64_t editions_map_names(const uint8_t *image, size_t image_length);
 
 #ifdef __cplusplus
 }

@@ -13,6 +13,9 @@ from model import OFFSET_WIDTH, P1, RUN_END_ENCODED, SPARSE_UNION, STRUCT, TEXTS
 LEAVES = [NULL, BOOLEAN, *range(2, LIST)]
 NESTED = [*range(LIST, RUN_END_ENCODED + 1)]
 
+# the names of a Map's entries, key and value that the query asks for
+MAP_NAMES = [b"entries", b"key", b"value"]
+
 # how long texts that are not among the usual few are
 TEXT_LENGTHS = [1, 4, 12, 13, 20]
 
@@ -39,18 +42,37 @@ class Type:
     def all(self):
         return [self] + [below for child in self.children for below in child.all()]
 
+    def maps(self):
+        """Of each Map the Map, its entries, its key and its value."""
+        return [(map, *map.children, *map.children[0].children) for map in self.all() if map.code == MAP]
+
+
+def map_name(rng, usual):
+    """A name for a Map's entries, key or value: the one that is asked for, one near it, or any."""
+    return rng.choice([usual, usual, usual[:-1], usual + b"s", rng.randbytes(rng.choice([0, 1, 3]))])
+
+
+def random_map(rng, depth):
+    """The entries of a Map of a depth that may not count them, half of them with the names that are asked for."""
+    below = [random_type(rng, max(depth - rng.choice([1, 2]), 1)) for _ in range(2)]
+    entries = Type(STRUCT, children=below, nullable=rng.random() < 0.3)
+    usual = rng.random() < 0.5
+    for node, name in zip([entries, *below], MAP_NAMES):
+        node.name = name if usual else map_name(rng, name)
+    return entries
+
 
 def random_type(rng, depth=3, code=None):
-    """A type of at most that depth."""
+    """A type of at most that depth, but for the entries of Maps."""
     if code is None:
-        code = rng.choice(LEAVES if depth <= 1 else LEAVES + NESTED * 3)
+        code = rng.choice(LEAVES if depth <= 1 else LEAVES + NESTED * 3 + [MAP] * 9)
     made = Type(code, name=rng.randbytes(rng.choice([0, 0, 1, 3, LONGEST_NAME])), nullable=rng.random() < 0.5)
     low, high = P1.get(code, (0, 0))
     made.p1 = rng.choice([0, 1, 2, 3, 7, 16]) if code in (FIXED_SIZE_BINARY,) else rng.choice([0, 1, 2, 3]) if code == FIXED_SIZE_LIST else rng.randint(low, high)
     if 15 <= code <= 18:
         made.p2 = rng.choice([-128, -1, 0, 5, 127])
     if code == MAP:
-        made.children = [Type(STRUCT, name=b"entries", children=[random_type(rng, max(depth - 2, 1)) for _ in range(2)])]
+        made.children = [random_map(rng, depth)]
     elif code == RUN_END_ENCODED:
         made.children = [Type(rng.choice([3, 4, 5]), name=b"run_ends"), random_type(rng, depth - 1)]
     elif code in UNIONS:
@@ -349,10 +371,16 @@ def change_byte(rng, row):
 
 
 def change_type(rng, type):
-    """A type that differs in one of code, p1, p2, a name, a nullable flag or an id, somewhere in the tree."""
+    """A type that differs in one of p1, p2, a name, a nullable flag or an id, somewhere in the tree; where there are Maps, half
+    of the time in a label of one, of its entries, its key, its value or a child of these."""
     made = type.copy()
     node = rng.choice(made.all())
     what = rng.randrange(5)
+    maps = made.maps()
+    if maps and rng.random() < 0.5:
+        map, entries, *fields = rng.choice(maps)
+        below = [child for field in fields for child in field.children]
+        node, what = rng.choice([map, entries, *fields, *below]), rng.randrange(3)
     if what == 0:
         node.name = rng.randbytes(rng.choice([0, 1, 2]))
     elif what == 1:

@@ -67,6 +67,20 @@ def record(**values):
     return b"".join(number(width, values.get(field, 0)) for field, width in FIELDS.items())
 
 
+def field_place(node, field):
+    """Where a field of a node's record stands."""
+    before = list(FIELDS).index(field)
+    return HEADER + RECORD * node + sum(list(FIELDS.values())[:before])
+
+
+def with_fields(data, node, **values):
+    """An image with other values in fields of a node's record."""
+    for field, value in values.items():
+        at = field_place(node, field)
+        data = data[:at] + number(FIELDS[field], value) + data[at + FIELDS[field] :]
+    return data
+
+
 def entry(place, length):
     return number(4, place) + number(4, length)
 

@@ -1,6 +1,6 @@
-"""A model of document 01, written from its sentences: the image check, types, rows, row bytes, and the session; and of three
-things that document 02 adds, the first unequal row of two ranges, text that is UTF-8 (RFC 3629), and the comparison at fewer
-digits.
+"""A model of document 01, written from its sentences: the image check, types, rows, row bytes, and the session; and of what
+document 02 adds, the first unequal row of two ranges, text that is UTF-8 (RFC 3629), the comparison at fewer digits, and Map
+names at every depth.
 
 It is the second opinion that the proved program is held to, so it shares nothing with it: numbers are Python's, rows are
 tuples, and speed is no aim.
@@ -156,6 +156,10 @@ class Image:
     def children(self, node):
         record = self.nodes[node]
         return range(record.first_child, record.first_child + record.child_count)
+
+    def name(self, node):
+        record = self.nodes[node]
+        return self.data[record.name_place :][: record.name_length]
 
     def buffer(self, node, k):
         """The place and the length of buffer k of a node."""
@@ -468,27 +472,23 @@ class Image:
                 yield from self.written(child, k)
 
 
-def types_agree(a, b, x=0, y=0, place="root"):
-    """The types of node x of one image and of node y of the other; the place says which labels of their children count."""
+def types_agree(a, b, x=0, y=0, entries=False):
+    """The types of node x of one image and of node y of the other; `entries` says that they are the entries of a Map, of whose
+    children the names do not count."""
     r, s = a.nodes[x], b.nodes[y]
     if (r.code, r.p1, r.p2, r.child_count) != (s.code, s.p1, s.p2, s.child_count):
         return False
-    name = flag = r.code != DICTIONARY
-    below = "deeper"
-    if place == "root" and r.code == MAP:
-        name = flag = False
-        below = "entries"
-    elif place == "entries":
-        name = False
+    flag = r.code not in (DICTIONARY, MAP)
+    name = flag and not entries
     for c, d in zip(a.children(x), b.children(y)):
         u, v = a.nodes[c], b.nodes[d]
-        if name and a.data[u.name_place :][: u.name_length] != b.data[v.name_place :][: v.name_length]:
+        if name and a.name(c) != b.name(d):
             return False
         if flag and u.nullable != v.nullable:
             return False
         if r.code in UNIONS and u.id != v.id:
             return False
-        if not types_agree(a, b, c, d, below):
+        if not types_agree(a, b, c, d, r.code == MAP):
             return False
     return True
 
@@ -605,6 +605,20 @@ def compare_digits(left, right, i, j, n, digits):
     if refused:
         return refused
     return (0, 0, 0, int(kept_rows(a, i, n, digits) == kept_rows(b, j, n, digits)))
+
+
+def map_names(data):
+    """The value is 1 where every Map's entries are named `entries` and its fields `key` and `value`, else 0."""
+    try:
+        image = checked(data)
+    except Fault as fault:
+        return (fault.number, 0, fault.node, 0)
+    for node, record in enumerate(image.nodes):
+        if record.code == MAP:
+            (entries,) = image.children(node)
+            if [image.name(k) for k in (entries, *image.children(entries))] != [b"entries", b"key", b"value"]:
+                return (0, 0, 0, 0)
+    return (0, 0, 0, 1)
 
 
 def write(data, i, n, room):

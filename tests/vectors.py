@@ -4,8 +4,8 @@
 The lines are made here; the replies are those of the model (tests/model.py), which is written from document 01 and shares
 nothing with the program. In turn: document 01's session; lines that are no frames; every frame in every state of the two
 sides; document 01's pairs; rows of each layout, written; images with each fault; texts that are UTF-8 and texts that are not;
-random tables of every type code, compared and written in two layouts; and the fixed list of the Rust's answers
-(tests/rust/answers.txt), whose replies are the Rust's.
+Maps whose labels differ, compared in whole and as ranges; random tables of every type code, compared and written in two
+layouts; and the fixed list of the Rust's answers (tests/rust/answers.txt), whose replies are the Rust's.
 
     python3 tests/vectors.py            write the two files
     python3 tests/vectors.py --check    say whether they are as written
@@ -16,6 +16,7 @@ import random
 import sys
 
 import columns
+import maps
 import model
 import pairs
 import texts
@@ -222,6 +223,23 @@ def utf8(script):
         script.write(side, 0, 1)
 
 
+def map_labels(script):
+    """The pairs of tests/maps.py, compared, and as the range of the left one's rows. A side that holds its image is not filled
+    again. What is asked of names has no frame, and is held to the model alone."""
+    for words, image, answer in maps.QUERIES:
+        assert model.map_names(image) == answer, words
+    held = [None, None]
+    for words, *images, agree, equal in maps.PAIRS:
+        assert model.compare_range(*images, 0, 0, 0) == ((0, 0, 0, 1) if agree else (20, 0, 0, 0)), words
+        assert model.compare(*images) == (0, 0, 0, int(equal)), words
+        for side, image in enumerate(images):
+            if image != held[side]:
+                script.store(side, image)
+        held = images
+        script.compare()
+        script.compare_range(0, 0, model.Image(images[LEFT]).nodes[0].length)
+
+
 def tables(script):
     """Random tables of every code: the same rows in two layouts, and with one difference; ranges; writes."""
     for seed in range(3 * CODES):
@@ -273,7 +291,7 @@ def rust(script):
 
 def script():
     made = Script()
-    for part in (document, bad_lines, every_state, full_store, desk, written, faults, utf8, tables, rust):
+    for part in (document, bad_lines, every_state, full_store, desk, written, faults, utf8, map_labels, tables, rust):
         part(made)
     # the last line ends with the input
     made.line("04")

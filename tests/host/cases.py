@@ -1,6 +1,7 @@
 #!/usr/bin/env python3
-"""Writes calls with their answers for the host tests: document 01's pairs, the texts of tests/texts.py and the decimals of
-tests/decimals.py with their answers, and random images, good and damaged, with what the model says of them.
+"""Writes calls with their answers for the host tests: document 01's pairs, the texts of tests/texts.py, the decimals of
+tests/decimals.py and the Maps of tests/maps.py with their answers, and random images, good and damaged, with what the model says
+of them.
 
     python3 tests/host/cases.py FILE COUNT SEED [CORPUS]
 
@@ -8,8 +9,9 @@ FILE gets records. A record of one call has its number (0 check, 1 compare, 2 wr
 write u32 start, count and room, then the answer as u64 and, for a write, the bytes written (u32 length, bytes). A record
 of ranges has the number 3, two images and the number of ranges as u32; then for each range left start, right start and count
 as u32, and as u64 the answers of the range comparison and of the first difference. A record of digits has the number 4 and is
-like one of ranges; each range has the digits as a fourth number, and the answer of the comparison at fewer digits. CORPUS, a
-directory, gets inputs of tests/host/fuzz.c, to start a fuzzer from.
+like one of ranges; each range has the digits as a fourth number, and the answer of the comparison at fewer digits. A record of
+Map names has the number 5, an image, and as u64 the query's answer. CORPUS, a directory, gets inputs of tests/host/fuzz.c, to
+start a fuzzer from.
 """
 
 import functools
@@ -21,12 +23,14 @@ sys.path.insert(0, os.path.join(os.path.dirname(os.path.abspath(__file__)), ".."
 
 import columns
 import decimals
+import maps
 import model
 import pairs
 import texts
+from columns import MAP_NAMES
 from decimals import LARGEST
 from image import CODES, number
-from model import DECIMAL32, DECIMAL64, MOST_DIGITS
+from model import DECIMAL32, DECIMAL64, MAP, MOST_DIGITS
 from nodes import INT32, INT64
 
 # the longest input that a fuzzer starts from
@@ -89,10 +93,17 @@ def digits_call(left, right, asked):
     return record
 
 
+def names_call(image):
+    """The query for Map names, with the model's answer."""
+    return b"\x05" + sized(image) + packed(model.map_names(image))
+
+
 def document_calls():
-    """Document 01's pairs, with its answers. A pair of ranges is asked for its first difference too, which is the model's."""
+    """Document 01's pairs, with its answers. A pair of ranges is asked for its first difference too, and each left image for its
+    Maps' names; these answers are the model's."""
     for _, (call, images, rest), answer in pairs.PAIRS:
         lent = [b"".join(parts) for _, parts in images]
+        yield names_call(lent[0])
         if call == "check":
             yield b"\x00" + sized(lent[0]) + packed(answer)
         elif call == "compare":
@@ -105,12 +116,13 @@ def document_calls():
 
 
 def text_calls():
-    """The images of tests/texts.py, each checked and written, and compared with itself, with no image, and behind a table of
-    another type."""
+    """The images of tests/texts.py, each checked, asked for its Maps' names and written, and compared with itself, with no
+    image, and behind a table of another type."""
     other = b"".join(pairs.session(0))
     for words, image, answer in texts.IMAGES + texts.ALONE:
         assert model.check(image) == answer, words
         yield b"\x00" + sized(image) + packed(answer)
+        yield names_call(image)
         yield write_call(image, 0, 1, 64, *model.write(image, 0, 1, 64))
         for left, right in ((image, image), (image, b""), (other, image)):
             yield b"\x01" + sized(left) + sized(right) + packed(model.compare(left, right))
@@ -126,6 +138,22 @@ def decimal_calls():
         yield digits_call(left, right, [asked])
 
 
+def map_calls():
+    """The pairs and the queries of tests/maps.py. A pair whose types agree is asked about over the left table's rows."""
+    for words, left, right, agree, equal in maps.PAIRS:
+        for one, other in ((left, right), (right, left)):
+            rows = model.checked(one).nodes[0].length
+            assert model.compare(one, other) == (0, 0, 0, int(equal)), words
+            assert (model.compare_range(one, other, 0, 0, 0)[0] != 20) == agree, words
+            yield b"\x01" + sized(one) + sized(other) + packed(model.compare(one, other))
+            yield ranges_call(one, other, [(0, 0, 0), (0, 0, rows)])
+            yield names_call(one)
+    for words, image, answer in maps.QUERIES:
+        assert model.map_names(image) == answer, words
+        yield b"\x00" + sized(image) + packed(answer if answer[0] else (0, 0, 0, 0))
+        yield names_call(image)
+
+
 def calls(rng, seed):
     kind, rows = table(rng, seed)
     left = laid(rng, kind, rows)
@@ -138,6 +166,7 @@ def calls(rng, seed):
     damaged = [columns.damage(rng, left) for _ in range(4)]
     for image in [left] + damaged:
         yield b"\x00" + sized(image) + packed(model.check(image))
+        yield names_call(image)
     for image in others + damaged[:1]:
         yield b"\x01" + sized(left) + sized(image) + packed(model.compare(left, image))
         yield b"\x01" + sized(image) + sized(left) + packed(model.compare(image, left))
@@ -260,6 +289,90 @@ def rooted_calls(rng, seed):
         yield from both_ways(one, other, [(0, 0, len(rows), 0)] + asked)
 
 
+# names beside those that are asked for
+NEAR = [b"", b"key_value", b"keys", b"values", b"Key", b"valu", b"entrie", b"entries\0", b"item", *MAP_NAMES]
+
+
+def labelled(kind):
+    """The type with the names that are asked for."""
+    made = kind.copy()
+    for _, *nodes in made.maps():
+        for node, name in zip(nodes, MAP_NAMES):
+            node.name = name
+    return made
+
+
+def one_wrong(rng, kind):
+    """One name of one Map, if there is one, is another: near the right one, or with one byte changed, put in or left out."""
+    made = kind.copy()
+    if made.maps():
+        _, *nodes = rng.choice(made.maps())
+        node = rng.choice(nodes)
+        at = rng.randrange(len(node.name) + 1)
+        cut, byte = node.name[at + 1 :], bytes([rng.randrange(256)])
+        changes = [node.name[:at] + cut, node.name[:at] + byte + cut, node.name[:at] + byte + node.name[at:], rng.choice(NEAR)]
+        node.name = rng.choice([name for name in [*changes, b"other"] if name != node.name])
+    return made
+
+
+def freed(rng, kind):
+    """The type with other labels wherever labels of Maps do not count: the entries' name and flag, the names of the fields."""
+    made = kind.copy()
+    for _, *nodes in made.maps():
+        nodes[0].nullable = rng.random() < 0.5
+        for node in nodes:
+            node.name = rng.choice(NEAR)
+    return made
+
+
+def random_maps(rng, more):
+    """A Map with so many more in one another below it, each in a key or a value."""
+    made = columns.random_type(rng, 2, MAP)
+    if more:
+        made.children[0].children[rng.randrange(2)] = random_maps(rng, more - 1)
+    return made
+
+
+def map_type(rng):
+    """Maps in one another, most of the time as the last child of another code."""
+    made = random_maps(rng, rng.choice([0, 0, 1, 2, 4]))
+    outer = columns.random_type(rng, 3, rng.choice(columns.NESTED))
+    if outer.code == MAP or not outer.children:
+        return made
+    last = outer.children[-1]
+    outer.children[-1] = made.copy(name=last.name, nullable=last.nullable, id=last.id)
+    return outer
+
+
+def map_table(rng):
+    """A type with Maps and rows of it: few, for they are long."""
+    columns.ILL_FORMED = 0.0
+    kind = map_type(rng)
+    return kind, [columns.random_row(rng, kind) for _ in range(rng.choice([0, 0, 1, 2, 5]))]
+
+
+def named_calls(rng):
+    """Tables with Maps: all names right, one of them wrong, any names; damaged; and pairs that differ in their Maps' labels, and
+    in one label or one row more."""
+    kind, rows = map_table(rng)
+    right = labelled(kind)
+    types = [right, one_wrong(rng, right), one_wrong(rng, right), freed(rng, right)]
+    images = [laid(rng, each, rows) for each in types]
+    for image in images + [columns.damage(rng, image) for image in images]:
+        yield names_call(image)
+    other = freed(rng, right)
+    asked = [laid(rng, other, rows)]
+    changed_type = columns.change_type(rng, other)
+    asked.append(laid(rng, changed_type, [columns.relabelled(other, changed_type, row) for row in rows]))
+    if rows:
+        k = rng.randrange(len(rows))
+        asked.append(laid(rng, other, rows[:k] + [changed(rng, kind, rows[k])] + rows[k + 1 :]))
+    for image in asked:
+        for one, two in ((images[0], image), (image, images[0])):
+            yield b"\x01" + sized(one) + sized(two) + packed(model.compare(one, two))
+            yield ranges_call(one, two, [(0, 0, len(rows)), (0, 0, 0)])
+
+
 def two_images(rng, left, right):
     """Two images, any starts and count, and any number of digits, as tests/host/fuzz.c reads them."""
     return b"".join(number(2, x) for x in (len(left), *(rng.randrange(1 << 16) for _ in range(4)))) + left + right
@@ -282,6 +395,14 @@ def decimal_input(rng, seed):
     return two_images(rng, laid(rng, kind, rows), laid(rng, kind, other))
 
 
+def map_input(rng):
+    """Two tables with Maps, with the same rows: the names right or one of them wrong, and any."""
+    kind, rows = map_table(rng)
+    right = labelled(kind)
+    left = right if rng.random() < 0.5 else one_wrong(rng, right)
+    return two_images(rng, laid(rng, left, rows), laid(rng, freed(rng, right), rows))
+
+
 def records(rng, seed):
     yield from calls(rng, seed)
     # every code has its turn at the first and the last, since 44 is no multiple of 3
@@ -289,10 +410,13 @@ def records(rng, seed):
 
 
 def fuzz_inputs(seeds):
-    """Random tables, one of decimals beside every seventh, and each text of tests/texts.py beside the one after it."""
+    """Random tables, one of decimals beside every seventh and one with Maps beside every fifth, and each text of tests/texts.py
+    beside the one after it."""
     for seed in seeds:
         try:
             yield fuzz_input(random.Random(seed), seed)
+            if seed % 5 == 0:
+                yield map_input(of_maps(seed))
         except NoLayout:
             continue
         if seed % 7 == 0:
@@ -302,11 +426,24 @@ def fuzz_inputs(seeds):
         yield two_images(random.Random(k), left, right)
 
 
+def of_maps(seed):
+    """The numbers that tables with Maps are drawn from, so that those of all other tables stay the same."""
+    return random.Random(f"maps {seed}")
+
+
 def write_corpus(corpus, seeds):
     for k, data in enumerate(fuzz_inputs(seeds)):
         if len(data) <= LONGEST_INPUT:
             with open(os.path.join(corpus, f"{k}"), "wb") as file:
                 file.write(data)
+
+
+def joined(records):
+    """The records of a table; none where it has no layout."""
+    try:
+        return b"".join(records)
+    except NoLayout:
+        return b""
 
 
 def main():
@@ -316,11 +453,10 @@ def main():
         file.write(b"".join(document_calls()))
         file.write(b"".join(text_calls()))
         file.write(b"".join(decimal_calls()))
+        file.write(b"".join(map_calls()))
         for seed in seeds:
-            try:
-                file.write(b"".join(records(random.Random(seed), seed)))
-            except NoLayout:
-                continue
+            file.write(joined(records(random.Random(seed), seed)))
+            file.write(joined(named_calls(of_maps(seed))))
     if len(sys.argv) > 4:
         write_corpus(sys.argv[4], seeds[:400])
 

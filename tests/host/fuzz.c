@@ -3,7 +3,8 @@
  * exactly does not fit into one byte less. Both calls on ranges are refused alike and in the right order; a first difference
  * is none exactly when the ranges are equal, the rows before it are equal, and its row is not. The comparison at fewer digits
  * is refused as they are, or by 22 before 21; it is symmetric, says yes of equal rows, of no others where no digit is dropped,
- * and of a range exactly when it does of both halves.
+ * and of a range exactly when it does of both halves. The query for Map names is refused as the check is; else it says what a
+ * walk over the nodes finds.
  *
  * An input is five numbers of two bytes, the left image and the right one. The numbers: how long the left image is; then, of
  * ranges, the left start, the right start and the count, and the digits, as `ranged` takes them.
@@ -33,6 +34,8 @@ enum {
 
 /* The type codes whose digits may be dropped, and how many. */
 enum { DECIMAL32 = 15, DECIMAL64 = 16, MOST_DIGITS = 9 };
+
+enum { MAP = 42 };
 
 /* what a comparison that says yes answers */
 static const uint64_t EQUAL = (uint64_t)1 << 8;
@@ -181,6 +184,38 @@ static void fewer_digits(const struct pair *p, uint32_t digits)
             agreeing(p, same, dropped);
 }
 
+/* Whether a node of an accepted image has that name. */
+static int is_named(const uint8_t *image, uint32_t node, const char *name)
+{
+    uint32_t record = image_record(node), place = (uint32_t)image_get(image, record + RECORD_NAME, 4);
+    size_t length = strlen(name);
+    return image[record + RECORD_NAME_LENGTH] == length && memcmp(image + place, name, length) == 0;
+}
+
+/* The first child of a node of an accepted image. */
+static uint32_t first_child(const uint8_t *image, uint32_t node)
+{
+    return (uint32_t)image_get(image, image_record(node) + RECORD_FIRST_CHILD, 2);
+}
+
+/* The query for Map names; a is the check of the image. */
+static void map_names(const uint8_t *image, size_t length, uint64_t a)
+{
+    uint64_t names = editions_map_names(image, length);
+    int right = 1;
+    if (a != 0) {
+        must(names == a, "the query for Map names is refused otherwise than the check");
+        return;
+    }
+    for (uint32_t node = 0; node < image_get(image, HEADER_NODES, 2); node++)
+        if (image[image_record(node) + RECORD_CODE] == MAP) {
+            uint32_t entries = first_child(image, node), key = first_child(image, entries);
+            right = right && is_named(image, entries, "entries");
+            right = right && is_named(image, key, "key") && is_named(image, key + 1, "value");
+        }
+    must(names == (right ? EQUAL : 0), "the names of Maps are others");
+}
+
 /* The check and the comparison of two images, and the write of the left one. */
 static void three_calls(const struct pair *p, uint64_t a, uint64_t b, uint64_t ab)
 {
@@ -238,6 +273,8 @@ static void one(const uint8_t *data, size_t size)
     p.right_start = ranged(data + INPUT_RIGHT_START, root_rows(right, rest));
     p.count = ranged(data + INPUT_COUNT, p.left_start <= rows ? rows - p.left_start : rows);
     uint64_t a = editions_check(left, cut), b = editions_check(right, rest), ab = editions_compare(left, cut, right, rest);
+    map_names(left, cut, a);
+    map_names(right, rest, b);
     three_calls(&p, a, b, ab);
     uint32_t digits = ranged(data + INPUT_DIGITS, MOST_DIGITS);
     ranges(&p, a, b, ab);

@@ -107,10 +107,18 @@ static void digits_case(struct cursor *c, unsigned long which, int at_end)
     unchanged(right, which);
 }
 
+static void names_case(struct cursor *c, unsigned long which, int at_end)
+{
+    struct copy image = copied(c, memory[0], at_end);
+    uint64_t wanted = number(c, 8);
+    expect("map_names", which, editions_map_names(image.bytes, image.length), wanted);
+    unchanged(image, which);
+}
+
 static void model_cases(const char *path)
 {
-    static void (*const cases[])(struct cursor *, unsigned long, int) = {check_case, compare_case, write_case, ranges_case,
-                                                                         digits_case};
+    static void (*const cases[])(struct cursor *, unsigned long, int) = {check_case,  compare_case, write_case,
+                                                                         ranges_case, digits_case,  names_case};
     size_t size;
     uint8_t *whole = whole_file(path, &size);
     struct cursor c = {whole};
@@ -187,6 +195,7 @@ static void largest(void)
     uint32_t rows = int8_rows(IMAGE_LONGEST), values = int8_image(left, IMAGE_LONGEST);
     int8_image(right, IMAGE_LONGEST);
     expect("largest check", 0, editions_check(left, IMAGE_LONGEST), 0);
+    expect("largest without Maps", 0, editions_map_names(left, IMAGE_LONGEST), answer_of(0, 0, 0, 1));
     expect("largest compare", 0, editions_compare(left, IMAGE_LONGEST, right, IMAGE_LONGEST), answer_of(0, 0, 0, 1));
     right[IMAGE_LONGEST - 1] ^= 1;
     expect("largest compare", 1, editions_compare(left, IMAGE_LONGEST, right, IMAGE_LONGEST), 0);
@@ -210,6 +219,7 @@ static void largest(void)
     left = lent_bytes(first, IMAGE_LONGEST + 1, 1);
     int8_image(left, IMAGE_LONGEST);
     expect("too large", 0, editions_check(left, IMAGE_LONGEST + 1), answer_of(EDITIONS_SIZE, 0, 0, 0));
+    expect("too large", 3, editions_map_names(left, IMAGE_LONGEST + 1), answer_of(EDITIONS_SIZE, 0, 0, 0));
     expect("too large", 1, editions_compare(right, IMAGE_LONGEST, left, IMAGE_LONGEST + 1), answer_of(EDITIONS_SIZE, EDITIONS_RIGHT, 0, 0));
     const struct two t = {right, left, IMAGE_LONGEST, IMAGE_LONGEST + 1};
     expect_refusal("too large", 2, &t, 0, 0, 0, answer_of(EDITIONS_SIZE, EDITIONS_RIGHT, 0, 0));
@@ -221,6 +231,9 @@ static void empty(void)
     int8_image(image, sizeof image);
     expect("no image", 0, editions_check(NULL, 0), answer_of(EDITIONS_SIZE, 0, 0, 0));
     expect("no image", 1, editions_check(image, 0), answer_of(EDITIONS_SIZE, 0, 0, 0));
+    expect("no image", 3, editions_map_names(NULL, 0), answer_of(EDITIONS_SIZE, 0, 0, 0));
+    expect("no image", 4, editions_map_names(image, 0), answer_of(EDITIONS_SIZE, 0, 0, 0));
+    expect("no Map", 0, editions_map_names(image, sizeof image), answer_of(0, 0, 0, 1));
     expect("no image", 2, editions_compare(NULL, 0, NULL, 0), answer_of(EDITIONS_SIZE, 0, 0, 0));
     expect("no right image", 0, editions_compare(image, sizeof image, NULL, 0), answer_of(EDITIONS_SIZE, EDITIONS_RIGHT, 0, 0));
     const struct two none = {NULL, NULL, 0, 0}, no_right = {image, NULL, sizeof image, 0};

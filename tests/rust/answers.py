@@ -2,14 +2,15 @@
 """The fixed list of the Rust's answers, answers.txt: pairs of accepted images, each with what the Rust says.
 
     answers.py write      lay the pairs out, ask the Rust (tests/rust/run has built it) and write the list
-    answers.py rust       the Rust still answers as in the list
-    answers.py library    the library answers as in the list, and gives the model's first unequal row of each pair
-    answers.py model      the model of document 01 answers as in the list, and each misreading does not; needs no Rust
+    answers.py rust       the Rust still answers as in the list, and on the gaps as it is said to
+    answers.py library    the library answers as in the list, and on the gaps as we do, with the model's first unequal rows
+    answers.py model      the model answers as in the list, and on the gaps as we do; no misreading does; needs no Rust
     answers.py session    the list as lines for the session program
     answers.py replies    what the session program must print for them
 
 The list has document 01's pairs (tests/pairs.py), pairs for its misreadings, those of suspects.py, and random small ones of
-each type code, which were laid out once and are kept as they stand in it.
+each type code, which were laid out once and are kept as they stand in it. The gaps, pairs on which document 02 has another
+answer than the Rust, are not in it: they are those of suspects.py and the one among document 01's pairs.
 """
 
 import os
@@ -18,8 +19,9 @@ import sys
 from cases import Case
 from compare import BOTH, answers, word
 from nodes import image, item, lists, numbers, structs
-from suspects import NO, SUSPECTS, YES
+from suspects import GAPS, NO, SUSPECTS, YES
 
+import labels
 import model
 import pairs
 
@@ -36,14 +38,46 @@ HEAD = """\
 SMALL = "Small pairs of each code"
 
 
-def desk():
-    """Document 01's pairs. Where it has one image, the image is compared with itself; what is refused is not asked."""
+def asked():
+    """Document 01's pairs with its answers. Where it has one image, the image is compared with itself; no pair where an image
+    is refused, or where only writing is."""
     for words, (call, images, numbers), (number, _, _, value) in pairs.PAIRS:
         left, right = (b"".join(parts) for _, parts in (images * 2)[:2])
         if number or call == "write":
-            yield words + " Not asked.", None, None
+            yield words, None, None
         else:
             yield words, Case(left, right, tuple(numbers) or None), value if call != "check" else YES
+
+
+def desk():
+    """Those that are listed."""
+    for words, case, answer in asked():
+        if case is None:
+            yield words + " Not asked.", None, None
+        elif labels.differ(case.left, case.right):
+            yield words + " The Rust counts the key's name: a gap. Not asked.", None, None
+        else:
+            yield words, case, answer
+
+
+def gaps():
+    """Of each gap its words, the pair, the Rust's answer and ours."""
+    for words, case, answer in asked():
+        if case and labels.differ(case.left, case.right):
+            yield words, case, NO, answer
+    for file, about, case, rust, ours in GAPS:
+        yield "%s: %s" % (file, about), case, rust, ours
+
+
+def hold_gaps(who, said, meant):
+    """How many gaps one side answers otherwise than it is to."""
+    wrong = 0
+    for (words, *_), one, other in zip(gaps(), said, meant, strict=True):
+        if one != other:
+            print("%s: meant %s, %s says %s" % (words, other, who, one))
+            wrong += 1
+    print("%d gaps asked of %s, %d others" % (len(meant), who, wrong))
+    return wrong
 
 
 def misreadings():
@@ -124,12 +158,15 @@ def read():
 
 
 def rust():
-    listed = read()
+    listed, programs = read(), ("release/beside", "checked/beside")
     wrong = 0
-    for program in ("release/beside", "checked/beside"):
+    for program in programs:
         given = answers(program, [case for case, _ in listed])
         wrong += sum(said != str(answer) for said, (_, answer) in zip(given, listed))
     print("%d listed answers asked of the Rust again, %d others" % (len(listed), wrong))
+    for program in programs:
+        given = answers(program, [case for _, case, _, _ in gaps()])
+        wrong += hold_gaps("the Rust (%s)" % program, given, [str(rust) for *_, rust, _ in gaps()])
     return wrong
 
 
@@ -144,7 +181,9 @@ def library():
         else:
             wrong += (ranged, first == "0") != (str(answer), answer == YES)
     print("%d listed answers and first unequal rows asked of the library, %d others" % (len(listed), wrong))
-    return wrong
+    given = [line.split()[:3] for line in answers(BOTH, [case for _, case, _, _ in gaps()])]
+    meant = [[str(ours), word(case.range_model()), word(case.first_model())] for _, case, _, ours in gaps()]
+    return wrong + hold_gaps("the library", given, meant)
 
 
 # The misreadings, as models that read an accepted image wrongly.
@@ -193,6 +232,10 @@ def by_model():
     listed = [(case, answer) for case, answer in read() if counted(case)]
     wrong = sum(case.model() != (0, 0, 0, answer) for case, answer in listed)
     print("%d listed answers asked of the model, %d others" % (len(listed), wrong))
+    wrong += hold_gaps("the model", [word(case.model()) for _, case, _, _ in gaps()], [str(ours) for *_, ours in gaps()])
+    # gaps, and no listed pairs, leave the comparison of random pairs too
+    wrong += sum(not labels.differ(case.left, case.right) for _, case, _, _ in gaps())
+    wrong += sum(labels.differ(case.left, case.right) for case, _ in listed)
     right = model.Image
     for reading in (BitmapByOffset, ListOffsetAdded, UnderNulls, ZerosEqual):
         model.Image = reading

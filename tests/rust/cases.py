@@ -14,12 +14,15 @@ sys.path.insert(0, os.path.join(os.path.dirname(os.path.abspath(__file__)), ".."
 import columns
 import model
 from image import DEEPEST, VIEW, number
-from model import DENSE_UNION, DICTIONARY, FIXED_SIZE_BINARY, LIST_VIEWS, LISTS, OFFSET_WIDTH, RUN_END_ENCODED, STRUCT, TEXTS, UNIONS, VIEWS, WIDTHS
+from model import DENSE_UNION, DICTIONARY, FIXED_SIZE_BINARY, LIST_VIEWS, LISTS, MAP, OFFSET_WIDTH, RUN_END_ENCODED, STRUCT, TEXTS, UNIONS, VIEWS, WIDTHS
 
 KINDS = ["layouts", "difference", "labels", "types", "range", "range with a difference", "no rows", "differences far down"]
 
 # how many of the long tables have more than a block of rows
 VERY_LONG = 0.03
+
+# how many types with nodes below the root get a Map among them
+MAPS = 0.3
 
 # codes whose rows have the same form, so that one type's rows can be laid out as another's
 FORMS = [[code for code in WIDTHS if WIDTHS[code] == width] for width in (1, 2, 4, 8, 16)]
@@ -52,6 +55,10 @@ class Case:
         """The rows of the longer table."""
         return max(model.Image(image).nodes[0].length for image in (self.left, self.right))
 
+    def deeper_maps(self):
+        """Whether the left table has Maps below the root."""
+        return any(record.code == MAP for record in model.Image(self.left).nodes[1:])
+
     def line(self):
         starts = " ".join(map(str, self.range or (0, 0, 0)))
         return "%s %s %s %s" % (self.left.hex(), self.right.hex(), starts, "range" if self.range else "whole")
@@ -74,6 +81,8 @@ class Case:
 def random_type(rng, code):
     depth = rng.choice([2, 2, 3, 3, 3, 4, 5])
     made = columns.random_type(rng, depth, code)
+    if made.children and rng.random() < MAPS:
+        put_map(rng, made)
     if made.code in UNIONS and rng.random() < 0.05:
         made.children = []
     elif rng.random() < 0.01:
@@ -81,6 +90,15 @@ def random_type(rng, code):
             parent = rng.choice([33, 37, 38, 40])
             made = columns.Type(parent, int(parent == 37), children=[made.copy(id=5 if parent == 40 else 0)])
     return made
+
+
+def put_map(rng, type):
+    """A Map instead of a node below the root that may be of any type."""
+    kept = [node.children[0] for node in type.all() if node.code in (MAP, RUN_END_ENCODED)]
+    places = [(node, k) for node in type.all() for k, child in enumerate(node.children) if child not in kept]
+    node, k = rng.choice(places)
+    old = node.children[k]
+    node.children[k] = columns.random_type(rng, rng.choice([2, 2, 3, 4]), MAP).copy(name=old.name, nullable=old.nullable, id=old.id)
 
 
 def depth_of(type):
@@ -105,16 +123,17 @@ def change_labels(rng, type):
 
 
 def labels_that_do_not_count(rng, type):
-    """Another name and flag for the root and for Dictionaries' children, and for what a Map at the root names."""
+    """Another name and flag for the root, for Dictionaries' children and for the entries of Maps, and other names for keys and
+    values, at any depth."""
     made = type.copy()
     free = [made] + [node.children[0] for node in made.all() if node.code == DICTIONARY]
     named = []
-    if made.code == model.MAP:
-        free.append(made.children[0])
-        named = made.children[0].children
+    for _, entries, *fields in made.maps():
+        free.append(entries)
+        named += fields
     for node in free + named:
         if rng.random() < 0.5:
-            node.name = rng.randbytes(rng.randint(0, 3))
+            node.name = rng.choice([rng.randbytes(rng.randint(0, 3)), rng.choice(columns.MAP_NAMES)])
     for node in free:
         node.nullable = rng.random() < 0.5
     return made
@@ -123,7 +142,7 @@ def labels_that_do_not_count(rng, type):
 def change_form(rng, type):
     """A type of another code, key code or count of children somewhere. `refit` gives its rows."""
     made = type.copy()
-    entries = [node.children[0] for node in made.all() if node.code == model.MAP]
+    entries = [node.children[0] for node in made.all() if node.code == MAP]
     node = rng.choice([node for node in made.all() if node not in entries])
     siblings = [form for form in FORMS if node.code in form]
     if node.code == STRUCT and rng.random() < 0.5:

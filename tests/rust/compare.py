@@ -8,7 +8,8 @@ Our side is the model of document 01 (tests/model.py) and, where they are built,
 asked whether the tables or the ranges are equal; the model and the library also for the first unequal row of the range, and
 the Rust about its rows one at a time up to the first that it finds unequal. Whole tables are asked about as the range of the
 left one's rows too. All answers must be the same. A pair of which an image is refused for its text (19) is not held to the
-Rust, which does not look at that; our side is held to the refusal. The exit status is 1 on a disagreement.
+Rust, which does not look at that; our side is held to the refusal. Nor is a pair whose types agree, but for the Rust, which
+counts the labels of Maps below the root (labels.py); our side is held to the model. The exit status is 1 on a disagreement.
 """
 
 import collections
@@ -21,6 +22,7 @@ import time
 
 import cases
 import columns
+import labels
 import model
 from cases import KINDS, random_case
 from image import CODES
@@ -35,8 +37,9 @@ BATCH = 20000
 LONG = [64, 1023]
 PAST = [0, 63]
 
-# the refusal for ill-formed text, and what the session says to a comparison with a side that is not closed
-ILL_FORMED, NOT_CLOSED = 19, "2a"
+# the refusals for ill-formed text and for types that differ, and what the session says to a comparison with a side that is not
+# closed
+ILL_FORMED, TYPES, NOT_CLOSED = 19, 20, "2a"
 
 # what a program is asked, in the order of its words
 QUESTIONS = ["whether they are equal", "whether the ranges are", "the first unequal row, plus 1"]
@@ -84,9 +87,11 @@ def word(answer):
 class Tally:
     def __init__(self):
         self.kinds = collections.Counter()
-        self.ranges = self.session = self.by_rows = self.wrong = 0
+        self.ranges = self.session = self.by_rows = self.maps = self.wrong = 0
         self.ours = [0] * len(QUESTIONS)
         self.refused = collections.Counter()
+        # pairs that differ in labels which only the Rust counts, by our answer
+        self.labels = collections.Counter()
         self.long = collections.Counter()
         self.differences, self.past = 0, collections.Counter()
 
@@ -113,16 +118,23 @@ class Tally:
         ranged = answer if case.range else case.range_model()
         if first[:3] != ranged[:3] or not first[0] and (first[3] == 0) != ranged[3]:
             self.disagreement("the model says %s of the range, and %s is its first unequal row" % (word(ranged), word(first)), case)
-        self.count(kind, case, value, first)
-        rust = [str(value)] + [word(ranged), word(first)] * (not first[0])
         ours = ["-" if case.range else str(value), word(ranged), word(first)]
+        rust = [str(value)] + [word(ranged), word(first)] * (not first[0])
+        if labels.differ(case.left, case.right):
+            if ranged[0] == TYPES:
+                self.disagreement("the model counts labels of deeper Maps", case)
+            self.labels[value] += 1
+            rust = None
+        else:
+            self.count(kind, case, value, first)
         for program, line in given.items():
             words = line.split()
             if program == BOTH:
                 self.hold("the library", words[: len(QUESTIONS)], ours, case)
                 self.ours = [asked + (one != "-") for asked, one in zip(self.ours, words)]
                 words = words[len(QUESTIONS) :]
-            self.hold("the Rust (%s)" % program, words, rust, case)
+            if rust:
+                self.hold("the Rust (%s)" % program, words, rust, case)
         if reply is not None:
             self.session += 1
             self.hold("the session", [reply], ["00%02x" % value], case)
@@ -139,6 +151,7 @@ class Tally:
     def count(self, kind, case, value, first):
         self.kinds[kind, value] += 1
         self.ranges += case.range is not None
+        self.maps += case.deeper_maps()
         self.long.update(least for least in LONG if case.rows() >= least)
         if first[0]:
             self.refused[first[0]] += 1
@@ -150,9 +163,10 @@ class Tally:
     def report(self):
         for kind in KINDS:
             print("  %-24s %8d yes %8d no" % (kind, self.kinds[kind, 1], self.kinds[kind, 0]))
-        print("  " + ", ".join("%d of %d rows and more" % (self.long[least], least) for least in LONG))
-        print("  %d of them ranges; the Rust was asked row by row about %d pairs; by 20 are refused %d, by 21 %d" % (self.ranges, self.by_rows, self.refused[20], self.refused[21]))
+        print("  " + ", ".join("%d of %d rows and more" % (self.long[least], least) for least in LONG) + ", %d with Maps below the root" % self.maps)
+        print("  %d of them ranges; the Rust was asked row by row about %d pairs; by 20 are refused %d, by 21 %d" % (self.ranges, self.by_rows, self.refused[TYPES], self.refused[21]))
         print("  %d have ill-formed text (19), and are none of these" % self.refused[ILL_FORMED])
+        print("  %d differ in labels of deeper Maps, which only the Rust counts, and are none of these: our side says yes of %d, no of %d" % (self.labels.total(), self.labels[1], self.labels[0]))
         print("  %d have a first unequal row, %s" % (self.differences, ", ".join("%d past row %d" % (self.past[row], row) for row in PAST)))
         print("  the library was asked about %d whole tables, %d ranges and %d first unequal rows, the session about %d ranges" % (*self.ours, self.session))
 

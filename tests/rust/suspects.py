@@ -1,6 +1,8 @@
-"""Pairs laid out on purpose where the Rust might depart from the format, file by file, with document 01's answers.
+"""Pairs laid out on purpose where the Rust might depart from the format, file by file, with the documents' answers; and those
+where it does.
 
-Each entry: the Rust's file, what the pair is about, the case, the answer.
+Each entry of SUSPECTS: the Rust's file, what the pair is about, the case, the answer. Each of GAPS: the same, with the Rust's
+answer and ours.
 """
 
 from cases import Case
@@ -23,12 +25,16 @@ def under_list(child):
 
 LONG, LONGER = b"thirteen long", b"thirteen longs, and more"
 
-SUSPECTS = []
+SUSPECTS, GAPS = [], []
 
 
 def suspect(file, about, left, right, answer, range=None):
     case = Case(image(left), image(right), range)
     SUSPECTS.append((file, about, case, answer))
+
+
+def gap(file, about, left, right, rust, ours):
+    GAPS.append((file, about, Case(image(left), image(right)), rust, ours))
 
 
 # mod.rs and utils.rs: masks, types, lengths
@@ -67,11 +73,30 @@ suspect(f, "Map at the root: the entries' name and flag", a_map(), a_map(entries
 suspect(f, "Map at the root: the key's flag", a_map(), a_map(key_flag=True), NO)
 suspect(f, "Map at the root: the value's flag", a_map(), a_map(value_flag=False), NO)
 suspect(f, "Map at the root: sorted", a_map(p1=1), a_map(), NO)
-suspect(f, "Map in a List: the key's name", under_list(a_map()), under_list(a_map(b"k")), NO)
-suspect(f, "Map in a List: the entries' flag", under_list(a_map()), under_list(a_map(flag=True)), NO)
-suspect(f, "Map under a Dictionary: the key's name", dictionary([0], a_map()), dictionary([0], a_map(b"k")), NO)
-suspect(f, "Map as a Map's value: the key's name", maps([0, 1], item([1]), a_map(name=b"m")), maps([0, 1], item([1]), a_map(b"k", name=b"m")), NO)
+suspect(f, "Map at the root: a name below the value", maps([0, 1], item([1]), structs(1, item([5]))), maps([0, 1], item([1]), structs(1, numbers([5], name=b"j"))), NO)
+suspect(f, "Map in a List: a name below the value", under_list(maps([0, 1], item([1]), structs(1, item([5])))), under_list(maps([0, 1], item([1]), structs(1, numbers([5], name=b"j")))), NO)
+suspect(f, "Map in a List: the same names", under_list(a_map(b"k", b"v", entries=b"e")), under_list(a_map(b"k", b"v", entries=b"e")), YES)
+suspect(f, "Map in a List: the key's flag", under_list(a_map()), under_list(a_map(key_flag=True)), NO)
+suspect(f, "Map in a List: its own name", under_list(a_map(name=b"m")), under_list(a_map(name=b"n")), NO)
+suspect(f, "Map in a List: sorted", under_list(a_map(p1=1)), under_list(a_map()), NO)
+suspect(f, "Map under a Dictionary: its own name and flag", dictionary([0], a_map(name=b"m", nullable=True)), dictionary([0], a_map()), YES)
+suspect(f, "Map under a Dictionary: the value's flag", dictionary([0], a_map()), dictionary([0], a_map(value_flag=False)), NO)
+suspect(f, "Map as a Map's value: its own flag", maps([0, 1], item([1]), a_map(name=b"m")), maps([0, 1], item([1]), a_map(name=b"m", nullable=True)), NO)
 suspect(f, "Map as a Map's value: its own name", maps([0, 1], item([1]), a_map(name=b"m")), maps([0, 1], item([1]), a_map(name=b"n")), YES)
+
+# labels of a Map below the root, which the Rust counts
+gap(f, "Map in a List: the key's name", under_list(a_map()), under_list(a_map(b"k")), NO, YES)
+gap(f, "Map in a List: the value's name", under_list(a_map()), under_list(a_map(value=b"v")), NO, YES)
+gap(f, "Map in a List: the entries' name", under_list(a_map()), under_list(a_map(entries=b"e")), NO, YES)
+gap(f, "Map in a List: the entries' flag", under_list(a_map()), under_list(a_map(flag=True)), NO, YES)
+gap(f, "Map in a List without rows: the key's name", lists([0, 0], a_map()), lists([0, 0], a_map(b"k")), NO, YES)
+gap(f, "Map in a Struct: the key's name", structs(1, a_map()), structs(1, a_map(b"k")), NO, YES)
+gap(f, "Map in a sparse union: the key's name", sparse([3], a_map(id=3)), sparse([3], a_map(b"k", id=3)), NO, YES)
+gap(f, "Map in runs: the key's name", runs(2, [2], a_map()), runs(2, [2], a_map(b"k")), NO, YES)
+gap(f, "Map under a Dictionary: the key's name", dictionary([0], a_map()), dictionary([0], a_map(b"k")), NO, YES)
+gap(f, "Map under a Dictionary: the entries' flag", dictionary([0], a_map()), dictionary([0], a_map(flag=True)), NO, YES)
+gap(f, "Map as a Map's value: the key's name", maps([0, 1], item([1]), a_map(name=b"m")), maps([0, 1], item([1]), a_map(b"k", name=b"m")), NO, YES)
+gap(f, "Map as a Map's key: the value's name", maps([0, 1], a_map(), item([1])), maps([0, 1], a_map(value=b"v"), item([1])), NO, YES)
 
 f = "null.rs"
 suspect(f, "rows of Null", column(NULL, 3), column(NULL, 3, offset=7), YES)

@@ -20,8 +20,10 @@ use Rattle.answers.specs.declared.Difference.{Difference}
 use Rattle.answers.specs.declared.Difference.the-variants.{Nowhere, At}
 use Rattle.answers.specs.declared.DigitsCompared.{DigitsCompared}
 use Rattle.answers.specs.declared.DigitsCompared.the-variants.{Yes as DigitsYes, No as DigitsNo, Refused as DigitsRefused, UnequalTypes as DigitsUnequal, NotDigits, OutOfRange as DigitsOut}
+use Rattle.answers.specs.declared.MapNames.{MapNames}
+use Rattle.answers.specs.declared.MapNames.the-variants.{Yes as NamesYes, No as NamesNo, Refused as NamesRefused}
 use Rattle.answers.specs.Answers.{pairedOf, boundsOf, boundedDifference, pairedDifference, differenceAnswer}
-use Rattle.answers.specs.Numbers.{checkedNumbers, comparedNumbers, differenceNumbers, digitsNumbers}
+use Rattle.answers.specs.Numbers.{checkedNumbers, comparedNumbers, differenceNumbers, digitsNumbers, mapNamesNumbers}
 
 -- the values of checks and comparisons
 pub checked-small : (answer : Checked) → checkedNumbers answer .value < 2 ^ 56
@@ -42,6 +44,11 @@ digits-small (DigitsRefused side f) = omega arith
 digits-small DigitsUnequal = omega arith
 digits-small NotDigits = omega arith
 digits-small (DigitsOut side) = omega arith
+
+pub map-names-small : (answer : MapNames) → mapNamesNumbers answer .value < 2 ^ 56
+map-names-small NamesYes = omega arith
+map-names-small NamesNo = omega arith
+map-names-small (NamesRefused f) = omega arith
 
 -- the value of a search over fewer than 2 ^ 56 rows
 pub difference-small : (s t : List ℕ) (i j n : ℕ) {r : Difference} → r ≡ differenceAnswer s t i j n → n < 2 ^ 56 → differenceNumbers r .value < 2 ^ 56

@@ -10,6 +10,7 @@ use Rattle.image.specs.declared.answer.Checked.the-variants.{Accepted, Refused}
 use Rattle.image.specs.Record.{lengthOf}
 use Rattle.image.specs.Faults.{checkImage}
 use Rattle.image.specs.Types.{typesAgree}
+use Rattle.image.specs.MapNames.{mapsNamed}
 use Rattle.image.specs.Equality.{rangesEqual, tablesEqual, firstDifference}
 use Rattle.image.specs.RowBytes.{rangeBytes}
 use Rattle.image.specs.Digits.{digitsEqual, notDigits}
@@ -23,6 +24,8 @@ use Rattle.answers.specs.declared.Difference.{Difference}
 use Rattle.answers.specs.declared.Difference.the-variants.{Nowhere, At, Refused as DifferenceRefused, UnequalTypes as DifferenceUnequal, OutOfRange as DifferenceOut}
 use Rattle.answers.specs.declared.DigitsCompared.{DigitsCompared}
 use Rattle.answers.specs.declared.DigitsCompared.the-variants.{Yes as DigitsYes, No as DigitsNo, Refused as DigitsRefused, UnequalTypes as DigitsUnequal, NotDigits, OutOfRange as DigitsOut}
+use Rattle.answers.specs.declared.MapNames.{MapNames}
+use Rattle.answers.specs.declared.MapNames.the-variants.{Yes as NamesYes, No as NamesNo, Refused as NamesRefused}
 use Rattle.answers.specs.declared.Written.{Written}
 use Rattle.answers.specs.declared.Written.the-variants.{Bytes, Refused as WriteRefused, OutOfRange as WriteOutOfRange, TooLong}
 
@@ -114,6 +117,17 @@ digitsAnswer s t i j n d =
     let bounded = boundedDigits (boundsOf s t i j n) agree in
     let fit = cond (notDigits s d) NotDigits bounded in
     pairedDigits (pairedOf s t) fit
+
+-- The query of Map names: "it refuses only what the check refuses".
+abbrev pub namesAfter : Checked → Bool → MapNames
+namesAfter (Refused f) named = NamesRefused f
+namesAfter Accepted true = NamesYes
+namesAfter Accepted false = NamesNo
+
+unfoldable pub mapNamesAnswer : List ℕ → MapNames
+mapNamesAnswer s =
+    let named = mapsNamed s in
+    namesAfter (checkImage s) named
 
 -- 43: "output longer than the buffer"
 unfoldable pub writeRange : List ℕ → ℕ → ℕ → List ℕ → Written

@@ -13,6 +13,8 @@ use Rattle.answers.specs.declared.Difference.{Difference}
 use Rattle.answers.specs.declared.Difference.the-variants.{Nowhere, At, Refused as DifferenceRefused, UnequalTypes as DifferenceUnequal, OutOfRange as DifferenceOut}
 use Rattle.answers.specs.declared.DigitsCompared.{DigitsCompared}
 use Rattle.answers.specs.declared.DigitsCompared.the-variants.{Yes as DigitsYes, No as DigitsNo, Refused as DigitsRefused, UnequalTypes as DigitsUnequal, NotDigits, OutOfRange as DigitsOut}
+use Rattle.answers.specs.declared.MapNames.{MapNames}
+use Rattle.answers.specs.declared.MapNames.the-variants.{Yes as NamesYes, No as NamesNo, Refused as NamesRefused}
 use Rattle.answers.specs.declared.Written.{Written}
 use Rattle.answers.specs.declared.Written.the-variants.{Bytes, Refused as WriteRefused, OutOfRange as WriteOutOfRange, TooLong}
 use Rattle.answers.specs.declared.numbers.Numbers.{Numbers}
@@ -59,6 +61,12 @@ digitsNumbers (DigitsRefused side f) = faultNumbers side f
 digitsNumbers DigitsUnequal = numbers 20 0 0 0
 digitsNumbers NotDigits = numbers 22 0 0 0
 digitsNumbers (DigitsOut side) = numbers 21 (sideNumber side) 0 0
+
+-- of the query of Map names too yes is 1 and no is 0
+abbrev pub mapNamesNumbers : MapNames → Numbers
+mapNamesNumbers NamesYes = numbers 0 0 0 1
+mapNamesNumbers NamesNo = numbers 0 0 0 0
+mapNamesNumbers (NamesRefused f) = faultNumbers Left f
 
 -- the value of a write is how many bytes it put out
 abbrev pub writtenNumbers : Written → Numbers

@@ -61,6 +61,14 @@ pub enum DigitsCompared {
     OutOfRange(Side),
 }
 
+// The answer of the query of Map names.
+pub enum MapNames {
+    Yes,
+    No,
+    // 10 to 19
+    Refused(Fault),
+}
+
 // The answer of a writer of rows.
 pub enum Written {
     // so many bytes stand at the front of the buffer

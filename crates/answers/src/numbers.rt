@@ -2,13 +2,14 @@
 use crate::Compared;
 use crate::Difference;
 use crate::DigitsCompared;
+use crate::MapNames;
 use crate::Written;
 use image::answer::Checked;
 use image::answer::Fault;
 use image::answer::Side;
 ghost use mathlib.Core.Path.{_≡_};
 ghost use Prim.Native.Nat.{_<_, _^_};
-ghost use Rattle.answers.specs.Numbers.{sideNumber, numbers, faultNumbers, checkedNumbers, comparedNumbers, differenceNumbers, digitsNumbers, writtenNumbers, packed};
+ghost use Rattle.answers.specs.Numbers.{sideNumber, numbers, faultNumbers, checkedNumbers, comparedNumbers, differenceNumbers, digitsNumbers, mapNamesNumbers, writtenNumbers, packed};
 
 // 0 or the refusal's number; the side, 0 left and 1 right; the node; the value. What an answer does not have is 0.
 pub struct Numbers {
@@ -96,6 +97,16 @@ pub fn digits_numbers(answer: DigitsCompared) -> Numbers
         DigitsCompared::UnequalTypes => numbers_of(20, 0, 0, 0),
         DigitsCompared::NotDigits => numbers_of(22, 0, 0, 0),
         DigitsCompared::OutOfRange(side) => numbers_of(21, side_number(side), 0, 0),
+    }
+}
+
+pub fn map_names_numbers(answer: MapNames) -> Numbers
+    ensures { λ r. ⌜ r ≡ mapNamesNumbers answer ⌝ }
+{
+    match answer {
+        MapNames::Yes => numbers_of(0, 0, 0, 1),
+        MapNames::No => numbers_of(0, 0, 0, 0),
+        MapNames::Refused(fault) => fault_numbers(fault, Side::Left),
     }
 }
 

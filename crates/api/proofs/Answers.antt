@@ -7,7 +7,6 @@ use Prim.Native.Nat.{ℕ, _+_, _-_, _≤_, _<_}
 use native.Mathlib.Omega.{arith}
 use lib.Dec.{eqb, ltb}
 use borrow.Author.Tests.{eqb-true, ltb-true, ltb-false, lt-ltb, le-ltb}
-use Rattle.image.specs.declared.place.Place.the-variants.{Root}
 use Rattle.image.specs.declared.answer.Side.the-variants.{Left, Right}
 use Rattle.image.specs.declared.answer.Fault.{Fault}
 use Rattle.image.specs.declared.answer.Checked.{Checked}
@@ -73,11 +72,11 @@ module _ (s t : List ℕ) where
   unfolding pairedOf
   paired-right left is = rw (left, is)
 
-  pub paired-unequal : checkImage s ≡ Accepted → checkImage t ≡ Accepted → typesAgreeAt maxDepth Root s t 0 0 ≡ false → PairUnequal ≡ pairedOf s t
+  pub paired-unequal : checkImage s ≡ Accepted → checkImage t ≡ Accepted → typesAgreeAt maxDepth false s t 0 0 ≡ false → PairUnequal ≡ pairedOf s t
   unfolding pairedOf typesAgree
   paired-unequal left right e = rw (left, right, e)
 
-  pub paired-agreed : checkImage s ≡ Accepted → checkImage t ≡ Accepted → typesAgreeAt maxDepth Root s t 0 0 ≡ true → Agreed ≡ pairedOf s t
+  pub paired-agreed : checkImage s ≡ Accepted → checkImage t ≡ Accepted → typesAgreeAt maxDepth false s t 0 0 ≡ true → Agreed ≡ pairedOf s t
   unfolding pairedOf typesAgree
   paired-agreed left right e = rw (left, right, e)
 

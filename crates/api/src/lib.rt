@@ -1,10 +1,12 @@
 // The public calls: check an image, compare two tables, compare ranges of their rows, find the first row in which ranges
-// differ, compare ranges of decimal numbers at fewer digits, write rows. Each checks its images itself.
+// differ, compare ranges of decimal numbers at fewer digits, ask for the names of Maps, write rows. Each checks its images
+// itself.
 use accepted::column::REMEMBERED;
 use answers::Bounds;
 use answers::Compared;
 use answers::Difference;
 use answers::DigitsCompared;
+use answers::MapNames;
 use answers::Paired;
 use answers::Written;
 use digits::digits_equal;
@@ -12,9 +14,9 @@ use digits::not_digits;
 use equal::equal_range;
 use image::answer::Checked;
 use image::answer::Side;
-use image::place::Place;
 use image::record::MAX_DEPTH;
 use image::record::length;
+use names::maps_named;
 use rows::measure::Room;
 use rows::measure::measure_rows;
 use rows::write::write_rows;
@@ -28,7 +30,7 @@ ghost use Rattle.image.specs.Faults.{checkImage};
 ghost use Rattle.image.specs.Digits.{digitsEqual, notDigits};
 ghost use Rattle.answers.specs.declared.Paired.the-variants.{Agreed};
 ghost use Rattle.answers.specs.declared.DigitsCompared.the-variants.{NotDigits};
-ghost use Rattle.answers.specs.Answers.{compareAnswer, pairedOf, boundsOf, boundedAnswer, compareRangeAnswer, differsAt, boundedDifference, differenceAnswer, boundedDigits, digitsAnswer, writeAnswer, writeOutput, exceeds, yesOrNo};
+ghost use Rattle.answers.specs.Answers.{compareAnswer, pairedOf, boundsOf, boundedAnswer, compareRangeAnswer, differsAt, boundedDifference, differenceAnswer, boundedDigits, digitsAnswer, mapNamesAnswer, writeAnswer, writeOutput, exceeds, yesOrNo};
 
 // The image check.
 pub fn check(image: &[u8]) -> Checked
@@ -90,7 +92,7 @@ fn paired(left: &[u8], right: &[u8]) -> Paired
     if let Checked::Refused(fault) = second {
         return Paired::Refused(Side::Right, fault);
     }
-    if !types_equal(left, right, 0, 0, Place::Root, MAX_DEPTH) {
+    if !types_equal(left, right, 0, 0, false, MAX_DEPTH) {
         return Paired::UnequalTypes;
     }
     Paired::Agreed
@@ -262,6 +264,21 @@ pub fn compare_digits(
         Paired::Refused(side, fault) => DigitsCompared::Refused(side, fault),
         Paired::UnequalTypes => DigitsCompared::UnequalTypes,
         Paired::Agreed => { digits_agreed(left, right, left_start, right_start, count, digits) }
+    }
+}
+
+// Whether every Map's entries are named `entries` and its fields `key` and `value`.
+pub fn map_names(image: &[u8]) -> MapNames
+    ensures { λ r. ⌜ r ≡ mapNamesAnswer (now (image .entry)) ⌝ }
+{
+    let checked = check(image);
+    if let Checked::Refused(fault) = checked {
+        return MapNames::Refused(fault);
+    }
+    if maps_named(image) {
+        MapNames::Yes
+    } else {
+        MapNames::No
     }
 }
 

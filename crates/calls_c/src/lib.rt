@@ -2,13 +2,15 @@
 use answers::numbers::compared_numbers;
 use answers::numbers::difference_numbers;
 use answers::numbers::digits_numbers;
+use answers::numbers::map_names_numbers;
 use answers::numbers::pack;
 use api::compare_digits;
 use api::compare_range;
 use api::first_difference;
+use api::map_names;
 ghost use mathlib.Core.Path.{_≡_};
-ghost use Rattle.answers.specs.Answers.{compareRangeAnswer, differenceAnswer, digitsAnswer};
-ghost use Rattle.answers.specs.Numbers.{comparedNumbers, differenceNumbers, digitsNumbers, packed};
+ghost use Rattle.answers.specs.Answers.{compareRangeAnswer, differenceAnswer, digitsAnswer, mapNamesAnswer};
+ghost use Rattle.answers.specs.Numbers.{comparedNumbers, differenceNumbers, digitsNumbers, mapNamesNumbers, packed};
 
 // Whether `count` rows of two tables from their starts on are equal.
 #[no_mangle]
@@ -61,4 +63,12 @@ pub extern "C" fn editions_compare_digits(
     let n = count as usize;
     let d = digits as usize;
     pack(digits_numbers(compare_digits(left, right, i, j, n, d)))
+}
+
+// Whether every Map's entries are named `entries` and its fields `key` and `value`.
+#[no_mangle]
+pub extern "C" fn editions_map_names(image: &[u8]) -> u64
+    ensures { λ r. ⌜ r ≡ packed (mapNamesNumbers (mapNamesAnswer (now (image .entry)))) ⌝ }
+{
+    pack(map_names_numbers(map_names(image)))
 }

@@ -1,4 +1,4 @@
--- Cases P1 to P10 and those of the first unequal row, of text and of fewer digits hold: each call of the table has the answer that stands beside it.
+-- Cases P1 to P10 and those of the first unequal row, of text, of fewer digits and of Map names hold: each call of the table has the answer that stands beside it.
 -- One test over the whole table is computed; the test of two lists is their equality, which gives each case.
 use mathlib.Core.Path.{_≡_, refl, sym, subst}
 use mathlib.Core.Bool.{Bool, true, _&&_, false≢true}
@@ -15,6 +15,7 @@ use Rattle.image.specs.Element
 use Rattle.image.specs.Utf8
 use Rattle.image.specs.Faults
 use Rattle.image.specs.Types
+use Rattle.image.specs.MapNames
 use Rattle.image.specs.Row
 use Rattle.image.specs.Equality
 use Rattle.image.specs.RowBytes
@@ -55,17 +56,18 @@ each-holds (x ∷ xs) e c (List·Memᴰ·tail m) =
 pub all-pass : passes cases ≡ true
 unfolding passes
     Build.beside Build.allBeside Build.column Build.placed Build.recordBytes Build.records Build.bufferEntries
-    Build.entries Build.buffersOf Build.imageOf Build.image Build.text Build.field Build.nullable Build.stored
+    Build.entries Build.buffersOf Build.imageOf Build.image Build.field Build.nullable Build.stored
     Build.numbers Build.textOffsets Build.texts Build.lists Build.bits Build.masked
     Calls.told Calls.answer
     Cases.session Cases.sessionLeft Cases.sessionRight Cases.listOf Cases.runsOf Cases.dictionaryOf Cases.floatOf
-    Cases.mapOf Cases.mapAtRoot Cases.mapInList Cases.binaryOf Cases.under Cases.depthOf Cases.p1 Cases.p2 Cases.p3
+    Cases.mapWith Cases.mapOf Cases.inList Cases.inDictionary Cases.inMap Cases.mapAtRoot Cases.mapInList Cases.binaryOf Cases.under Cases.depthOf Cases.p1 Cases.p2 Cases.p3
     Cases.p4 Cases.p5 Cases.p6 Cases.p7 Cases.p8 Cases.p9 Cases.p10 Cases.runsLeft Cases.runsRight Cases.differences
     Cases.bytesOf Cases.textOf Cases.viewOf Cases.unusedHalf Cases.halfAndKey Cases.letter Cases.half Cases.textCases
     Cases.decimal32Of Cases.decimal64Of Cases.frequencies Cases.otherFrequencies Cases.structOfDecimal Cases.digitCases
-    Cases.cases
+    Cases.otherLabels Cases.otherName Cases.otherFlag Cases.otherKeyFlag Cases.otherValueFlag Cases.structOf Cases.labelCases
+    Cases.named Cases.nameCases Cases.cases
     Ranges.any Ranges.every Ranges.first Ranges.sumTo Ranges.rises
-    Bytes.numberAt Bytes.numberBytes Bytes.bitAt Bytes.bytesAt
+    Bytes.ascii Bytes.numberAt Bytes.numberBytes Bytes.bitAt Bytes.bytesAt
     Record.recordPlace Record.entryPlace Record.tablesEnd Record.nullable Record.hasBitmap Record.elementsOf
     Record.childStart Record.bufferStart Record.bufferPlace Record.bufferLength
     TypeCode.entries TypeCode.entryOf TypeCode.layoutOf TypeCode.integerWidth TypeCode.widthOf TypeCode.p1Fits
@@ -78,7 +80,8 @@ unfolding passes
     Faults.childUnder Faults.fault16 Faults.offsetsRise Faults.fault17 Faults.keyOutside Faults.runEndsRise
     Faults.lastEndBelow Faults.nonzero Faults.paddingNonzero Faults.viewFault Faults.viewRowFault Faults.keyRowFault Faults.fault18 Faults.textRowFault Faults.fault19 Faults.fault Faults.firstFaulty Faults.checkFrom
     Faults.checkImage
-    Types.sameBytes Types.nameOf Types.ordinaryCounts Types.labelsAgree Types.headsAgree Types.typesAgreeAt Types.typesAgree
+    Types.sameBytes Types.nameOf Types.unlabelled Types.countedFor Types.labelsAgree Types.headsAgree Types.typesAgreeAt Types.typesAgree
+    MapNames.named MapNames.mapNamed MapNames.mapsNamed
     Row.range Row.fixedRow Row.variableRow Row.listRow Row.structRow Row.dictionaryRow Row.runRow Row.rowAt
     Row.tableRows
     Equality.rangesEqual Equality.tablesEqual Equality.rowsEqual Equality.rowsDiffer Equality.firstDifference
@@ -86,7 +89,7 @@ unfolding passes
     Digits.midway Digits.nearest Digits.divided Digits.wholeNumber Digits.storedAt Digits.keptAt Digits.sameWhole
     Digits.keptAgree Digits.digitsEqual Digits.notDigits
     Answers.compareAnswer Answers.exceeds Answers.pairedOf Answers.boundsOf Answers.compareRangeAnswer
-    Answers.differenceAnswer Answers.digitsAnswer Answers.writeRange Answers.writeAnswer Answers.writeOutput
+    Answers.differenceAnswer Answers.digitsAnswer Answers.mapNamesAnswer Answers.writeRange Answers.writeAnswer Answers.writeOutput
     mathlib.Core.List.flatten mathlib.Core.List.flatMap
 all-pass = refl
 

@@ -2,10 +2,9 @@
 -- Nodes and buffers are numbered depth by depth, and their bytes are placed after the tables, in that order.
 use mathlib.Core.List.{List, [], _∷_, _++_, flatten, flatMap}
 use Prim.Native.Nat.{ℕ, _+_, _*_, _-_, _/_}
-use Prim.Native.Char.{code as codePoint}
-use Prim.Native.String.{String, [] as noText, _∷_ as _then_}
+use Prim.Native.String.{String}
 use lib.ListN.{length}
-use Rattle.image.specs.Bytes.{numberBytes}
+use Rattle.image.specs.Bytes.{numberBytes, ascii}
 use Rattle.image.specs.Record.{recordPlace}
 
 -- A column's type, name, nullable flag (1 or 0) and id under a union. A negative p1 or p2 is written as 2 ^ 32 more.
@@ -123,13 +122,8 @@ image c = imageOf (flatten c)
 
 -- Fields: a code, its p1 and a name.
 
--- a text of ASCII as bytes
-unfoldable pub text : String → List ℕ
-text noText = []
-text (c then cs) = codePoint c ∷ text cs
-
 unfoldable pub field : ℕ → ℕ → String → Field
-field c p s = record { code = c; p1 = p; p2 = 0; name = text s; flag = 0; id = 0 }
+field c p s = record { code = c; p1 = p; p2 = 0; name = ascii s; flag = 0; id = 0 }
 
 unfoldable pub nullable : Field → Field
 nullable f = record { code = f .code; p1 = f .p1; p2 = f .p2; name = f .name; flag = 1; id = f .id }
@@ -147,10 +141,10 @@ numbers w xs = stored (length xs) (flatMap (numberBytes w) xs ∷ [])
 -- the offsets of texts that stand one after the other
 unfoldable pub textOffsets : ℕ → List String → List ℕ
 textOffsets start [] = u32 start
-textOffsets start (s ∷ ss) = u32 start ++ textOffsets (start + length (text s)) ss
+textOffsets start (s ∷ ss) = u32 start ++ textOffsets (start + length (ascii s)) ss
 
 unfoldable pub texts : List String → Stored
-texts ss = stored (length ss) (textOffsets 0 ss ∷ flatMap text ss ∷ [])
+texts ss = stored (length ss) (textOffsets 0 ss ∷ flatMap ascii ss ∷ [])
 
 -- rows of a List or a Map, by their offsets
 unfoldable pub lists : List ℕ → Stored

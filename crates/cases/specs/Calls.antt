@@ -4,9 +4,9 @@ use mathlib.Core.Path.{_≡_}
 use mathlib.Core.List.{List, [], _∷_}
 use Prim.Native.Nat.{ℕ, suc}
 use Rattle.image.specs.Faults.{checkImage}
-use Rattle.answers.specs.Answers.{compareAnswer, compareRangeAnswer, differenceAnswer, digitsAnswer, writeAnswer, writeOutput}
+use Rattle.answers.specs.Answers.{compareAnswer, compareRangeAnswer, differenceAnswer, digitsAnswer, mapNamesAnswer, writeAnswer, writeOutput}
 use Rattle.answers.specs.declared.numbers.Numbers.{Numbers}
-use Rattle.answers.specs.Numbers.{checkedNumbers, comparedNumbers, differenceNumbers, digitsNumbers, writtenNumbers}
+use Rattle.answers.specs.Numbers.{checkedNumbers, comparedNumbers, differenceNumbers, digitsNumbers, mapNamesNumbers, writtenNumbers}
 
 pub data Call : Type 0 where
   -- check an image
@@ -19,6 +19,8 @@ pub data Call : Type 0 where
   difference : List ℕ → List ℕ → ℕ → ℕ → ℕ → Call
   -- compare such rows at fewer digits: the digits come last
   compareDigits : List ℕ → List ℕ → ℕ → ℕ → ℕ → ℕ → Call
+  -- ask for the names of an image's Maps
+  mapNames : List ℕ → Call
   -- write rows of an image: start, count, and what the buffer holds before
   write : List ℕ → ℕ → ℕ → List ℕ → Call
 
@@ -32,6 +34,7 @@ answer (compare s t) = told (comparedNumbers (compareAnswer s t)) []
 answer (compareRange s t i j n) = told (comparedNumbers (compareRangeAnswer s t i j n)) []
 answer (difference s t i j n) = told (differenceNumbers (differenceAnswer s t i j n)) []
 answer (compareDigits s t i j n d) = told (digitsNumbers (digitsAnswer s t i j n d)) []
+answer (mapNames s) = told (mapNamesNumbers (mapNamesAnswer s)) []
 answer (write s i n out) = told (writtenNumbers (writeAnswer s i n out)) (writeOutput s i n out)
 
 -- Answers by name.
@@ -43,6 +46,13 @@ equal = 0 ∷ 0 ∷ 0 ∷ 1 ∷ []
 
 abbrev pub unequal : List ℕ
 unequal = 0 ∷ 0 ∷ 0 ∷ 0 ∷ []
+
+-- of the query of Map names
+abbrev pub haveNames : List ℕ
+haveNames = 0 ∷ 0 ∷ 0 ∷ 1 ∷ []
+
+abbrev pub otherNames : List ℕ
+otherNames = 0 ∷ 0 ∷ 0 ∷ 0 ∷ []
 
 -- no row differs; the first that does has that number
 abbrev pub nowhere : List ℕ

@@ -1,11 +1,11 @@
--- Cases P1 to P10 of document 01 ("Pairs from the proof desk"), cases of the first unequal row, of text and of fewer digits: their
--- images, their calls and the answers, one table. Each image is laid out from a description of its Arrow columns.
+-- Cases P1 to P10 of document 01 ("Pairs from the proof desk"), cases of the first unequal row, of text, of fewer digits and of Map
+-- names: their images, their calls and the answers, one table. Each image is laid out from a description of its Arrow columns.
 use mathlib.Core.List.{List, [], _∷_, _++_, flatMap}
 use Prim.Native.Nat.{ℕ, zero, suc, _*_, _-_, _^_}
 use Prim.Native.String.{String}
 use lib.ListN.{length}
 use Rattle.cases.specs.Build.{Column, Field, Stored, u32, column, image, field, nullable, stored, numbers, texts, lists, masked}
-use Rattle.cases.specs.Calls.{check, compare, compareRange, difference, compareDigits, write, accepted, equal, unequal, nowhere, atRow, refused, written, tooLong, Case, _answers_}
+use Rattle.cases.specs.Calls.{check, compare, compareRange, difference, compareDigits, mapNames, write, accepted, equal, unequal, haveNames, otherNames, nowhere, atRow, refused, written, tooLong, Case, _answers_}
 
 -- The type codes that the cases use.
 abbrev pub int8 : ℕ
@@ -108,20 +108,34 @@ dictionaryOf keys =
 unfoldable pub floatOf : ℕ → List ℕ
 floatOf pattern = image (leaf (field float32 0 "") (numbers 4 (pattern ∷ [])))
 
--- one Map row of two entries, by the Map's name and the key's
+-- one Map row of two entries, by the fields of the Map, of its entries and of the key and the value
+unfoldable pub mapWith : Field → Field → Field → Field → Column
+mapWith of entries key value =
+    column of (lists (0 ∷ 2 ∷ []))
+    (column entries (stored 2 []) (leaf key (texts ("a" ∷ "b" ∷ [])) ∷ leaf value (numbers 1 (1 ∷ 2 ∷ [])) ∷ []) ∷ [])
+
+-- by the Map's name and the key's
 unfoldable pub mapOf : String → String → Column
-mapOf name key =
-    column (field map 0 name) (lists (0 ∷ 2 ∷ []))
-    (column (field struct 0 "entries") (stored 2 [])
-    (leaf (field utf8 0 key) (texts ("a" ∷ "b" ∷ [])) ∷ leaf (nullable (field int8 0 "value")) (numbers 1 (1 ∷ 2 ∷ [])) ∷ [])
-    ∷ [])
+mapOf name key = mapWith (field map 0 name) (field struct 0 "entries") (field utf8 0 key) (nullable (field int8 0 "value"))
+
+-- one row of a List that holds the one row of a column, of a Dictionary, and of a Map from 7 to that row
+unfoldable pub inList : Column → List ℕ
+inList c = image (column (field list 0 "") (lists (0 ∷ 1 ∷ [])) (c ∷ []))
+
+unfoldable pub inDictionary : Column → List ℕ
+inDictionary c = image (column (field dictionary int8 "") (numbers 1 (0 ∷ [])) (c ∷ []))
+
+unfoldable pub inMap : Column → Column
+inMap c =
+    column (field map 0 "item") (lists (0 ∷ 1 ∷ []))
+    (column (field struct 0 "entries") (stored 1 []) (leaf (field int8 0 "key") (numbers 1 (7 ∷ [])) ∷ c ∷ []) ∷ [])
 
 -- the Map as the root, and inside a List
 unfoldable pub mapAtRoot : String → List ℕ
 mapAtRoot key = image (mapOf "" key)
 
 unfoldable pub mapInList : String → List ℕ
-mapInList key = image (column (field list 0 "") (lists (0 ∷ 1 ∷ [])) (mapOf "item" key ∷ []))
+mapInList key = inList (mapOf "item" key)
 
 -- three rows of FixedSizeBinary, no bytes stored
 unfoldable pub binaryOf : ℕ → List ℕ
@@ -166,11 +180,11 @@ p4 = compare (dictionaryOf (masked (0 ∷ []) (numbers 1 (0 ∷ [])))) (dictiona
 unfoldable pub p5 : List Case
 p5 = compare (floatOf 0x00000000) (floatOf 0x80000000) answers unequal ∷ []
 
--- "P6 root Maps differing in key name: equal; inside a List: unequal."
+-- "P6 root Maps differing in key name: equal"; "The second pair of P6, Maps inside a List, becomes equal."
 unfoldable pub p6 : List Case
 p6 =
     compare (mapAtRoot "key") (mapAtRoot "keys") answers equal
-    ∷ compare (mapInList "key") (mapInList "keys") answers unequal
+    ∷ compare (mapInList "key") (mapInList "keys") answers equal
     ∷ []
 
 -- "P7 start 3 count 0 of 3 rows: equal; start 4: 21."
@@ -198,7 +212,7 @@ unfoldable pub p10 : List Case
 p10 = check (depthOf 16) answers accepted ∷ check (depthOf 17) answers refused 12 0 16 ∷ []
 
 -- The row where two ranges part, "counted from 0 at the start of the range": five rows in runs, of which the last differs; a
--- null key against a key to a null value; ranges without rows; and refusals, as P7's and of Maps that P6 finds unequal.
+-- null key against a key to a null value; ranges without rows; and refusals, as P7's and of unequal types.
 unfoldable pub runsLeft : List ℕ
 runsLeft = runsOf 5 (2 ∷ 5 ∷ []) ("a" ∷ "b" ∷ [])
 
@@ -216,7 +230,7 @@ differences =
     ∷ difference sessionLeft sessionRight 3 3 0 answers nowhere
     ∷ difference sessionLeft sessionRight 4 3 0 answers refused 21 0 0
     ∷ difference sessionLeft sessionRight 3 4 0 answers refused 21 1 0
-    ∷ difference (mapInList "key") (mapInList "keys") 0 0 0 answers refused 20 0 0
+    ∷ difference (mapInList "key") (mapAtRoot "key") 0 0 0 answers refused 20 0 0
     ∷ []
 
 -- Text ("A headword arrived with half a letter"): é is C3 A9, and C3 alone is half of it.
@@ -330,6 +344,75 @@ digitCases =
     ∷ compareDigits frequencies half 0 0 9 10 answers refused 19 1 0
     ∷ []
 
+-- Labels of Maps that are not the root, beside those of `mapOf "item" "key"`: "the entries' name and flag and the names of key and
+-- value do not count", everything else does.
+unfoldable pub otherLabels : Column
+otherLabels = mapWith (field map 0 "item") (nullable (field struct 0 "e")) (field utf8 0 "k") (nullable (field int8 0 "v"))
+
+unfoldable pub otherName : Column
+otherName = mapOf "other" "key"
+
+unfoldable pub otherFlag : Column
+otherFlag = mapWith (nullable (field map 0 "item")) (field struct 0 "entries") (field utf8 0 "key") (nullable (field int8 0 "value"))
+
+unfoldable pub otherKeyFlag : Column
+otherKeyFlag = mapWith (field map 0 "item") (field struct 0 "entries") (nullable (field utf8 0 "key")) (nullable (field int8 0 "value"))
+
+unfoldable pub otherValueFlag : Column
+otherValueFlag = mapWith (field map 0 "item") (field struct 0 "entries") (field utf8 0 "key") (field int8 0 "value")
+
+-- a Struct of one Int8 column of that name
+unfoldable pub structOf : String → Column
+structOf name = column (field struct 0 "value") (stored 1 []) (leaf (field int8 0 name) (numbers 1 (5 ∷ [])) ∷ [])
+
+unfoldable pub labelCases : List Case
+labelCases =
+    compare (inList (mapOf "item" "key")) (inList otherLabels) answers equal
+    ∷ compareRange (inList (mapOf "item" "key")) (inList otherLabels) 0 0 1 answers equal
+    ∷ compare (inList (mapOf "item" "key")) (inList otherName) answers unequal
+    ∷ compare (inList (mapOf "item" "key")) (inList otherFlag) answers unequal
+    ∷ compare (inList (mapOf "item" "key")) (inList otherKeyFlag) answers unequal
+    ∷ compareRange (inList (mapOf "item" "key")) (inList otherValueFlag) 0 0 0 answers refused 20 0 0
+    -- under a Dictionary the Map's own name and flag do not count
+    ∷ compare (inDictionary (mapOf "item" "key")) (inDictionary otherLabels) answers equal
+    ∷ compare (inDictionary (mapOf "item" "key")) (inDictionary otherName) answers equal
+    ∷ compare (inDictionary (mapOf "item" "key")) (inDictionary otherFlag) answers equal
+    ∷ compare (inDictionary (mapOf "item" "key")) (inDictionary otherKeyFlag) answers unequal
+    -- as a Map's value its name does not count, and its flag does
+    ∷ compare (image (inMap (mapOf "item" "key"))) (image (inMap otherLabels)) answers equal
+    ∷ compare (image (inMap (mapOf "item" "key"))) (image (inMap otherName)) answers equal
+    ∷ compare (image (inMap (mapOf "item" "key"))) (image (inMap otherFlag)) answers unequal
+    ∷ compare (inList (inMap (mapOf "item" "key"))) (inList (inMap otherLabels)) answers equal
+    ∷ compare (inList (inMap (mapOf "item" "key"))) (inList (inMap otherValueFlag)) answers unequal
+    -- names below a value count
+    ∷ compare (inList (inMap (structOf "a"))) (inList (inMap (structOf "b"))) answers unequal
+    ∷ []
+
+-- "every Map's entries are named `entries` and its fields `key` and `value`"
+unfoldable pub named : String → String → String → Column
+named entries key value = mapWith (field map 0 "") (field struct 0 entries) (field utf8 0 key) (field int8 0 value)
+
+unfoldable pub nameCases : List Case
+nameCases =
+    mapNames (image (named "entries" "key" "value")) answers haveNames
+    ∷ mapNames (image (named "entrie" "key" "value")) answers otherNames
+    ∷ mapNames (image (named "entries" "keys" "value")) answers otherNames
+    ∷ mapNames (image (named "entries" "key" "")) answers otherNames
+    ∷ mapNames (image (named "entries" "value" "key")) answers otherNames
+    ∷ mapNames (image (named "Entries" "key" "value")) answers otherNames
+    -- below other nodes, and below a Map that has its names
+    ∷ mapNames (inList (mapOf "item" "key")) answers haveNames
+    ∷ mapNames (inList (mapOf "item" "ke")) answers otherNames
+    ∷ mapNames (inDictionary (named "entries" "key" "values")) answers otherNames
+    ∷ mapNames (image (inMap (mapOf "value" "key"))) answers haveNames
+    ∷ mapNames (image (inMap (mapOf "item" "key"))) answers otherNames
+    ∷ mapNames (inList (inMap (mapOf "value" "keys"))) answers otherNames
+    -- no Map; and what the check refuses
+    ∷ mapNames sessionLeft answers haveNames
+    ∷ mapNames half answers refused 19 0 0
+    ∷ mapNames [] answers refused 10 0 0
+    ∷ []
+
 -- the table
 unfoldable pub cases : List Case
-cases = p1 ++ p2 ++ p3 ++ p4 ++ p5 ++ p6 ++ p7 ++ p8 ++ p9 ++ p10 ++ differences ++ textCases ++ digitCases
+cases = p1 ++ p2 ++ p3 ++ p4 ++ p5 ++ p6 ++ p7 ++ p8 ++ p9 ++ p10 ++ differences ++ textCases ++ digitCases ++ labelCases ++ nameCases

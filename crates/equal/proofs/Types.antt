@@ -19,7 +19,7 @@ pub table-sides : (a b : List ℕ) (i j n : ℕ) → AcceptedImage a → Accepte
 table-sides a b i j n left right types li lj = record {
   left = record { image = left; node = omega (arith, left .tables .some-nodes); rows = li };
   right = record { image = right; node = omega (arith, right .tables .some-nodes); rows = lj };
-  alike = types-alike a b left types;
+  alike = types-alike a b types;
 }
 
 pub table-answer : (a b : List ℕ) (i j n : ℕ) → rangeEqual (rowAt maxDepth a 0) (rowAt maxDepth b 0) i j n ≡ rangesEqual a b i j n

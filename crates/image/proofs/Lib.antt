@@ -4,6 +4,7 @@ pub mod CodeTable
 pub mod Compare
 pub mod Entries
 pub mod Loops
+pub mod NameBytes
 pub mod Numbers
 pub mod Ranges
 pub mod RunEnds

@@ -8,7 +8,7 @@ use native.Mathlib.Nat.{add-zero, zero-add, sub-zero}
 use native.Mathlib.Numerals.{add-one}
 use lib.Dec.{leb}
 use borrow.Author.Tests.{le-leb, lt-leb}
-use Rattle.image.specs.Ranges.{any, first, sumTo, rises}
+use Rattle.image.specs.Ranges.{any, every, first, sumTo, rises}
 use Rattle.image.proofs.Bools.{or-none}
 
 -- F over n numbers from i on is F over those from i + k on
@@ -81,6 +81,18 @@ module _ (p : ℕ → Bool) (i n : ℕ) where
 
   pub jump-found : (k m : ℕ) → m ≤ n - k → Rest (any p) i n k → any p (i + k) m ≡ true → true ≡ any p i n
   jump-found k m le r e = sym (r .same ∙ jump k m le ∙ rw e)
+
+  pub every-more : (k : ℕ) → k < n → Rest (every p) i n k → p (i + k) ≡ true → Rest (every p) i n (k + 1)
+  unfolding every
+  every-more k lt r e = more (every p) i n k lt r (rw e)
+
+  pub every-fails : (k : ℕ) → k < n → Rest (every p) i n k → p (i + k) ≡ false → false ≡ every p i n
+  unfolding every
+  every-fails k lt r e = sym (ahead (every p) i n k lt r ∙ rw e)
+
+  pub every-done : (k : ℕ) → n ≤ k → Rest (every p) i n k → true ≡ every p i n
+  unfolding every
+  every-done k le r = sym (over (every p) i n k le r)
 
   pub first-more : (k : ℕ) → k < n → Rest (first p) i n k → p (i + k) ≡ false → Rest (first p) i n (k + 1)
   unfolding first

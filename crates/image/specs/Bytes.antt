@@ -2,6 +2,8 @@
 use mathlib.Core.Bool.{Bool}
 use mathlib.Core.List.{List, [], _∷_}
 use Prim.Native.Nat.{ℕ, zero, suc, _+_, _*_, _/_, _%_, _^_, _<_}
+use Prim.Native.Char.{code}
+use Prim.Native.String.{String, [] as noText, _∷_ as _then_}
 use lib.ListN.{getD}
 use lib.Dec.{eqb}
 
@@ -31,3 +33,8 @@ bitAt s place j = eqb (byteAt s (place + j / 8) / 2 ^ (j % 8) % 2) 1
 unfoldable pub bytesAt : List ℕ → ℕ → ℕ → List ℕ
 bytesAt s i zero = []
 bytesAt s i (suc n) = byteAt s i ∷ bytesAt s (suc i) n
+
+-- the bytes of a text of ASCII
+unfoldable pub ascii : String → List ℕ
+ascii noText = []
+ascii (c then cs) = code c ∷ ascii cs

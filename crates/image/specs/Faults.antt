@@ -12,7 +12,7 @@ use Rattle.image.specs.declared.type_code.Layout.the-variants.{Null, Boo
 use Rattle.image.specs.Ranges.{any, first, rises}
 use Rattle.image.specs.Bytes.{byteAt, numberAt}
 use Rattle.image.specs.Record.{headerSize, maxDepth, nodeCount, bufferTotal, tablesEnd, codeOf, flagsOf, idOf, nameLength, p1Of, p2Of, lengthOf, offsetOf, namePlace, bitmapPlace, bitmapLength, firstBit, firstChild, childCount, firstBuffer, bufferCount, hasBitmap, elementsOf, childStart, bufferStart, bufferPlace, bufferLength}
-use Rattle.image.specs.TypeCode.{layoutOf, p1Fits, p2Fits, isText, isUnion, keySigned, signBit, takesBitmap, childRule, bufferRule, counts}
+use Rattle.image.specs.TypeCode.{layoutOf, p1Fits, p2Fits, isText, isUnion, isMap, keySigned, signBit, takesBitmap, childRule, bufferRule, counts}
 use Rattle.image.specs.Element.{valid, elementWidth, elementPlace, elementAt, sizeAt, typeIdAt, denseOffsetAt, childEnd, childWithId, inlineLength, viewLength, viewBuffer, viewOffset, viewData, textAt, runEndWidth, runEndAt}
 use Rattle.image.specs.Utf8.{wellFormed}
 
@@ -72,7 +72,7 @@ fault12 s k =
     || leb (levelEnd s maxDepth) k
     || (isUnion (codeOf s k) && not (idsRise s k))
     || (not (eqb (idOf s k) 0) && not (underUnion s k))
-    || (eqb (codeOf s k) 42 && not (mapEntries s k))
+    || (isMap (codeOf s k) && not (mapEntries s k))
     || (eqb (codeOf s k) 43 && not (runEnds s k))
 
 -- a part of the image that does not lie inside it

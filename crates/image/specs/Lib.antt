@@ -7,6 +7,7 @@ pub mod Reads
 pub mod Utf8
 pub mod Faults
 pub mod Types
+pub mod MapNames
 pub mod Row
 pub mod Equality
 pub mod RowBytes

@@ -148,6 +148,10 @@ isText code = eqb code 26 || eqb code 28 || eqb code 31
 unfoldable pub isUnion : ℕ → Bool
 isUnion code = eqb code 39 || eqb code 40
 
+-- "42 Map"
+abbrev pub isMap : ℕ → Bool
+isMap code = eqb code 42
+
 -- "Dictionary (p1 key code 2 to 9)": of these, 2 to 5 are signed
 unfoldable pub keySigned : ℕ → Bool
 keySigned p1 = leb p1 5

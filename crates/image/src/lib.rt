@@ -3,6 +3,7 @@
 pub mod answer;
 pub mod bytes;
 pub mod element;
-pub mod place;
+pub mod labels;
+pub mod names;
 pub mod record;
 pub mod type_code;

@@ -35,7 +35,7 @@ module _ (s t : List ℕ) (i j n : ℕ) (w : WrittenRanges s t i j n) where
   root-shape : shapeOf maxDepth s 0 ≡ shapeOf maxDepth t 0
   root-shape =
       let image = accepted s (w .left) in
-      one-shape maxDepth s t 0 0 image (omega (arith, image .tables .some-nodes)) (types-alike s t image (w .types))
+      one-shape maxDepth s t 0 0 image (omega (arith, image .tables .some-nodes)) (types-alike s t (w .types))
 
   -- what begins with both outputs holds the same rows, and goes on in the same way
   ranges-back : (x y : List ℕ) → rangeBytes s i n ++ x ≡ rangeBytes t j n ++ y → (tableRows s i n ≡ tableRows t j n) × (x ≡ y)

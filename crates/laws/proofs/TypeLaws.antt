@@ -1,5 +1,5 @@
 -- The agreement of types is reflexive, symmetric and transitive, for all images.
--- Heads and labels that agree are equations; the laws go by induction over the depth, at any place and any two nodes.
+-- Heads and labels that agree are equations; the laws go by induction over the depth, at any two nodes, entries of a Map or not.
 use mathlib.Core.Path.{_≡_, refl, sym, _∙_}
 use mathlib.Core.Bool.{Bool, true, false, not, Bool·beq, _&&_, _||_}
 use mathlib.Core.List.{List}
@@ -7,10 +7,9 @@ use Prim.Native.Nat.{ℕ, zero, suc, _+_, _<_}
 use lib.Dec.{eqb}
 use borrow.Author.Tests.{eqb-true, eq-eqb}
 use Rattle.image.specs.Record.{maxDepth, codeOf, idOf, p1Of, p2Of, firstChild, childCount, nullable}
-use Rattle.image.specs.declared.place.Place.{Place}
-use Rattle.image.specs.declared.place.Place.the-variants.{Root}
-use Rattle.image.specs.declared.place.Counted.{Counted}
-use Rattle.image.specs.Types.{countedFor, childPlace, nameOf, sameBytes, labelsAgree, headsAgree, typesAgreeAt, typesAgree}
+use Rattle.image.specs.declared.labels.Counted.{Counted}
+use Rattle.image.specs.TypeCode.{isMap}
+use Rattle.image.specs.Types.{countedFor, nameOf, sameBytes, labelsAgree, headsAgree, typesAgreeAt, typesAgree}
 use Rattle.image.proofs.Bools.{flags-same, and-left, and-right, and-true, when-true, true-when}
 use Rattle.image.proofs.Ranges.{every-below, every-of-below}
 use Rattle.laws.proofs.Sound.{sameBytes-is}
@@ -84,12 +83,12 @@ heads-trans : {s t u : List ℕ} {i j k : ℕ} → SameHeads s t i j → SameHea
 heads-trans h g = record { code = h .code ∙ g .code; p1 = h .p1 ∙ g .p1; p2 = h .p2 ∙ g .p2; children = h .children ∙ g .children }
 
 -- one level of the agreement of types: the heads, and of the children in turn the labels and the types
-pub record Level (d : ℕ) (p : Place) (s t : List ℕ) (i j : ℕ) : Type 0 where
+pub record Level (d : ℕ) (p : Bool) (s t : List ℕ) (i j : ℕ) : Type 0 where
   pub heads : SameHeads s t i j
   pub labels : (c : ℕ) → c < childCount s i → Labels (countedFor p (codeOf s i)) s t (firstChild s i + c) (firstChild t j + c)
-  pub types : (c : ℕ) → c < childCount s i → typesAgreeAt d (childPlace p (codeOf s i)) s t (firstChild s i + c) (firstChild t j + c) ≡ true
+  pub types : (c : ℕ) → c < childCount s i → typesAgreeAt d (isMap (codeOf s i)) s t (firstChild s i + c) (firstChild t j + c) ≡ true
 
-pub level : (d : ℕ) (p : Place) (s t : List ℕ) (i j : ℕ) → typesAgreeAt (suc d) p s t i j ≡ true → Level d p s t i j
+pub level : (d : ℕ) (p : Bool) (s t : List ℕ) (i j : ℕ) → typesAgreeAt (suc d) p s t i j ≡ true → Level d p s t i j
 unfolding typesAgreeAt
 level d p s t i j e = record {
   heads = heads-same s t i j (and-left _ _ e);
@@ -99,22 +98,22 @@ level d p s t i j e = record {
   where
     child : (c : ℕ) → c < childCount s i
         → labelsAgree (countedFor p (codeOf s i)) s t (firstChild s i + c) (firstChild t j + c)
-        && typesAgreeAt d (childPlace p (codeOf s i)) s t (firstChild s i + c) (firstChild t j + c) ≡ true
+        && typesAgreeAt d (isMap (codeOf s i)) s t (firstChild s i + c) (firstChild t j + c) ≡ true
     child = every-below _ (childCount s i) (and-right (headsAgree s t i j) _ e)
 
-pub of-level : (d : ℕ) (p : Place) (s t : List ℕ) (i j : ℕ) → Level d p s t i j → typesAgreeAt (suc d) p s t i j ≡ true
+pub of-level : (d : ℕ) (p : Bool) (s t : List ℕ) (i j : ℕ) → Level d p s t i j → typesAgreeAt (suc d) p s t i j ≡ true
 unfolding typesAgreeAt
 of-level d p s t i j l =
     and-true _ _ (same-heads s t i j (l .heads))
     (every-of-below _ (childCount s i) (λ c lt. and-true _ _ (same-labels _ s t _ _ (l .labels c lt)) (l .types c lt)))
 
-at-refl : (d : ℕ) (p : Place) (s : List ℕ) (i : ℕ) → typesAgreeAt d p s s i i ≡ true
+at-refl : (d : ℕ) (p : Bool) (s : List ℕ) (i : ℕ) → typesAgreeAt d p s s i i ≡ true
 unfolding typesAgreeAt
 at-refl zero p s i = refl
 at-refl (suc d) p s i = of-level d p s s i i record { heads = heads-refl s i; labels = λ c lt. labels-refl _ s _; types = λ c lt. at-refl d _ s _ }
 
-level-sym : (d : ℕ) (p : Place) (s t : List ℕ) (i j : ℕ)
-    → ((q : Place) (a b : ℕ) → typesAgreeAt d q s t a b ≡ true → typesAgreeAt d q t s b a ≡ true)
+level-sym : (d : ℕ) (p : Bool) (s t : List ℕ) (i j : ℕ)
+    → ((q : Bool) (a b : ℕ) → typesAgreeAt d q s t a b ≡ true → typesAgreeAt d q t s b a ≡ true)
     → Level d p s t i j → Level d p t s j i
 level-sym d p s t i j below l = record {
   heads = heads-sym (l .heads);
@@ -122,13 +121,13 @@ level-sym d p s t i j below l = record {
   types = λ c lt. rw (← l .heads .code) (below _ _ _ (l .types c (rw (l .heads .children) lt)));
 }
 
-at-sym : (d : ℕ) (p : Place) (s t : List ℕ) (i j : ℕ) → typesAgreeAt d p s t i j ≡ true → typesAgreeAt d p t s j i ≡ true
+at-sym : (d : ℕ) (p : Bool) (s t : List ℕ) (i j : ℕ) → typesAgreeAt d p s t i j ≡ true → typesAgreeAt d p t s j i ≡ true
 unfolding typesAgreeAt
 at-sym zero p s t i j e = refl
 at-sym (suc d) p s t i j e = of-level d p t s j i (level-sym d p s t i j (λ q a b. at-sym d q s t a b) (level d p s t i j e))
 
-level-trans : (d : ℕ) (p : Place) (s t u : List ℕ) (i j k : ℕ)
-    → ((q : Place) (a b c : ℕ) → typesAgreeAt d q s t a b ≡ true → typesAgreeAt d q t u b c ≡ true → typesAgreeAt d q s u a c ≡ true)
+level-trans : (d : ℕ) (p : Bool) (s t u : List ℕ) (i j k : ℕ)
+    → ((q : Bool) (a b c : ℕ) → typesAgreeAt d q s t a b ≡ true → typesAgreeAt d q t u b c ≡ true → typesAgreeAt d q s u a c ≡ true)
     → Level d p s t i j → Level d p t u j k → Level d p s u i k
 level-trans d p s t u i j k below l m = record {
   heads = heads-trans (l .heads) (m .heads);
@@ -136,7 +135,7 @@ level-trans d p s t u i j k below l m = record {
   types = λ c lt. below _ _ _ _ (l .types c lt) (rw (l .heads .code) (m .types c (rw (← l .heads .children) lt)));
 }
 
-at-trans : (d : ℕ) (p : Place) (s t u : List ℕ) (i j k : ℕ)
+at-trans : (d : ℕ) (p : Bool) (s t u : List ℕ) (i j k : ℕ)
     → typesAgreeAt d p s t i j ≡ true → typesAgreeAt d p t u j k ≡ true → typesAgreeAt d p s u i k ≡ true
 unfolding typesAgreeAt
 at-trans zero p s t u i j k e f = refl
@@ -145,12 +144,12 @@ at-trans (suc d) p s t u i j k e f =
 
 pub types-refl : (s : List ℕ) → typesAgree s s ≡ true
 unfolding typesAgree
-types-refl s = at-refl maxDepth Root s 0
+types-refl s = at-refl maxDepth false s 0
 
 pub types-sym : (s t : List ℕ) → typesAgree s t ≡ true → typesAgree t s ≡ true
 unfolding typesAgree
-types-sym s t = at-sym maxDepth Root s t 0 0
+types-sym s t = at-sym maxDepth false s t 0 0
 
 pub types-trans : (s t u : List ℕ) → typesAgree s t ≡ true → typesAgree t u ≡ true → typesAgree s u ≡ true
 unfolding typesAgree
-types-trans s t u = at-trans maxDepth Root s t u 0 0 0
+types-trans s t u = at-trans maxDepth false s t u 0 0 0

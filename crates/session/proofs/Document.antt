@@ -4,6 +4,7 @@ use mathlib.Core.Path.{_≡_, refl}
 use mathlib.Core.List
 use Rattle.image.specs.Ranges
 use Rattle.image.specs.Bytes
+use Rattle.image.specs.Bytes.{ascii}
 use Rattle.image.specs.Record
 use Rattle.image.specs.TypeCode
 use Rattle.image.specs.Element
@@ -18,16 +19,15 @@ use Rattle.session.specs.Frames
 use Rattle.session.specs.Replies
 use Rattle.session.specs.Steps
 use Rattle.session.specs.Sessions
-use Rattle.session.specs.Sessions.{characters}
 use Rattle.session.specs.Input
 use Rattle.session.specs.Input.{printed}
 
 pub document-session :
     printed
-    (characters
+    (ascii
     "01 01000100 02020000 00000000 00000000 03000000 00000000 00000000 3b000000 01000000 00000000 01000000 00000100 38000000 03000000 05000705\n02 01000100 02020000 00000000 00000000 03000000 00000000 00000000 3b000000 01000000 00000000 01000000 00000100 38000000 03000000 05090705\n03 00\n03 01\n04\n06 00 00000000 03000000\n")
-    ≡ characters "00\n00\n00\n00\n0001\n000105000107\n"
-unfolding Sessions.characters Sessions.replies Input.inFront Input.linesOf Input.printedFrom List.flatten
+    ≡ ascii "00\n00\n00\n00\n0001\n000105000107\n"
+unfolding Bytes.ascii Sessions.replies Input.inFront Input.linesOf Input.printedFrom List.flatten
     Lines.digitOf Lines.preceded Lines.scan Lines.notTooLong Lines.bytesOf
     Frames.bySide Frames.ofLength Frames.pieceFrame Frames.closeFrame Frames.compareFrame Frames.writeFrame Frames.byKind Frames.frameOf
     Replies.digitText Replies.hexText Replies.lineText Replies.replyLine
@@ -46,7 +46,7 @@ unfolding Sessions.characters Sessions.replies Input.inFront Input.linesOf Input
     Faults.childUnder Faults.fault16 Faults.offsetsRise Faults.fault17 Faults.keyOutside Faults.runEndsRise
     Faults.lastEndBelow Faults.keyRowFault Faults.fault18 Faults.fault19 Faults.fault Faults.firstFaulty Faults.checkFrom
     Faults.checkImage
-    Types.sameBytes Types.nameOf Types.ordinaryCounts Types.labelsAgree Types.headsAgree Types.typesAgreeAt
+    Types.sameBytes Types.nameOf Types.unlabelled Types.countedFor Types.labelsAgree Types.headsAgree Types.typesAgreeAt
     Types.typesAgree
     Row.range Row.fixedRow Row.variableRow Row.listRow Row.structRow Row.dictionaryRow Row.runRow Row.rowAt
     Row.tableRows

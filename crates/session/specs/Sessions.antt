@@ -3,8 +3,6 @@ use mathlib.Core.Path.{_≡_}
 use mathlib.Core.Bool.{Bool, true, false, cond}
 use mathlib.Core.List.{List, [], _∷_}
 use Prim.Native.Nat.{ℕ}
-use Prim.Native.Char.{code}
-use Prim.Native.String.{String, [] as []ˢ, _∷_ as _∷ˢ_}
 use Rattle.image.specs.declared.answer.Checked.the-variants.{Accepted}
 use Rattle.image.specs.Faults.{checkImage}
 use Rattle.session.specs.declared.frame.Frame.{Frame}
@@ -17,11 +15,6 @@ use Rattle.session.specs.Frames.{frameOf}
 use Rattle.session.specs.Lines.{bytesOf}
 use Rattle.session.specs.Replies.{replyLine}
 use Rattle.session.specs.Steps.{imageOf, startState, sideOf, replied, emptyStepped, After, after, afterLine}
-
--- the characters of a text
-unfoldable pub characters : String → List ℕ
-characters []ˢ = []
-characters (c ∷ˢ cs) = code c ∷ characters cs
 
 -- before the first line, with stores and an output that hold anything; no reply is given yet
 abbrev pub started : List ℕ → List ℕ → List ℕ → After

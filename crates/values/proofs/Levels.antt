@@ -5,11 +5,11 @@ use mathlib.Core.Bool.{Bool, true, false, _&&_}
 use mathlib.Core.List.{List}
 use Prim.Native.Nat.{ℕ, zero, suc, _+_, _-_}
 use native.Mathlib.Omega.{arith}
-use Rattle.image.specs.declared.place.Place.{Place}
-use Rattle.image.specs.declared.place.Counted.{Counted}
+use Rattle.image.specs.declared.labels.Counted.{Counted}
 use Rattle.image.specs.Ranges.{every}
 use Rattle.image.specs.Record.{codeOf, firstChild, childCount}
-use Rattle.image.specs.Types.{countedFor, childPlace, labelsAgree, headsAgree, typesAgreeAt}
+use Rattle.image.specs.TypeCode.{isMap}
+use Rattle.image.specs.Types.{countedFor, labelsAgree, headsAgree, typesAgreeAt}
 use Rattle.values.specs.Pairs.{all}
 
 -- a test of pairs in step, by the number of the pair
@@ -23,10 +23,10 @@ every-all p x y i (suc n) =
     ap (λ (r : Bool). p (x + i) (y + i) && r) rest
 
 -- two children agree
-unfoldable pub childAgrees : ℕ → Counted → Place → List ℕ → List ℕ → ℕ → ℕ → Bool
+unfoldable pub childAgrees : ℕ → Counted → Bool → List ℕ → List ℕ → ℕ → ℕ → Bool
 childAgrees d counted below s t i j = labelsAgree counted s t i j && typesAgreeAt d below s t i j
 
-module _ (d : ℕ) (counted : Counted) (below : Place) (s t : List ℕ) (i j : ℕ) {q : Bool} (labels : q ≡ labelsAgree counted s t i j) where
+module _ (d : ℕ) (counted : Counted) (below : Bool) (s t : List ℕ) (i j : ℕ) {q : Bool} (labels : q ≡ labelsAgree counted s t i j) where
   pub labels-fail : q ≡ false → childAgrees d counted below s t i j ≡ false
   unfolding childAgrees
   labels-fail e = rw (← labels, e)
@@ -35,31 +35,31 @@ module _ (d : ℕ) (counted : Counted) (below : Place) (s t : List ℕ) (i j : �
   unfolding childAgrees
   labels-agree e types = rw (← labels, e, ← types)
 
-pub at-none : (depth : ℕ) (p : Place) (s t : List ℕ) (i j : ℕ) → depth ≡ 0 → true ≡ typesAgreeAt depth p s t i j
+pub at-none : (depth : ℕ) (p : Bool) (s t : List ℕ) (i j : ℕ) → depth ≡ 0 → true ≡ typesAgreeAt depth p s t i j
 unfolding typesAgreeAt
 at-none depth p s t i j e = rw e
 
-module _ (depth : ℕ) (p : Place) (s t : List ℕ) (i j : ℕ) (some : depth ≡ 0 → ⊥) where
+module _ (depth : ℕ) (p : Bool) (s t : List ℕ) (i j : ℕ) (some : depth ≡ 0 → ⊥) where
   whole : typesAgreeAt depth p s t i j
-      ≡ headsAgree s t i j && all (childAgrees (depth - 1) (countedFor p (codeOf s i)) (childPlace p (codeOf s i)) s t) (firstChild s i + 0) (firstChild t j + 0) (childCount s i)
+      ≡ headsAgree s t i j && all (childAgrees (depth - 1) (countedFor p (codeOf s i)) (isMap (codeOf s i)) s t) (firstChild s i + 0) (firstChild t j + 0) (childCount s i)
   unfolding typesAgreeAt childAgrees
   whole =
       let e : depth ≡ suc (depth - 1) = omega arith in
       ap (λ (d : ℕ). typesAgreeAt d p s t i j) e
       ∙ ap (λ (r : Bool). headsAgree s t i j && r)
-      (every-all (childAgrees (depth - 1) (countedFor p (codeOf s i)) (childPlace p (codeOf s i)) s t) (firstChild s i) (firstChild t j) 0 (childCount s i))
+      (every-all (childAgrees (depth - 1) (countedFor p (codeOf s i)) (isMap (codeOf s i)) s t) (firstChild s i) (firstChild t j) 0 (childCount s i))
 
   pub heads-fail : {q : Bool} → q ≡ headsAgree s t i j → q ≡ false → false ≡ typesAgreeAt depth p s t i j
   heads-fail heads e = sym (whole ∙ rw (← heads, e))
 
   -- heads that agree, and what was read of the two nodes: the children decide
-  pub children : {q : Bool} {code n x y : ℕ} {counted : Counted} {below : Place} → q ≡ headsAgree s t i j → q ≡ true
-      → code ≡ codeOf s i → counted ≡ countedFor p code → below ≡ childPlace p code → n ≡ childCount s i → x ≡ firstChild s i → y ≡ firstChild t j
+  pub children : {q : Bool} {code n x y : ℕ} {counted : Counted} {below : Bool} → q ≡ headsAgree s t i j → q ≡ true
+      → code ≡ codeOf s i → counted ≡ countedFor p code → below ≡ isMap code → n ≡ childCount s i → x ≡ firstChild s i → y ≡ firstChild t j
       → all (childAgrees (depth - 1) counted below s t) x y n ≡ typesAgreeAt depth p s t i j
   children {code = code} {counted = counted} {below = below} heads e ec el eb en ex ey =
       let u : firstChild s i + 0 ≡ firstChild s i = omega arith in
       let v : firstChild t j + 0 ≡ firstChild t j = omega arith in
       let eh : headsAgree s t i j ≡ true = sym heads ∙ e in
       let counts : counted ≡ countedFor p (codeOf s i) = rw (← ec) el in
-      let place : below ≡ childPlace p (codeOf s i) = rw (← ec) eb in
+      let map : below ≡ isMap (codeOf s i) = rw (← ec) eb in
       sym (whole ∙ rw (eh, u, v) (cc))

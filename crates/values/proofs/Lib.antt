@@ -7,7 +7,6 @@ pub mod LeafRows
 pub mod Levels
 pub mod MaskedRows
 pub mod Masks
-pub mod Names
 pub mod Octets
 pub mod SameRuns
 pub mod Spans

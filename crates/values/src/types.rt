@@ -1,7 +1,7 @@
-// The types of two images. In the Rust `DataType` compares itself; src/equal/utils.rs says what does not count.
-use image::bytes::byte;
-use image::place::Counted;
-use image::place::Place;
+// The types of two images. In the Rust `DataType` compares itself; src/equal/utils.rs says what does not count of a Map at the
+// root, and here that does not count of any Map.
+use image::labels::Counted;
+use image::names::name_is;
 use image::record::child_count;
 use image::record::code;
 use image::record::first_child;
@@ -11,31 +11,12 @@ use image::record::name_place;
 use image::record::p1;
 use image::record::p2;
 use image::record::type_id;
+use image::type_code::TypeCode;
 ghost use mathlib.Core.Path.{_≡_};
 ghost use mathlib.Core.Bool.{not, Bool·beq, _||_};
 ghost use lib.Dec.{eqb};
 ghost use Rattle.image.specs.Record.{idOf, nullable};
 ghost use Rattle.image.specs.Types.{sameBytes, nameOf, labelsAgree, headsAgree, typesAgreeAt};
-
-// The names of two nodes are the same.
-fn names_equal(a: &[u8], b: &[u8], i: u32, j: u32) -> bool
-    ensures { λ r. ⌜ r ≡ sameBytes (nameOf (now (a .entry)) i) (nameOf (now (b .entry)) j) ⌝ }
-{
-    let n = name_length(a, i);
-    if n != name_length(b, j) {
-        return false;
-    }
-    let at = name_place(a, i);
-    let bt = name_place(b, j);
-    let mut k: usize = 0;
-    while k < n {
-        if byte(a, at + k) != byte(b, bt + k) {
-            return false;
-        }
-        k += 1;
-    }
-    true
-}
 
 // The names of two nodes are the same, where they count.
 fn name_agrees(a: &[u8], b: &[u8], i: u32, j: u32, counts: bool) -> bool
@@ -44,7 +25,7 @@ fn name_agrees(a: &[u8], b: &[u8], i: u32, j: u32, counts: bool) -> bool
     if !counts {
         return true;
     }
-    names_equal(a, b, i, j)
+    name_is(a, i, b, name_place(b, j), name_length(b, j))
 }
 
 // The nullable flags of two nodes are the same, where they count.
@@ -96,9 +77,9 @@ fn heads_equal(a: &[u8], b: &[u8], i: u32, j: u32) -> bool
     child_count(a, i) == child_count(b, j)
 }
 
-// The types of two nodes agree, down to the given depth.
-pub fn types_equal(a: &[u8], b: &[u8], i: u32, j: u32, place: Place, depth: usize) -> bool
-    ensures { λ r. ⌜ r ≡ typesAgreeAt depth place (now (a .entry)) (now (b .entry)) i j ⌝ }
+// The types of two nodes agree, down to the given depth; `entries` says whether the nodes are the entries of a Map.
+pub fn types_equal(a: &[u8], b: &[u8], i: u32, j: u32, entries: bool, depth: usize) -> bool
+    ensures { λ r. ⌜ r ≡ typesAgreeAt depth entries (now (a .entry)) (now (b .entry)) i j ⌝ }
 {
     if depth == 0 {
         return true;
@@ -107,8 +88,8 @@ pub fn types_equal(a: &[u8], b: &[u8], i: u32, j: u32, place: Place, depth: usiz
         return false;
     }
     let c = code(a, i);
-    let counted = place.counted(c);
-    let below = place.child(c);
+    let counted = Counted::below(c, entries);
+    let map = c == TypeCode::MAP;
     let count = child_count(a, i);
     let x = first_child(a, i);
     let y = first_child(b, j);
@@ -117,7 +98,7 @@ pub fn types_equal(a: &[u8], b: &[u8], i: u32, j: u32, place: Place, depth: usiz
         if !labels_equal(a, b, x + k, y + k, counted) {
             return false;
         }
-        if !types_equal(a, b, x + k, y + k, below, depth - 1) {
+        if !types_equal(a, b, x + k, y + k, map, depth - 1) {
             return false;
         }
         k += 1;

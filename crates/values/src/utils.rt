@@ -4,7 +4,6 @@ use crate::bits::leading_set;
 use crate::types::types_equal;
 use image::bytes::octet;
 use image::bytes::quad;
-use image::place::Place;
 use image::record::MAX_DEPTH;
 use image::record::bitmap_place;
 use image::record::first_bit;
@@ -156,7 +155,7 @@ pub fn equal_nulls(a: &[u8], an: u32, b: &[u8], bn: u32, s: usize, t: usize, n: 
 pub fn base_equal(a: &[u8], b: &[u8]) -> bool
     ensures { λ r. ⌜ r ≡ (typesAgree (now (a .entry)) (now (b .entry)) && eqb (lengthOf (now (a .entry)) 0) (lengthOf (now (b .entry)) 0)) ⌝ }
 {
-    if !types_equal(a, b, 0, 0, Place::Root, MAX_DEPTH) {
+    if !types_equal(a, b, 0, 0, false, MAX_DEPTH) {
         return false;
     }
     image::record::length(a, 0) == image::record::length(b, 0)
