@@ -15,7 +15,8 @@
  * call on no rows, which checks both images and compares their types, and the first less the last, which is the search.
  *
  * The third table, of text, is that of text.c; the fourth, of rows of runs that are written, that of write.c; the fifth, of
- * numbers at fewer digits, that of digits.c; the sixth, of the names of Maps, that of names.c. */
+ * numbers at fewer digits, that of digits.c; the sixth, of the names of Maps, that of names.c; the seventh, of tables that are
+ * built of written rows, that of build.c. */
 #include "../host/editions_calls.h"
 #include "bench.h"
 
@@ -564,7 +565,8 @@ static const struct table {
               {"text", text_table},
               {"write", write_table},
               {"digits", digits_table},
-              {"names", names_table}};
+              {"names", names_table},
+              {"build", build_table}};
 
 enum { TABLE_COUNT = sizeof TABLES / sizeof TABLES[0] };
 

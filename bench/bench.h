@@ -93,4 +93,7 @@ void digits_table(void);
 /* The sixth table: what asking for the names of Maps takes. */
 void names_table(void);
 
+/* The seventh table: what building a table of written rows takes. */
+void build_table(void);
+
 #endif

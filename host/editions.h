@@ -2,7 +2,7 @@
  *
  * A table is an image: one block of bytes, little-endian, with a header, node records, buffer entries and then the buffers;
  * the library's docs/FORMAT.md says how to write one. Link with libeditions_c.a; it needs no other library. Ranges of rows
- * are compared by the calls of editions_calls.h.
+ * are compared, and tables built of written rows, by the calls of editions_calls.h.
  *
  * The calls read only the bytes that they are lent, keep nothing between calls, allocate nothing and may run in any number
  * of threads. Any bytes may be lent as an image; one that breaks the rules is refused by number. A pointer may be NULL where
@@ -37,12 +37,13 @@ uint64_t editions_write(const uint8_t *image, size_t image_length, uint32_t star
 }
 #endif
 
-/* The refusals; editions_refusal_text says what each is. The three calls above never answer EDITIONS_TYPES
- * or EDITIONS_DIGITS. */
+/* The refusals; editions_refusal_text says what each is. The three calls above never answer EDITIONS_TYPES, EDITIONS_DIGITS,
+ * EDITIONS_UNREADABLE or EDITIONS_STRING. */
 enum {
     EDITIONS_SIZE = 10, EDITIONS_CODE = 11, EDITIONS_TREE = 12, EDITIONS_NAME = 13, EDITIONS_BUFFER = 14,
     EDITIONS_TOO_FEW = 15, EDITIONS_CHILD = 16, EDITIONS_OFFSETS = 17, EDITIONS_ROWS = 18, EDITIONS_TEXT = 19,
-    EDITIONS_TYPES = 20, EDITIONS_RANGE = 21, EDITIONS_DIGITS = 22, EDITIONS_OUTPUT = 43
+    EDITIONS_TYPES = 20, EDITIONS_RANGE = 21, EDITIONS_DIGITS = 22, EDITIONS_UNREADABLE = 23, EDITIONS_STRING = 24,
+    EDITIONS_OUTPUT = 43
 };
 
 enum { EDITIONS_LEFT = 0, EDITIONS_RIGHT = 1 };
@@ -56,7 +57,7 @@ static inline unsigned editions_side(uint64_t answer) { return (unsigned)(answer
 /* The node of a refusal by 10 to 19. */
 static inline unsigned editions_node(uint64_t answer) { return (unsigned)(answer >> 16 & 65535u); }
 
-/* The value of a call that is not refused: 1 or 0 for a comparison, the number of bytes for a write. */
+/* The value of a call that is not refused: 1 or 0 for a comparison, the number of bytes for a write or a built image. */
 static inline uint64_t editions_value(uint64_t answer) { return answer >> 8; }
 
 /* What a refusal's number says, as a sentence; 0 has one too, and so has a number that is no refusal. Never NULL. */
@@ -77,7 +78,9 @@ static inline const char *editions_refusal_text(unsigned refusal)
     case EDITIONS_TYPES: return "Ranges of tables of unequal type are not compared.";
     case EDITIONS_RANGE: return "The range passes the table's last row.";
     case EDITIONS_DIGITS: return "Digits are dropped of Decimal32 and Decimal64 at the root alone, and at most nine.";
-    case EDITIONS_OUTPUT: return "The output is longer than the buffer.";
+    case EDITIONS_UNREADABLE: return "Rows are read back of the codes 0 to 30, 33, 34 and 38 alone.";
+    case EDITIONS_STRING: return "The bytes are not that many rows of the type, or a text among them is not well-formed UTF-8.";
+    case EDITIONS_OUTPUT: return "The output is longer than the buffer, or a built image than one may be.";
     default: return "The number is not a refusal of these calls.";
     }
 }

@@ -1,5 +1,5 @@
-/* editions_calls.h: which rows of two ranges are equal, where they part, and which agree at fewer digits; and how a table's Maps
- * are named.
+/* editions_calls.h: which rows of two ranges are equal, where they part, and which agree at fewer digits; how a table's Maps are
+ * named; and the table that written rows are.
  *
  * Further calls on the tables of editions.h. What editions.h says of images, lent memory, threads and answers holds here too,
  * and its functions take these answers apart. Link with libcalls_c.a; it needs no other library, and a program may link it
@@ -44,6 +44,20 @@ uint64_t editions_compare_digits(const uint8_t *left, size_t left_length, const 
  * no row names. The answer's value is 1 for yes and 0 for no; a table without Maps: yes. Refused by 10 to 19 as
  * editions_check, and by nothing else. */
 uint64_t editions_map_names(const uint8_t *image, size_t image_length);
+
+/* Builds the table of `count` rows that editions_write has written, `rows`, and puts its image to the front of `out`; the
+ * answer's value is the image's length. The type is that of `image`: codes, p1, p2, names and nullable flags are taken from it,
+ * and no row. Writing the built table gives `rows` again, and rows that were written of a table of this type are equal to those
+ * that are built. docs/FORMAT.md has the built image byte for byte: the same type and rows give the same image. Refused by the
+ * first of these that holds:
+ *   - 10 to 19 as editions_check;
+ *   - EDITIONS_UNREADABLE, where a node of `image` has another code than 0 to 30, 33, 34 and 38, whatever `rows` are;
+ *   - EDITIONS_STRING, where `rows` are not exactly `count` rows of this type, or have ill-formed text for Utf8 or LargeUtf8;
+ *   - EDITIONS_OUTPUT, where the image would be longer than `out` or than 16,777,216 bytes, or a node of it would have more than
+ *     1,073,741,824 rows.
+ * A refusal changes no byte of `out`; bytes past the image are never changed. `image` and `rows` may overlap. */
+uint64_t editions_build(const uint8_t *image, size_t image_length, uint32_t count, const uint8_t *rows, size_t rows_length,
+                        uint8_t *out, size_t out_length);
 
 #ifdef __cplusplus
 }

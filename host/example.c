@@ -1,6 +1,6 @@
 /* A small host: two tables of three Int8 rows, the middle one null, with other bytes under the null, and a third table that
- * differs in its last row. It checks the two, compares them, finds where the third parts from them, writes their rows, and
- * prints what it found. */
+ * differs in its last row. It checks the two, compares them, finds where the third parts from them, writes their rows, builds a
+ * table of what is written, and prints what it found. */
 #include "editions.h"
 #include "editions_calls.h"
 
@@ -105,6 +105,15 @@ int main(void)
     for (uint64_t k = 0; k < editions_value(answer); k++)
         printf(" %02x", rows[k]);
     printf("\n");
+
+    struct image built;
+    size_t length = (size_t)editions_value(answer);
+    answer = editions_build(right.bytes, right.length, ROWS, rows, length, built.bytes, sizeof built.bytes);
+    report("build a table of these bytes", answer);
+    built.length = (size_t)editions_value(answer);
+    report("compare it with the left table", editions_compare(left.bytes, left.length, built.bytes, built.length));
+    report("build a table of one row of them",
+           editions_build(right.bytes, right.length, 1, rows, length, built.bytes, sizeof built.bytes));
 
     report("write into four bytes", editions_write(left.bytes, left.length, 0, ROWS, rows, 4));
     left.bytes[HEADER + CODE] = NO_SUCH_CODE; /* of node 0 */

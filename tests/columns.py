@@ -8,7 +8,7 @@ in any order. Two layouts of the same rows make equal tables.
 import letters
 from image import FIELDS, INLINE, LONGEST_NAME, VIEW, by_level, flags, number, tables, tables_size, view
 from model import BOOLEAN, DENSE_UNION, DICTIONARY, FIXED_SIZE_BINARY, FIXED_SIZE_LIST, LIST, LIST_VIEWS, LISTS, MAP, NULL
-from model import OFFSET_WIDTH, P1, RUN_END_ENCODED, SPARSE_UNION, STRUCT, TEXTS, UNIONS, UTF8S, VIEWS, WIDTHS
+from model import OFFSET_WIDTH, P1, READABLE, RUN_END_ENCODED, SPARSE_UNION, STRUCT, TEXTS, UNIONS, UTF8S, VIEWS, WIDTHS
 
 LEAVES = [NULL, BOOLEAN, *range(2, LIST)]
 NESTED = [*range(LIST, RUN_END_ENCODED + 1)]
@@ -82,6 +82,17 @@ def random_type(rng, depth=3, code=None):
         made.children = [random_type(rng, depth - 1) for _ in range(rng.randint(0, 3))]
     elif code in NESTED:
         made.children = [random_type(rng, depth - 1)]
+    return made
+
+
+def readable_type(rng, depth, code=None):
+    """A type whose rows may be read back, of at most that depth."""
+    leaves, nested = sorted(READABLE & {*LEAVES}), sorted(READABLE & {*NESTED})
+    if code is None:
+        code = rng.choice(leaves if depth <= 1 else leaves + nested * 12)
+    made = random_type(rng, 1, code)
+    if code in nested:
+        made.children = [readable_type(rng, depth - 1) for _ in range(rng.choice([0, 1, 1, 2, 3]) if code == STRUCT else 1)]
     return made
 
 

@@ -1,8 +1,9 @@
 #!/usr/bin/env python3
 """Holds the worked images of docs/FORMAT.md to the model of document 01.
 
-The bytes of each table follow each other at the places that it names; the first image is that of the session's first line;
-both are accepted, have as many bytes as the page says, and their rows have the bytes that it gives.
+The bytes of each table follow each other at the places that it names; the first image is that of the session's first line; all
+are accepted, have as many bytes as the page says, and their rows have the bytes that it gives; the third is what is built of its
+rows' bytes with the second for its type.
 """
 
 import os
@@ -32,7 +33,7 @@ def worked(page):
 
 def main():
     images = list(worked(read("docs", "FORMAT.md")))
-    assert len(images) == 2, f"{len(images)} worked images"
+    assert len(images) == 3, f"{len(images)} worked images"
     first = bytes.fromhex(read("tests", "session.txt").split("\n")[0])
     assert first[1:] == images[0][1], "the first image is not that of the session's first line"
     for size, data, told in images:
@@ -41,6 +42,8 @@ def main():
         rows = model.Image(data).nodes[0].length
         written = model.write(data, 0, rows, 1 << 20)[1]
         assert written == told, f"the rows' bytes are {written.hex(' ')}"
+    (_, given, _), (size, made, string) = images[1:]
+    assert model.build(given, 2, string, size) == ((0, 0, 0, size), made), "the third image is not the one that is built"
     print(f"format: {len(images)} worked images are as the model has them")
 
 

@@ -1,6 +1,6 @@
 """A model of document 01, written from its sentences: the image check, types, rows, row bytes, and the session; and of what
-document 02 adds, the first unequal row of two ranges, text that is UTF-8 (RFC 3629), the comparison at fewer digits, and Map
-names at every depth.
+document 02 adds, the first unequal row of two ranges, text that is UTF-8 (RFC 3629), the comparison at fewer digits, Map
+names at every depth, and the image that is built of written rows.
 
 It is the second opinion that the proved program is held to, so it shares nothing with it: numbers are Python's, rows are
 tuples, and speed is no aim.
@@ -70,6 +70,10 @@ UTF8S = {UTF8, LARGE_UTF8, UTF8_VIEW}
 LISTS = {LIST, LARGE_LIST, MAP}
 LIST_VIEWS = {LIST_VIEW, LARGE_LIST_VIEW}
 UNIONS = {DENSE_UNION, SPARSE_UNION}
+
+# the codes whose rows may be read back, and the texts among them that are to be UTF-8
+READABLE = {*range(FIXED_SIZE_BINARY + 1), LIST, LARGE_LIST, STRUCT}
+READ_AS_UTF8 = {UTF8, LARGE_UTF8}
 
 
 # RFC 3629, section 4: the letters (UTF8-char), for each alternative the range of each byte.
@@ -636,6 +640,191 @@ def write(data, i, n, room):
             if len(written) > room:
                 return (43, 0, 0, 0), b""
     return (0, 0, 0, len(written)), written
+
+
+class Reader:
+    """Rows that are taken from the front of a string; 24 where it does not have them. They are rows as Image gives them."""
+
+    def __init__(self, image, string):
+        self.image, self.string, self.at = image, string, 0
+
+    def take(self, size):
+        if size > len(self.string) - self.at:
+            raise Fault(24)
+        self.at += size
+        return self.string[self.at - size : self.at]
+
+    def number(self):
+        return unsigned(self.take(4), 0, 4)
+
+    def one_of(self, low, high):
+        """The next byte, which is one of two."""
+        (byte,) = self.take(1)
+        if byte not in (low, high):
+            raise Fault(24)
+        return byte
+
+    def row(self, node):
+        record = self.image.nodes[node]
+        if self.one_of(0, 1) == 0:
+            # no table writes a null of code 0
+            if record.code == NULL:
+                raise Fault(24)
+            return None
+        if record.code == BOOLEAN:
+            return ("bytes", bytes([self.one_of(0, 1)]))
+        if record.code in TEXTS:
+            text = self.take(self.number())
+            if record.code in READ_AS_UTF8 and not well_formed(text):
+                raise Fault(24)
+            return ("text", text)
+        if record.code in LISTS:
+            return ("list", tuple(self.row(record.first_child) for _ in range(self.number())))
+        if record.code == STRUCT:
+            return ("rows", tuple(self.row(child) for child in self.image.children(node)))
+        return ("bytes", self.take(fixed_width(record)))
+
+    def rows(self, count):
+        """So many rows of the root, and nothing behind them."""
+        made = [self.row(0) for _ in range(count)]
+        if self.at != len(self.string):
+            raise Fault(24)
+        return made
+
+
+def fixed_width(record):
+    return 0 if record.code == NULL else WIDTHS.get(record.code, record.p1)
+
+
+def under_null(record):
+    """What stands under a null: a null where there can be one."""
+    return ("bytes", b"") if record.code == NULL else None
+
+
+def child_rows(image, node, rows):
+    """For each child of a node its rows: those of lists one after the other, of Structs side by side."""
+    if image.nodes[node].code == STRUCT:
+        for k, child in enumerate(image.children(node)):
+            yield child, [under_null(image.nodes[child]) if row is None else row[1][k] for row in rows]
+    else:
+        for child in image.children(node):
+            yield child, [below for row in rows if row is not None for below in row[1]]
+
+
+def bits(values):
+    made = bytearray((len(values) + 7) // 8)
+    for k, value in enumerate(values):
+        made[k // 8] |= value << k % 8
+    return bytes(made)
+
+
+def offsets(width, rows):
+    """The offsets of lists or texts, from 0 on; those that are null are empty."""
+    ends = [0]
+    for row in rows:
+        ends.append(ends[-1] + (0 if row is None else len(row[1])))
+    return b"".join(end.to_bytes(width, "little") for end in ends)
+
+
+def part_sizes(record, rows):
+    """How long the parts of a node are, its bitmap and its buffers, the shortest that 15 and 17 allow."""
+    masks, count = (len(rows) + 7) // 8, len(rows)
+    if record.code == NULL:
+        return []
+    if record.code == STRUCT:
+        return [masks]
+    if record.code == BOOLEAN:
+        return [masks, masks]
+    if record.code in LISTS:
+        return [masks, (count + 1) * OFFSET_WIDTH[record.code]]
+    if record.code in TEXTS:
+        return [masks, (count + 1) * OFFSET_WIDTH[record.code], sum(len(row[1]) for row in rows if row is not None)]
+    return [masks, count * fixed_width(record)]
+
+
+def node_parts(record, rows):
+    """The bytes of these parts, in the same order."""
+    if record.code == NULL:
+        return []
+    made = [bits([row is not None for row in rows])]
+    if record.code == BOOLEAN:
+        made.append(bits([0 if row is None else row[1][0] for row in rows]))
+    elif record.code in LISTS or record.code in TEXTS:
+        made.append(offsets(OFFSET_WIDTH[record.code], rows))
+        if record.code in TEXTS:
+            made.append(b"".join(row[1] for row in rows if row is not None))
+    elif record.code != STRUCT:
+        made.append(b"".join(bytes(fixed_width(record)) if row is None else row[1] for row in rows))
+    return made
+
+
+class Built:
+    """The image of rows at the root, of the type of a given image: the rows of each node, and how long its parts are."""
+
+    def __init__(self, given, rows):
+        self.given, self.columns = given, {0: rows}
+        for node in range(len(given.nodes)):
+            self.columns |= dict(child_rows(given, node, self.columns[node]))
+        self.sizes = [part_sizes(record, self.columns[node]) for node, record in enumerate(given.nodes)]
+        self.front = HEADER + RECORD * len(given.nodes) + ENTRY * len(given.entries)
+        self.size = self.front + sum(record.name_length + sum(sizes) for record, sizes in zip(given.nodes, self.sizes))
+
+    def too_large(self, room):
+        most = max(len(rows) for rows in self.columns.values())
+        return self.size > min(room, LONGEST_IMAGE) or most > MOST_ELEMENTS
+
+    def bytes(self):
+        given, data = self.given, bytearray(self.front)
+
+        def put(at, width, value):
+            data[at : at + width] = value.to_bytes(width, "little", signed=value < 0)
+
+        def place(part):
+            data.extend(part)
+            return len(data) - len(part)
+
+        put(0, 2, len(given.nodes))
+        put(2, 2, len(given.entries))
+        # a name has a place where it has a length
+        names = [place(given.name(node)) if record.name_length else 0 for node, record in enumerate(given.nodes)]
+        child, entry = 1, 0
+        for node, record in enumerate(given.nodes):
+            rows, masked = self.columns[node], record.code != NULL
+            parts = node_parts(record, rows)
+            assert [len(part) for part in parts] == self.sizes[node]
+            places = [(place(part), len(part)) for part in parts]
+            fields = dict(code=record.code, flags=int(record.nullable) + HAS_BITMAP * masked, p1=record.p1, p2=record.p2)
+            fields |= dict(name_length=record.name_length, name_place=names[node], length=len(rows))
+            if masked:
+                fields["bitmap_place"], fields["bitmap_length"] = places.pop(0)
+            fields |= dict(first_child=child, child_count=record.child_count, first_buffer=entry, buffer_count=len(places))
+            for field, value in fields.items():
+                at, width = FIELDS[field]
+                put(HEADER + RECORD * node + at, width, value)
+            for at, length in places:
+                put(HEADER + RECORD * len(given.nodes) + ENTRY * entry, 4, at)
+                put(HEADER + RECORD * len(given.nodes) + ENTRY * entry + 4, 4, length)
+                entry += 1
+            child += record.child_count
+        assert len(data) == self.size and entry == len(given.entries)
+        return bytes(data)
+
+
+def build(data, count, string, room):
+    """The answer, and the image that is built of so many rows that a string holds, of the type of a given image."""
+    try:
+        given = checked(data)
+    except Fault as fault:
+        return (fault.number, 0, fault.node, 0), b""
+    if any(record.code not in READABLE for record in given.nodes):
+        return (23, 0, 0, 0), b""
+    try:
+        made = Built(given, Reader(given, string).rows(count))
+    except Fault as fault:
+        return (fault.number, 0, 0, 0), b""
+    if made.too_large(room):
+        return (43, 0, 0, 0), b""
+    return (0, 0, 0, made.size), made.bytes()
 
 
 class Session:

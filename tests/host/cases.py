@@ -374,8 +374,8 @@ def named_calls(rng):
 
 
 def two_images(rng, left, right):
-    """Two images, any starts and count, and any number of digits, as tests/host/fuzz.c reads them."""
-    return b"".join(number(2, x) for x in (len(left), *(rng.randrange(1 << 16) for _ in range(4)))) + left + right
+    """Two images, any starts and count, any number of digits, and any damage, as tests/host/fuzz.c reads them."""
+    return b"".join(number(2, x) for x in (len(left), *(rng.randrange(1 << 16) for _ in range(6)))) + left + right
 
 
 def fuzz_input(rng, seed):
@@ -403,6 +403,14 @@ def map_input(rng):
     return two_images(rng, laid(rng, left, rows), laid(rng, freed(rng, right), rows))
 
 
+def readable_input(rng):
+    """Two layouts of rows that may be read back."""
+    columns.ILL_FORMED = 0.0
+    kind = columns.readable_type(rng, rng.choice([1, 2, 3, 4]))
+    rows = [columns.random_row(rng, kind) for _ in range(rng.choice([0, 1, 3, 9]))]
+    return two_images(rng, laid(rng, kind, rows), laid(rng, kind, rows))
+
+
 def records(rng, seed):
     yield from calls(rng, seed)
     # every code has its turn at the first and the last, since 44 is no multiple of 3
@@ -410,8 +418,8 @@ def records(rng, seed):
 
 
 def fuzz_inputs(seeds):
-    """Random tables, one of decimals beside every seventh and one with Maps beside every fifth, and each text of tests/texts.py
-    beside the one after it."""
+    """Random tables, one of decimals beside every seventh, one with Maps beside every fifth and one whose rows may be read back
+    beside every second, and each text of tests/texts.py beside the one after it."""
     for seed in seeds:
         try:
             yield fuzz_input(random.Random(seed), seed)
@@ -419,6 +427,8 @@ def fuzz_inputs(seeds):
                 yield map_input(of_maps(seed))
         except NoLayout:
             continue
+        if seed % 2 == 0:
+            yield readable_input(random.Random(f"read back {seed}"))
         if seed % 7 == 0:
             yield decimal_input(random.Random(seed), seed)
     images = [image for _, image, _ in texts.IMAGES]

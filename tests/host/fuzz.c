@@ -4,10 +4,12 @@
  * is none exactly when the ranges are equal, the rows before it are equal, and its row is not. The comparison at fewer digits
  * is refused as they are, or by 22 before 21; it is symmetric, says yes of equal rows, of no others where no digit is dropped,
  * and of a range exactly when it does of both halves. The query for Map names is refused as the check is; else it says what a
- * walk over the nodes finds.
+ * walk over the nodes finds. Rows that are written are built again where the type's codes may be: a table that is accepted, equals
+ * them and is written as they were. Any other string is refused, or gives a table that is accepted and writes the string.
  *
- * An input is five numbers of two bytes, the left image and the right one. The numbers: how long the left image is; then, of
- * ranges, the left start, the right start and the count, and the digits, as `ranged` takes them.
+ * An input is seven numbers of two bytes, the left image and the right one. The numbers: how long the left image is; then, of
+ * ranges, the left start, the right start and the count, and the digits, as `ranged` takes them; then where a string of rows is
+ * damaged, and how.
  *
  * With LIBFUZZER defined this is a target of libFuzzer; else a program that mutates the inputs of a directory for some
  * seconds: fuzz CORPUS SECONDS SEED. */
@@ -20,7 +22,7 @@
 #include <dirent.h>
 #include <time.h>
 
-enum { MOST = 1 << 16, ROOM = 4096 };
+enum { MOST = 1 << 16, ROOM = 4096, BUILT = 4 * ROOM };
 
 /* The numbers of an input: their places, and how many bytes they have together. */
 enum {
@@ -29,13 +31,15 @@ enum {
     INPUT_RIGHT_START = 4,
     INPUT_COUNT = 6,
     INPUT_DIGITS = 8,
-    INPUT_NUMBERS = 10
+    INPUT_PLACE = 10,
+    INPUT_DAMAGE = 12,
+    INPUT_NUMBERS = 14
 };
 
 /* The type codes whose digits may be dropped, and how many. */
 enum { DECIMAL32 = 15, DECIMAL64 = 16, MOST_DIGITS = 9 };
 
-enum { MAP = 42 };
+enum { FIXED_SIZE_BINARY = 30, LIST = 33, LARGE_LIST = 34, STRUCT = 38, MAP = 42 };
 
 /* what a comparison that says yes answers */
 static const uint64_t EQUAL = (uint64_t)1 << 8;
@@ -46,7 +50,7 @@ static const uint64_t FIRST_ROW = (uint64_t)1 << 8;
 /* the side of a refused right image or range, in an answer */
 static const uint64_t RIGHT = (uint64_t)EDITIONS_RIGHT << 8;
 
-static struct lent lent[3];
+static struct lent lent[5];
 
 static void must(int holds, const char *what)
 {
@@ -251,6 +255,144 @@ static void three_calls(const struct pair *p, uint64_t a, uint64_t b, uint64_t a
     }
 }
 
+/* Whether rows of an accepted image may be read back. */
+static int is_readable(const uint8_t *image)
+{
+    int readable = 1;
+    for (uint32_t node = 0; node < image_get(image, HEADER_NODES, 2); node++) {
+        int code = image[image_record(node) + RECORD_CODE];
+        readable = readable && (code <= FIXED_SIZE_BINARY || code == LIST || code == LARGE_LIST || code == STRUCT);
+    }
+    return readable;
+}
+
+/* What is built of a string into a buffer of that room; nothing else of it changes. */
+static uint64_t build(const uint8_t *image, size_t length, uint32_t count, const uint8_t *rows, size_t size, uint8_t *out,
+                      size_t room)
+{
+    memset(out, 0xa5, room);
+    uint64_t answer = editions_build(image, length, count, rows, size, out, room);
+    size_t kept = editions_refusal(answer) ? 0 : editions_value(answer);
+    must(kept <= room, "more built than there is room for");
+    for (size_t k = kept; k < room; k++)
+        must(out[k] == 0xa5, "a byte past the built image was changed");
+    return answer;
+}
+
+/* A part of a built image stands where the one before it ends. Returns where it ends itself. */
+static uint32_t behind(uint32_t at, uint64_t place, uint64_t length)
+{
+    must(place == at, "a part of a built image stands elsewhere");
+    return at + (uint32_t)length;
+}
+
+/* A built image is its tables, the names, and of each node its bitmap and its buffers, one behind the other; no offset and no
+ * first bit is other than 0. */
+static void hold_places(const uint8_t *built, size_t length)
+{
+    uint32_t nodes = (uint32_t)image_get(built, HEADER_NODES, 2), buffers = (uint32_t)image_get(built, HEADER_BUFFERS, 2);
+    uint32_t at = IMAGE_TABLES(nodes, buffers), entry = IMAGE_TABLES(nodes, 0);
+    for (uint32_t node = 0; node < nodes; node++) {
+        uint32_t record = image_record(node), size = built[record + RECORD_NAME_LENGTH];
+        at = behind(at, image_get(built, record + RECORD_NAME, 4) + (size ? 0 : at), size);
+    }
+    for (uint32_t node = 0; node < nodes; node++) {
+        uint32_t record = image_record(node);
+        int masked = built[record + RECORD_CODE] != 0;
+        must(!(built[record + RECORD_FLAGS] & FLAG_BITMAP) == !masked, "a built node with a bitmap, or without");
+        must(image_get(built, record + RECORD_OFFSET, 4) == 0 && image_get(built, record + RECORD_FIRST_BIT, 4) == 0,
+             "a built node with an offset or a first bit");
+        at = behind(at, image_get(built, record + RECORD_BITMAP, 4) + (masked ? 0 : at),
+                    masked ? (image_get(built, record + RECORD_LENGTH, 4) + 7) / 8 : 0);
+        for (uint32_t k = 0; k < image_get(built, record + RECORD_BUFFERS, 2); k++, entry += IMAGE_ENTRY)
+            at = behind(at, image_get(built, entry + ENTRY_PLACE, 4), image_get(built, entry + ENTRY_LENGTH, 4));
+    }
+    must(at == length, "a built image that does not end with its last part");
+}
+
+/* A table that was built of a string: accepted, of the type of its image, written as the string, and in no room less. */
+static void hold_built(const uint8_t *image, size_t length, uint32_t count, const uint8_t *rows, size_t size, size_t built)
+{
+    uint8_t *out = lent_bytes(lent[2], built, 1), *again = lent_bytes(lent[4], size, 1);
+    must(build(image, length, count, rows, size, out, built) == (uint64_t)built << 8, "an exact buffer is not enough for an image");
+    must(editions_check(out, built) == 0, "a built image that is refused");
+    hold_places(out, built);
+    must(root_rows(out, built) == count, "another number of rows is built");
+    must(editions_compare_range(image, length, out, built, 0, 0, 0) == EQUAL, "another type is built");
+    must(rows_of(out, built, again, size) == (uint64_t)size << 8, "a built table takes another number of bytes");
+    must(memcmp(again, rows, size) == 0, "a built table writes other bytes");
+    must(build(image, length, count, rows, size, lent_bytes(lent[2], built - 1, 1), built - 1) == EDITIONS_OUTPUT,
+         "one byte less is enough for an image");
+}
+
+/* Any string as so many rows of an accepted image whose rows may be read back. Returns whether they were. */
+static int any_string(const uint8_t *image, size_t length, uint32_t count, const uint8_t *rows, size_t size)
+{
+    uint64_t answer = build(image, length, count, rows, size, lent_bytes(lent[2], BUILT, 1), BUILT);
+    if (editions_refusal(answer) == 0)
+        hold_built(image, length, count, rows, size, editions_value(answer));
+    else
+        must(answer == EDITIONS_STRING || answer == EDITIONS_OUTPUT, "a string is refused otherwise");
+    return answer != EDITIONS_STRING;
+}
+
+/* A string with one change; it has room for a byte more. Returns how long it is. */
+static size_t damaged(uint8_t *rows, size_t size, uint32_t place, uint32_t damage)
+{
+    size_t at = place % (size + 1);
+    uint8_t byte = (uint8_t)(damage & 256 ? damage % 3 : damage);
+    switch (at < size ? damage >> 9 & 3 : 0) {
+    case 0: memmove(rows + at + 1, rows + at, size - at); rows[at] = byte; return size + 1;
+    case 1: memmove(rows + at, rows + at + 1, size - at - 1); return size - 1;
+    case 2: return at;
+    default: rows[at] = byte; return size;
+    }
+}
+
+/* Rows that were written, where their place is the end of their pages. */
+static uint8_t *lent_rows(const uint8_t *rows, size_t size)
+{
+    uint8_t *copy = lent_bytes(lent[3], size, 1);
+    memcpy(copy, rows, size);
+    return copy;
+}
+
+/* Rows of the left image that are written are built again; they are no row more, and once they are damaged any string. */
+static void written_rows(const struct pair *p, uint32_t place, uint32_t damage)
+{
+    static uint8_t string[ROOM + 1];
+    const uint8_t *left = p->left;
+    size_t length = p->left_length;
+    uint64_t answer = editions_write(left, length, p->left_start, p->count, string, ROOM);
+    if (editions_refusal(answer) != 0)
+        return;
+    size_t size = editions_value(answer);
+    uint8_t *rows = lent_rows(string, size), *out = lent_bytes(lent[2], BUILT, 1);
+    must(any_string(left, length, p->count, rows, size), "written rows are not read back");
+    answer = build(left, length, p->count, rows, size, out, BUILT);
+    if (editions_refusal(answer) == 0)
+        must(editions_compare_range(left, length, out, editions_value(answer), p->left_start, 0, p->count) == EQUAL,
+             "other rows are read back");
+    must(!any_string(left, length, p->count + 1, rows, size), "written rows are read back as one more");
+    size = damaged(string, size, place, damage);
+    any_string(left, length, p->count, lent_rows(string, size), size);
+}
+
+/* Tables of the left image's type, where it may be read back, of its rows and of the right image as a string; a is the check of
+ * the left image. */
+static void built_tables(const struct pair *p, uint64_t a, uint32_t place, uint32_t damage)
+{
+    uint64_t wanted = a != 0 ? a : is_readable(p->left) ? 0 : EDITIONS_UNREADABLE;
+    if (wanted != 0) {
+        size_t room = damage % 2 ? BUILT : 0;
+        must(build(p->left, p->left_length, p->count, p->right, p->right_length, lent_bytes(lent[2], room, 1), room) == wanted,
+             "an image whose rows may not be read back is refused otherwise");
+        return;
+    }
+    any_string(p->left, p->left_length, p->count, p->right, p->right_length);
+    written_rows(p, place, damage);
+}
+
 /* A start, a count or a number of digits: mostly one of 0 to one more than the most, else one of the four largest. */
 static uint32_t ranged(const uint8_t *number, uint64_t most)
 {
@@ -279,6 +421,7 @@ static void one(const uint8_t *data, size_t size)
     uint32_t digits = ranged(data + INPUT_DIGITS, MOST_DIGITS);
     ranges(&p, a, b, ab);
     fewer_digits(&p, digits);
+    built_tables(&p, a, (uint32_t)image_get(data, INPUT_PLACE, 2), (uint32_t)image_get(data, INPUT_DAMAGE, 2));
     p.right_start = p.left_start;
     ranges(&p, a, b, ab);
     fewer_digits(&p, digits);
@@ -287,7 +430,7 @@ static void one(const uint8_t *data, size_t size)
 
 static void begin(void)
 {
-    for (int k = 0; k < 3; k++)
+    for (int k = 0; k < 5; k++)
         lent[k] = lent_pages(MOST);
 }
 

@@ -438,7 +438,7 @@ static void unions(void)
 /* Every number has a sentence of its own; all those that no call answers share one. */
 static void texts(void)
 {
-    static const unsigned numbers[] = {0, 10, 11, 12, 13, 14, 15, 16, 17, 18, 19, 20, 21, 22, 43};
+    static const unsigned numbers[] = {0, 10, 11, 12, 13, 14, 15, 16, 17, 18, 19, 20, 21, 22, 23, 24, 43};
     enum { COUNT = sizeof numbers / sizeof numbers[0] };
     const char *other = editions_refusal_text(255);
     for (unsigned k = 0; k < COUNT; k++) {

@@ -1,15 +1,22 @@
 -- The value of an answer fits into the 56 bits that one number has for it.
--- By the variants of each answer; a row that is told is below the count.
+-- By the variants of each answer; a row that is told is below the count, and an image that is built is no longer than images are.
 use mathlib.Core.Path.{_≡_, refl}
-use mathlib.Core.Bool.{Bool, true, false, cond}
-use mathlib.Core.List.{List}
+use mathlib.Core.Bool.{Bool, true, false, cond, _||_}
+use mathlib.Core.List.{List, [], _∷_}
 use Prim.Native.Nat.{ℕ, _<_, _^_}
 use native.Mathlib.Omega.{arith}
+use lib.ListN.{length}
 use lib.Dec.{ltb}
-use borrow.Author.Tests.{ltb-true}
+use borrow.Author.Tests.{ltb-true, ltb-false}
 use Rattle.image.specs.declared.answer.Checked.{Checked}
 use Rattle.image.specs.declared.answer.Checked.the-variants.{Accepted, Refused}
+use Rattle.image.specs.Ranges.{any}
+use Rattle.image.specs.Record.{longestImage, nodeCount}
+use Rattle.image.specs.Row.{Rows}
+use Rattle.image.specs.Faults.{checkImage}
 use Rattle.image.specs.Equality.{firstDifference}
+use Rattle.image.specs.Parse.{Parsed, failed, parsed, readable, rowsIn}
+use Rattle.image.specs.Built.{builtImage}
 use Rattle.answers.specs.declared.Paired.{Paired}
 use Rattle.answers.specs.declared.Paired.the-variants.{Agreed, Refused as PairRefused, UnequalTypes as PairUnequal}
 use Rattle.answers.specs.declared.Bounds.{Bounds}
@@ -22,8 +29,10 @@ use Rattle.answers.specs.declared.DigitsCompared.{DigitsCompared}
 use Rattle.answers.specs.declared.DigitsCompared.the-variants.{Yes as DigitsYes, No as DigitsNo, Refused as DigitsRefused, UnequalTypes as DigitsUnequal, NotDigits, OutOfRange as DigitsOut}
 use Rattle.answers.specs.declared.MapNames.{MapNames}
 use Rattle.answers.specs.declared.MapNames.the-variants.{Yes as NamesYes, No as NamesNo, Refused as NamesRefused}
-use Rattle.answers.specs.Answers.{pairedOf, boundsOf, boundedDifference, pairedDifference, differenceAnswer}
-use Rattle.answers.specs.Numbers.{checkedNumbers, comparedNumbers, differenceNumbers, digitsNumbers, mapNamesNumbers}
+use Rattle.answers.specs.declared.Built.{Built}
+use Rattle.answers.specs.declared.Built.the-variants.{Bytes as BuiltBytes, Unreadable, TooLong as BuildTooLong}
+use Rattle.answers.specs.Answers.{pairedOf, boundsOf, boundedDifference, pairedDifference, differenceAnswer, tooManyRows, imageAnswer, rowsAnswer, builtAfter, buildAnswer}
+use Rattle.answers.specs.Numbers.{checkedNumbers, comparedNumbers, differenceNumbers, digitsNumbers, mapNamesNumbers, builtNumbers}
 
 -- the values of checks and comparisons
 pub checked-small : (answer : Checked) → checkedNumbers answer .value < 2 ^ 56
@@ -64,3 +73,26 @@ difference-small s t i j n e few =
     cases row Agreed (BoundsOut side) b is = omega arith
     cases row Agreed Within false is = omega arith
     cases row Agreed Within true is = omega (arith, ltb-true row n is)
+
+-- the value of a table that is built
+image-small : (s : List ℕ) (rs : Rows) (out : List ℕ) → builtNumbers (imageAnswer s rs out) .value < 2 ^ 56
+unfolding imageAnswer
+image-small s rs out =
+    cases (length (builtImage s rs)) (ltb (length out) (length (builtImage s rs))) (ltb longestImage (length (builtImage s rs))) (any (tooManyRows s rs) 0 (nodeCount s)) refl
+  where
+    cases : (size : ℕ) (short long many : Bool) → ltb longestImage size ≡ long → builtNumbers (cond (short || long || many) BuildTooLong (BuiltBytes size)) .value < 2 ^ 56
+    cases size true long many is = omega arith
+    cases size false true many is = omega arith
+    cases size false false true is = omega arith
+    cases size false false false is = omega (arith, ltb-false longestImage size is)
+
+pub built-small : (s : List ℕ) (n : ℕ) (b out : List ℕ) {r : Built} → r ≡ buildAnswer s n b out → builtNumbers r .value < 2 ^ 56
+unfolding buildAnswer
+built-small s n b out e = rw e (cases (checkImage s) (readable s) (rowsIn s n b))
+  where
+    cases : (c : Checked) (coded : Bool) (p : Parsed Rows) → builtNumbers (builtAfter c (cond coded (rowsAnswer s p out) Unreadable)) .value < 2 ^ 56
+    cases (Refused f) coded p = omega arith
+    cases Accepted false p = omega arith
+    cases Accepted true failed = omega arith
+    cases Accepted true (parsed rs []) = image-small s rs out
+    cases Accepted true (parsed rs (x ∷ rest)) = omega arith

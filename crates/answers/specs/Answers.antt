@@ -1,19 +1,23 @@
 -- What each of the library's calls answers, for all inputs.
-use mathlib.Core.Bool.{Bool, true, false, cond}
-use mathlib.Core.List.{List, _++_}
+use mathlib.Core.Bool.{Bool, true, false, cond, _||_}
+use mathlib.Core.List.{List, [], _∷_, _++_}
 use Prim.Native.Nat.{ℕ, _+_}
 use lib.ListN.{length, drop}
 use lib.Dec.{ltb}
 use Rattle.image.specs.declared.answer.Side.the-variants.{Left, Right}
 use Rattle.image.specs.declared.answer.Checked.{Checked}
 use Rattle.image.specs.declared.answer.Checked.the-variants.{Accepted, Refused}
-use Rattle.image.specs.Record.{lengthOf}
+use Rattle.image.specs.Ranges.{any}
+use Rattle.image.specs.Record.{longestImage, mostElements, nodeCount, lengthOf}
+use Rattle.image.specs.Row.{Rows}
 use Rattle.image.specs.Faults.{checkImage}
 use Rattle.image.specs.Types.{typesAgree}
 use Rattle.image.specs.MapNames.{mapsNamed}
 use Rattle.image.specs.Equality.{rangesEqual, tablesEqual, firstDifference}
-use Rattle.image.specs.RowBytes.{rangeBytes}
+use Rattle.image.specs.RowBytes.{count, rangeBytes}
 use Rattle.image.specs.Digits.{digitsEqual, notDigits}
+use Rattle.image.specs.Parse.{Parsed, failed, parsed, readable, rowsIn}
+use Rattle.image.specs.Built.{column, builtImage}
 use Rattle.answers.specs.declared.Paired.{Paired}
 use Rattle.answers.specs.declared.Paired.the-variants.{Agreed, Refused as PairRefused, UnequalTypes as PairUnequal}
 use Rattle.answers.specs.declared.Bounds.{Bounds}
@@ -28,6 +32,8 @@ use Rattle.answers.specs.declared.MapNames.{MapNames}
 use Rattle.answers.specs.declared.MapNames.the-variants.{Yes as NamesYes, No as NamesNo, Refused as NamesRefused}
 use Rattle.answers.specs.declared.Written.{Written}
 use Rattle.answers.specs.declared.Written.the-variants.{Bytes, Refused as WriteRefused, OutOfRange as WriteOutOfRange, TooLong}
+use Rattle.answers.specs.declared.Built.{Built}
+use Rattle.answers.specs.declared.Built.the-variants.{Bytes as BuiltBytes, Refused as BuildRefused, Unreadable, NotRows, TooLong as BuildTooLong}
 
 abbrev pub yesOrNo : Bool → Compared
 yesOrNo true = Yes
@@ -155,3 +161,50 @@ unfoldable pub writeOutput : List ℕ → ℕ → ℕ → List ℕ → List ℕ
 writeOutput s i n out =
     let bytes = rangeBytes s i n in
     writtenOver (writeAnswer s i n out) bytes out
+
+-- From written rows back to a table: 10 to 19, then 23, 24, 43.
+
+-- "a node would have more than 1,073,741,824 rows"
+unfoldable pub tooManyRows : List ℕ → Rows → ℕ → Bool
+tooManyRows s rs k = ltb mostElements (count (column s rs k))
+
+-- "then 43 where the image is longer than the buffer or the maximum, or a node would have more than 1,073,741,824 rows"
+unfoldable pub imageAnswer : List ℕ → Rows → List ℕ → Built
+imageAnswer s rs out =
+    let size = length (builtImage s rs) in
+    cond (ltb (length out) size || ltb longestImage size || any (tooManyRows s rs) 0 (nodeCount s)) BuildTooLong (BuiltBytes size)
+
+-- "24 for a string that is not that many rows by the row rule": nothing follows them
+abbrev pub rowsAnswer : List ℕ → Parsed Rows → List ℕ → Built
+rowsAnswer s failed out = NotRows
+rowsAnswer s (parsed rs (x ∷ b)) out = NotRows
+rowsAnswer s (parsed rs []) out = imageAnswer s rs out
+
+abbrev pub builtAfter : Checked → Built → Built
+builtAfter (Refused f) a = BuildRefused f
+builtAfter Accepted a = a
+
+-- "23 for another code, 24 .., in this order after 10 to 19"
+unfoldable pub buildAnswer : List ℕ → ℕ → List ℕ → List ℕ → Built
+buildAnswer s n b out =
+    let read = rowsAnswer s (rowsIn s n b) out in
+    let coded = cond (readable s) read Unreadable in
+    builtAfter (checkImage s) coded
+
+-- the image of the rows that a string is
+abbrev pub imageOf : List ℕ → Parsed Rows → List ℕ
+imageOf s failed = []
+imageOf s (parsed rs b) = builtImage s rs
+
+-- the buffer afterwards: the image and then what it held; unchanged by a refusal
+abbrev pub builtOver : Built → List ℕ → List ℕ → List ℕ
+builtOver (BuiltBytes n) image out = image ++ drop n out
+builtOver (BuildRefused f) image out = out
+builtOver Unreadable image out = out
+builtOver NotRows image out = out
+builtOver BuildTooLong image out = out
+
+unfoldable pub buildOutput : List ℕ → ℕ → List ℕ → List ℕ → List ℕ
+buildOutput s n b out =
+    let image = imageOf s (rowsIn s n b) in
+    builtOver (buildAnswer s n b out) image out

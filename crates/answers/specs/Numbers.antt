@@ -17,6 +17,8 @@ use Rattle.answers.specs.declared.MapNames.{MapNames}
 use Rattle.answers.specs.declared.MapNames.the-variants.{Yes as NamesYes, No as NamesNo, Refused as NamesRefused}
 use Rattle.answers.specs.declared.Written.{Written}
 use Rattle.answers.specs.declared.Written.the-variants.{Bytes, Refused as WriteRefused, OutOfRange as WriteOutOfRange, TooLong}
+use Rattle.answers.specs.declared.Built.{Built}
+use Rattle.answers.specs.declared.Built.the-variants.{Bytes as BuiltBytes, Refused as BuildRefused, Unreadable, NotRows, TooLong as BuildTooLong}
 use Rattle.answers.specs.declared.numbers.Numbers.{Numbers}
 
 -- An answer in document 01's numbers: 0 or the refusal's number; the side, 0 left and 1 right; the node; the value.
@@ -74,6 +76,14 @@ writtenNumbers (Bytes n) = numbers 0 0 0 n
 writtenNumbers (WriteRefused f) = faultNumbers Left f
 writtenNumbers WriteOutOfRange = numbers 21 0 0 0
 writtenNumbers TooLong = numbers 43 0 0 0
+
+-- the value of a table that is built is how many bytes its image has; 23, 24 and 43 return "only the number"
+abbrev pub builtNumbers : Built → Numbers
+builtNumbers (BuiltBytes n) = numbers 0 0 0 n
+builtNumbers (BuildRefused f) = faultNumbers Left f
+builtNumbers Unreadable = numbers 23 0 0 0
+builtNumbers NotRows = numbers 24 0 0 0
+builtNumbers BuildTooLong = numbers 43 0 0 0
 
 -- One number of 64 bits: bits 0 to 7 the refusal's number, or 0. Where it is 0, bits 8 to 63 the value; else bits 8 to 15
 -- the side and bits 16 to 31 the node.

@@ -80,3 +80,17 @@ pub enum Written {
     // 43: the output is longer than the buffer
     TooLong,
 }
+
+// The answer of a call that builds a table from written rows.
+pub enum Built {
+    // an image of so many bytes stands at the front of the buffer
+    Bytes(usize),
+    // 10 to 19
+    Refused(Fault),
+    // 23: a type code other than 0 to 30, 33, 34 and 38
+    Unreadable,
+    // 24: the string is not that many rows, or has ill-formed text
+    NotRows,
+    // 43: the image is longer than the buffer or the maximum, or a node would have too many rows
+    TooLong,
+}

@@ -1,4 +1,5 @@
 // The numbers of an answer, and these as one number of 64 bits.
+use crate::Built;
 use crate::Compared;
 use crate::Difference;
 use crate::DigitsCompared;
@@ -9,7 +10,7 @@ use image::answer::Fault;
 use image::answer::Side;
 ghost use mathlib.Core.Path.{_≡_};
 ghost use Prim.Native.Nat.{_<_, _^_};
-ghost use Rattle.answers.specs.Numbers.{sideNumber, numbers, faultNumbers, checkedNumbers, comparedNumbers, differenceNumbers, digitsNumbers, mapNamesNumbers, writtenNumbers, packed};
+ghost use Rattle.answers.specs.Numbers.{sideNumber, numbers, faultNumbers, checkedNumbers, comparedNumbers, differenceNumbers, digitsNumbers, mapNamesNumbers, writtenNumbers, builtNumbers, packed};
 
 // 0 or the refusal's number; the side, 0 left and 1 right; the node; the value. What an answer does not have is 0.
 pub struct Numbers {
@@ -118,6 +119,18 @@ pub fn written_numbers(answer: Written) -> Numbers
         Written::Refused(fault) => fault_numbers(fault, Side::Left),
         Written::OutOfRange => numbers_of(21, 0, 0, 0),
         Written::TooLong => numbers_of(43, 0, 0, 0),
+    }
+}
+
+pub fn built_numbers(answer: Built) -> Numbers
+    ensures { λ r. ⌜ r ≡ builtNumbers answer ⌝ }
+{
+    match answer {
+        Built::Bytes(n) => numbers_of(0, 0, 0, n),
+        Built::Refused(fault) => fault_numbers(fault, Side::Left),
+        Built::Unreadable => numbers_of(23, 0, 0, 0),
+        Built::NotRows => numbers_of(24, 0, 0, 0),
+        Built::TooLong => numbers_of(43, 0, 0, 0),
     }
 }
 

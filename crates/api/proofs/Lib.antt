@@ -1,6 +1,7 @@
 pub mod Answers
 pub mod Writes
 pub mod RefusedWrites
+pub mod Builds
 pub mod Demand2
 pub mod Demand3
 pub mod Difference

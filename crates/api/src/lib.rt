@@ -1,14 +1,16 @@
 // The public calls: check an image, compare two tables, compare ranges of their rows, find the first row in which ranges
-// differ, compare ranges of decimal numbers at fewer digits, ask for the names of Maps, write rows. Each checks its images
-// itself.
+// differ, compare ranges of decimal numbers at fewer digits, ask for the names of Maps, write rows, build a table from written
+// rows. Each checks its images itself.
 use accepted::column::REMEMBERED;
 use answers::Bounds;
+use answers::Built;
 use answers::Compared;
 use answers::Difference;
 use answers::DigitsCompared;
 use answers::MapNames;
 use answers::Paired;
 use answers::Written;
+use builder::is_readable;
 use digits::digits_equal;
 use digits::not_digits;
 use equal::equal_range;
@@ -30,7 +32,7 @@ ghost use Rattle.image.specs.Faults.{checkImage};
 ghost use Rattle.image.specs.Digits.{digitsEqual, notDigits};
 ghost use Rattle.answers.specs.declared.Paired.the-variants.{Agreed};
 ghost use Rattle.answers.specs.declared.DigitsCompared.the-variants.{NotDigits};
-ghost use Rattle.answers.specs.Answers.{compareAnswer, pairedOf, boundsOf, boundedAnswer, compareRangeAnswer, differsAt, boundedDifference, differenceAnswer, boundedDigits, digitsAnswer, mapNamesAnswer, writeAnswer, writeOutput, exceeds, yesOrNo};
+ghost use Rattle.answers.specs.Answers.{compareAnswer, pairedOf, boundsOf, boundedAnswer, compareRangeAnswer, differsAt, boundedDifference, differenceAnswer, boundedDigits, digitsAnswer, mapNamesAnswer, writeAnswer, writeOutput, buildAnswer, buildOutput, exceeds, yesOrNo};
 
 // The image check.
 pub fn check(image: &[u8]) -> Checked
@@ -300,4 +302,20 @@ pub fn write(image: &[u8], start: usize, count: usize, out: &mut [u8]) -> Writte
         return Written::TooLong;
     };
     Written::Bytes(write_rows(image, 0, start, count, MAX_DEPTH, &mut runs, out, 0))
+}
+
+// Builds the table of `count` rows of the type that an image has, which `rows` is by the row rule; its image goes to the front
+// of `out`. A refusal leaves `out` as it was.
+pub fn build(image: &[u8], count: usize, rows: &[u8], out: &mut [u8]) -> Built
+    ensures { λ r. ⌜ r ≡ buildAnswer (now (image .entry)) count (now (rows .entry)) (now (out .entry)) ⌝ }
+    ensures { λ _. ⌜ now (out .exit) ≡ buildOutput (now (image .entry)) count (now (rows .entry)) (now (out .entry)) ⌝ }
+{
+    let checked = check(image);
+    if let Checked::Refused(fault) = checked {
+        return Built::Refused(fault);
+    }
+    if !is_readable(image) {
+        return Built::Unreadable;
+    }
+    builder::build(image, count, rows, out)
 }

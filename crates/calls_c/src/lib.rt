@@ -1,16 +1,18 @@
 // Further calls for a host written in C, each answering with one number. host/editions_calls.h says what they answer.
+use answers::numbers::built_numbers;
 use answers::numbers::compared_numbers;
 use answers::numbers::difference_numbers;
 use answers::numbers::digits_numbers;
 use answers::numbers::map_names_numbers;
 use answers::numbers::pack;
+use api::build;
 use api::compare_digits;
 use api::compare_range;
 use api::first_difference;
 use api::map_names;
 ghost use mathlib.Core.Path.{_≡_};
-ghost use Rattle.answers.specs.Answers.{compareRangeAnswer, differenceAnswer, digitsAnswer, mapNamesAnswer};
-ghost use Rattle.answers.specs.Numbers.{comparedNumbers, differenceNumbers, digitsNumbers, mapNamesNumbers, packed};
+ghost use Rattle.answers.specs.Answers.{compareRangeAnswer, differenceAnswer, digitsAnswer, mapNamesAnswer, buildAnswer, buildOutput};
+ghost use Rattle.answers.specs.Numbers.{comparedNumbers, differenceNumbers, digitsNumbers, mapNamesNumbers, builtNumbers, packed};
 
 // Whether `count` rows of two tables from their starts on are equal.
 #[no_mangle]
@@ -71,4 +73,13 @@ pub extern "C" fn editions_map_names(image: &[u8]) -> u64
     ensures { λ r. ⌜ r ≡ packed (mapNamesNumbers (mapNamesAnswer (now (image .entry)))) ⌝ }
 {
     pack(map_names_numbers(map_names(image)))
+}
+
+// The table of `count` rows of the type that an image has, which `rows` is by the row rule; its image goes to the front of `out`.
+#[no_mangle]
+pub extern "C" fn editions_build(image: &[u8], count: u32, rows: &[u8], out: &mut [u8]) -> u64
+    ensures { λ r. ⌜ r ≡ packed (builtNumbers (buildAnswer (now (image .entry)) count (now (rows .entry)) (now (out .entry)))) ⌝ }
+    ensures { λ _. ⌜ now (out .exit) ≡ buildOutput (now (image .entry)) count (now (rows .entry)) (now (out .entry)) ⌝ }
+{
+    pack(built_numbers(build(image, count as usize, rows, out)))
 }

@@ -1,9 +1,11 @@
 -- Images laid out from Arrow columns: a column has a field, what it stores, and children.
 -- Nodes and buffers are numbered depth by depth, and their bytes are placed after the tables, in that order.
+use mathlib.Core.Bool.{cond}
 use mathlib.Core.List.{List, [], _∷_, _++_, flatten, flatMap}
 use Prim.Native.Nat.{ℕ, _+_, _*_, _-_, _/_}
 use Prim.Native.String.{String}
 use lib.ListN.{length}
+use lib.Dec.{eqb}
 use Rattle.image.specs.Bytes.{numberBytes, ascii}
 use Rattle.image.specs.Record.{recordPlace}
 
@@ -67,13 +69,11 @@ ifAny (b ∷ bs) x = x
 unfoldable pub placed : Node → List ℕ
 placed x = flatten (x .stored .buffers) ++ x .stored .bitmap ++ x .field .name
 
--- the bytes of a node's record, from its first child, its first buffer and the place of its bytes
-unfoldable pub recordBytes : Node → ℕ → ℕ → ℕ → List ℕ
-recordBytes x child buffer place =
-    let bitmapPlace = place + length (flatten (x .stored .buffers)) in
-    let namePlace = bitmapPlace + length (x .stored .bitmap) in
+-- the bytes of a node's record, from its flags, its first child, its first buffer and the places of its bitmap and its name
+unfoldable pub recordBytes : Node → ℕ → ℕ → ℕ → ℕ → ℕ → List ℕ
+recordBytes x flags child buffer bitmapPlace namePlace =
     u8 (x .field .code)
-    ++ u8 (x .field .flag + ifAny (x .stored .bitmap) 2)
+    ++ u8 flags
     ++ u8 (x .field .id)
     ++ u8 (length (x .field .name))
     ++ u32 (x .field .p1)
@@ -81,7 +81,7 @@ recordBytes x child buffer place =
     ++ u32 (x .stored .rows)
     ++ u32 (x .stored .offset)
     ++ u32 (ifAny (x .field .name) namePlace)
-    ++ u32 (ifAny (x .stored .bitmap) bitmapPlace)
+    ++ u32 bitmapPlace
     ++ u32 (length (x .stored .bitmap))
     ++ u32 (x .stored .firstBit)
     ++ u16 child
@@ -89,11 +89,13 @@ recordBytes x child buffer place =
     ++ u16 buffer
     ++ u16 (length (x .stored .buffers))
 
--- the records of nodes in turn, from the same three of the first
+-- the records of nodes in turn, from the first child, the first buffer and the place of the bytes of the first
 unfoldable pub records : ℕ → ℕ → ℕ → List Node → List ℕ
 records child buffer place [] = []
 records child buffer place (x ∷ xs) =
-    recordBytes x child buffer place
+    let bitmapPlace = place + length (flatten (x .stored .buffers)) in
+    let namePlace = bitmapPlace + length (x .stored .bitmap) in
+    recordBytes x (x .field .flag + ifAny (x .stored .bitmap) 2) child buffer (ifAny (x .stored .bitmap) bitmapPlace) namePlace
     ++ records (child + x .children) (buffer + length (x .stored .buffers)) (place + length (placed x)) xs
 
 -- the entries of buffers that stand one after the other
@@ -119,6 +121,41 @@ imageOf xs =
 
 unfoldable pub image : Column → List ℕ
 image c = imageOf (flatten c)
+
+-- The image that written rows make: "Names come first in node order, then each node's bitmap and buffers, without gaps", and
+-- "bitmaps stand wherever a code may have one", also one of no bytes.
+
+-- 0 at code 0, which has no bitmap
+abbrev pub unlessNull : Node → ℕ → ℕ
+unlessNull x y = cond (eqb (x .field .code) 0) 0 y
+
+-- what a node places after the names
+unfoldable pub parts : Node → List ℕ
+parts x = x .stored .bitmap ++ flatten (x .stored .buffers)
+
+-- the records of nodes in turn, from the first child, the first buffer and the places of the name and the parts of the first
+unfoldable pub builtRecords : ℕ → ℕ → ℕ → ℕ → List Node → List ℕ
+builtRecords child buffer name place [] = []
+builtRecords child buffer name place (x ∷ xs) =
+    recordBytes x (x .field .flag + unlessNull x 2) child buffer (unlessNull x place) name
+    ++ builtRecords (child + x .children) (buffer + length (x .stored .buffers)) (name + length (x .field .name)) (place + length (parts x)) xs
+
+unfoldable pub builtEntries : ℕ → List Node → List ℕ
+builtEntries place [] = []
+builtEntries place (x ∷ xs) =
+    bufferEntries (place + length (x .stored .bitmap)) (x .stored .buffers) ++ builtEntries (place + length (parts x)) xs
+
+unfoldable pub builtOf : List Node → List ℕ
+builtOf xs =
+    let n = length xs in
+    let m = length (buffersOf xs) in
+    let names = flatMap (λ x. x .field .name) xs in
+    let name = recordPlace n + m * 8 in
+    let place = name + length names in
+    u16 n ++ u16 m ++ builtRecords 1 0 name place xs ++ builtEntries place xs ++ names ++ flatMap parts xs
+
+unfoldable pub builtImage : Column → List ℕ
+builtImage c = builtOf (flatten c)
 
 -- Fields: a code, its p1 and a name.
 

@@ -1,12 +1,14 @@
 -- The library's calls on given images, and the answer of each, as a list of numbers.
--- An answer is its number, side, node and value, as document 01 gives them, and for a write the whole buffer afterwards.
+-- An answer is its number, side, node and value, as document 01 gives them, and where a call has a buffer the whole buffer
+-- afterwards.
 use mathlib.Core.Path.{_≡_}
-use mathlib.Core.List.{List, [], _∷_}
+use mathlib.Core.List.{List, [], _∷_, _++_}
 use Prim.Native.Nat.{ℕ, suc}
+use lib.ListN.{length}
 use Rattle.image.specs.Faults.{checkImage}
-use Rattle.answers.specs.Answers.{compareAnswer, compareRangeAnswer, differenceAnswer, digitsAnswer, mapNamesAnswer, writeAnswer, writeOutput}
+use Rattle.answers.specs.Answers.{compareAnswer, compareRangeAnswer, differenceAnswer, digitsAnswer, mapNamesAnswer, writeAnswer, writeOutput, buildAnswer, buildOutput}
 use Rattle.answers.specs.declared.numbers.Numbers.{Numbers}
-use Rattle.answers.specs.Numbers.{checkedNumbers, comparedNumbers, differenceNumbers, digitsNumbers, mapNamesNumbers, writtenNumbers}
+use Rattle.answers.specs.Numbers.{checkedNumbers, comparedNumbers, differenceNumbers, digitsNumbers, mapNamesNumbers, writtenNumbers, builtNumbers}
 
 pub data Call : Type 0 where
   -- check an image
@@ -23,6 +25,8 @@ pub data Call : Type 0 where
   mapNames : List ℕ → Call
   -- write rows of an image: start, count, and what the buffer holds before
   write : List ℕ → ℕ → ℕ → List ℕ → Call
+  -- build a table of an image's type: count, the written rows, and what the buffer holds before
+  build : List ℕ → ℕ → List ℕ → List ℕ → Call
 
 -- an answer's four numbers, and the buffer
 unfoldable pub told : Numbers → List ℕ → List ℕ
@@ -36,6 +40,7 @@ answer (difference s t i j n) = told (differenceNumbers (differenceAnswer s t i 
 answer (compareDigits s t i j n d) = told (digitsNumbers (digitsAnswer s t i j n d)) []
 answer (mapNames s) = told (mapNamesNumbers (mapNamesAnswer s)) []
 answer (write s i n out) = told (writtenNumbers (writeAnswer s i n out)) (writeOutput s i n out)
+answer (build s n b out) = told (builtNumbers (buildAnswer s n b out)) (buildOutput s n b out)
 
 -- Answers by name.
 abbrev pub accepted : List ℕ
@@ -72,6 +77,10 @@ written n out = 0 ∷ 0 ∷ 0 ∷ n ∷ out
 -- 43, and the buffer afterwards
 abbrev pub tooLong : List ℕ → List ℕ
 tooLong out = 43 ∷ 0 ∷ 0 ∷ 0 ∷ out
+
+-- a table built, and what the buffer holds behind it
+abbrev pub built : List ℕ → List ℕ → List ℕ
+built image rest = 0 ∷ 0 ∷ 0 ∷ length image ∷ image ++ rest
 
 -- a call and the answer that it must have
 pub record Case : Type 0 where

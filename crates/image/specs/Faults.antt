@@ -11,7 +11,7 @@ use Rattle.image.specs.declared.type_code.Layout.{Layout}
 use Rattle.image.specs.declared.type_code.Layout.the-variants.{Null, Boolean, FixedWidth, VariableSize, View, List as Lists, ListView, FixedList, Struct, DenseUnion, SparseUnion, Dictionary, Runs}
 use Rattle.image.specs.Ranges.{any, first, rises}
 use Rattle.image.specs.Bytes.{byteAt, numberAt}
-use Rattle.image.specs.Record.{headerSize, maxDepth, nodeCount, bufferTotal, tablesEnd, codeOf, flagsOf, idOf, nameLength, p1Of, p2Of, lengthOf, offsetOf, namePlace, bitmapPlace, bitmapLength, firstBit, firstChild, childCount, firstBuffer, bufferCount, hasBitmap, elementsOf, childStart, bufferStart, bufferPlace, bufferLength}
+use Rattle.image.specs.Record.{longestImage, mostElements, headerSize, maxDepth, nodeCount, bufferTotal, tablesEnd, codeOf, flagsOf, idOf, nameLength, p1Of, p2Of, lengthOf, offsetOf, namePlace, bitmapPlace, bitmapLength, firstBit, firstChild, childCount, firstBuffer, bufferCount, hasBitmap, elementsOf, childStart, bufferStart, bufferPlace, bufferLength}
 use Rattle.image.specs.TypeCode.{layoutOf, p1Fits, p2Fits, isText, isUnion, isMap, keySigned, signBit, takesBitmap, childRule, bufferRule, counts}
 use Rattle.image.specs.Element.{valid, elementWidth, elementPlace, elementAt, sizeAt, typeIdAt, denseOffsetAt, childEnd, childWithId, inlineLength, viewLength, viewBuffer, viewOffset, viewData, textAt, runEndWidth, runEndAt}
 use Rattle.image.specs.Utf8.{wellFormed}
@@ -20,7 +20,7 @@ use Rattle.image.specs.Utf8.{wellFormed}
 unfoldable pub fault10 : List ℕ → Bool
 fault10 s =
     ltb (length s) headerSize
-    || ltb 16777216 (length s)
+    || ltb longestImage (length s)
     || eqb (nodeCount s) 0
     || ltb 256 (nodeCount s)
     || ltb 1024 (bufferTotal s)
@@ -115,7 +115,7 @@ fault14 s k =
     || (eqb k 0 && not (eqb (bufferStart s (nodeCount s)) (bufferTotal s)))
     || any (bufferOutside s k) 0 (bufferCount s k)
     || (hasBitmap s k && outside s (bitmapPlace s k) (bitmapLength s k))
-    || ltb 1073741824 (elementsOf s k)
+    || ltb mostElements (elementsOf s k)
     || notWhole (layoutOf (codeOf s k)) s k
 
 -- buffer j of node k is under n elements of w bytes

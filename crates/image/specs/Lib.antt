@@ -12,3 +12,5 @@ pub mod Row
 pub mod Equality
 pub mod RowBytes
 pub mod Digits
+pub mod Parse
+pub mod Built

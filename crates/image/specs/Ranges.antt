@@ -1,5 +1,6 @@
--- Tests, searches and sums over the numbers i, i + 1, .. of a range of n numbers.
+-- Tests, searches, sums and lists over the numbers i, i + 1, .. of a range of n numbers.
 use mathlib.Core.Bool.{Bool, true, false, cond, _&&_, _||_}
+use mathlib.Core.List.{List, [], _++_}
 use Prim.Native.Nat.{ℕ, zero, suc, _+_}
 use lib.Dec.{leb}
 
@@ -27,3 +28,8 @@ sumTo f (suc n) = sumTo f n + f n
 unfoldable pub rises : ℕ → (ℕ → ℕ) → ℕ → ℕ → ℕ → ℕ → Bool
 rises step f top least i zero = true
 rises step f top least i (suc n) = leb least (f i) && leb (f i) top && rises step f top (f i + step) (suc i) n
+
+-- the pieces p i, p (i + 1), .., n of them, joined
+unfoldable pub pieces : (ℕ → List ℕ) → ℕ → ℕ → List ℕ
+pieces p i zero = []
+pieces p i (suc n) = p i ++ pieces p (suc i) n

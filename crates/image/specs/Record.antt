@@ -23,6 +23,14 @@ recordSize = 44
 abbrev pub entrySize : ℕ
 entrySize = 8
 
+-- "At most 16,777,216 bytes."
+abbrev pub longestImage : ℕ
+longestImage = 16777216
+
+-- "length, offset (u32), sum e at most 1,073,741,824"
+abbrev pub mostElements : ℕ
+mostElements = 1073741824
+
 -- "Depth at most 16, the root being 1."
 abbrev pub maxDepth : ℕ
 maxDepth = 16

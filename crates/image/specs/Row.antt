@@ -38,6 +38,11 @@ range g i (suc n) = more (g i) (range g (suc i) n)
 abbrev pub one : Row → Rows
 one r = more r none
 
+-- rows, and then more rows
+unfoldable pub rowsThen : Rows → Rows → Rows
+rowsThen none rest = rest
+rowsThen (more r rs) rest = more r (rowsThen rs rest)
+
 -- The value at element j of node k, for each layout. `sub c i` is row i of node c.
 
 -- "Boolean: the bit", as the byte that is written

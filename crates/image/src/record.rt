@@ -13,6 +13,11 @@ ghost use Rattle.image.specs.Record.{recordSize, nodeCount, bufferTotal,
 // A table's depth is at most so much, the root being 1.
 pub const MAX_DEPTH: usize = 16;
 
+// An image has at most so many bytes, and a node at most so many elements.
+pub const LONGEST_IMAGE: usize = 16777216;
+
+pub const MOST_ELEMENTS: usize = 1073741824;
+
 // The sizes of the header, of a node's record and of a buffer's entry.
 pub const HEADER_SIZE: usize = 4;
 

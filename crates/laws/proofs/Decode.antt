@@ -18,12 +18,12 @@ use Rattle.laws.specs.Shape.{Shape, Shapes, bytes, text, inTurn, many, o
 use Rattle.laws.proofs.Lengths.{number-length}
 
 -- the number that is read back from its bytes
-behind-first : (w b i : ℕ) (s : List ℕ) → numberAt w (b ∷ s) (suc i) ≡ numberAt w s i
+pub behind-first : (w b i : ℕ) (s : List ℕ) → numberAt w (b ∷ s) (suc i) ≡ numberAt w s i
 unfolding numberAt
 behind-first zero b i s = refl
 behind-first (suc w) b i s = rw (behind-first w b (suc i) s)
 
-number-back : (w n : ℕ) (x : List ℕ) → n < 256 ^ w → numberAt w (numberBytes w n ++ x) 0 ≡ n
+pub number-back : (w n : ℕ) (x : List ℕ) → n < 256 ^ w → numberAt w (numberBytes w n ++ x) 0 ≡ n
 unfolding numberAt numberBytes
 number-back zero n x lt = omega arith
 number-back (suc w) n x lt =

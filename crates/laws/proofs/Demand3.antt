@@ -8,7 +8,7 @@ use Prim.Native.Nat.{ℕ, _+_, _≤_}
 use native.Mathlib.Omega.{arith}
 use Rattle.image.specs.Record.{maxDepth, lengthOf}
 use Rattle.image.specs.Row.{rowAt, tableRows}
-use Rattle.image.specs.RowBytes.{count, rowsBytes, rangeBytes}
+use Rattle.image.specs.RowBytes.{rowsBytes, rangeBytes}
 use Rattle.image.specs.Equality.{rangesEqual}
 use Rattle.laws.specs.Accepted.{AcceptedImage}
 use Rattle.laws.specs.Shape.{fitAll, shapeOf}
@@ -17,7 +17,7 @@ use Rattle.laws.proofs.Sound.{rowsEqual-is}
 use Rattle.laws.proofs.Accepted.{accepted}
 use Rattle.laws.proofs.Alike.{types-alike}
 use Rattle.laws.proofs.Decode.{rows-back}
-use Rattle.laws.proofs.Lengths.{range-count}
+use Rattle.laws.proofs.Lengths.{table-count}
 use Rattle.laws.proofs.Stored.{range-fits, stored-fits}
 use Rattle.laws.proofs.OneShape.{one-shape}
 
@@ -26,10 +26,6 @@ table-fits : (s : List ℕ) (i n : ℕ) → AcceptedImage s → i + n ≤ length
 unfolding tableRows
 table-fits s i n image within =
     range-fits (rowAt maxDepth s 0) (shapeOf maxDepth s 0) i n (λ c from end. stored-fits maxDepth s 0 c image (omega (arith, image .tables .some-nodes)) (omega arith))
-
-table-count : (s : List ℕ) (i n : ℕ) → count (tableRows s i n) ≡ n
-unfolding tableRows
-table-count s i n = range-count (rowAt maxDepth s 0) i n
 
 module _ (s t : List ℕ) (i j n : ℕ) (w : WrittenRanges s t i j n) where
   root-shape : shapeOf maxDepth s 0 ≡ shapeOf maxDepth t 0

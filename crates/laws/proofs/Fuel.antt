@@ -58,7 +58,7 @@ module _ (g h : ℕ → ℕ → Row) (s : List ℕ) (k : ℕ) (same : (c i : ℕ
   value-same Runs exactly j = ap (λ r. joined (one r)) (same (firstChild s k + 1) (runAt s k j) (omega arith) (omega (arith, exactly 2 refl)))
 
 -- the children of a node past a level lie past the next
-level-below : (s : List ℕ) (d k : ℕ) → levelEnd s d ≤ k → levelEnd s (suc d) ≤ childStart s k
+pub level-below : (s : List ℕ) (d k : ℕ) → levelEnd s d ≤ k → levelEnd s (suc d) ≤ childStart s k
 unfolding levelEnd childStart
 level-below s d k le =
     let h : sumTo (childCount s) (levelEnd s d) ≤ sumTo (childCount s) k = sum-grows (childCount s) (levelEnd s d) k le in

@@ -5,7 +5,8 @@ use mathlib.Core.List.{List}
 use Prim.Native.Nat.{ℕ, zero, suc, _/_}
 use lib.ListN.{length}
 use Rattle.image.specs.Bytes.{numberBytes, bytesAt}
-use Rattle.image.specs.Row.{Row, range}
+use Rattle.image.specs.Record.{maxDepth}
+use Rattle.image.specs.Row.{Row, range, rowAt, tableRows}
 use Rattle.image.specs.RowBytes.{count}
 
 pub number-length : (w x : ℕ) → length (numberBytes w x) ≡ w
@@ -22,3 +23,8 @@ pub range-count : (g : ℕ → Row) (i n : ℕ) → count (range g i n) ≡ n
 unfolding range count
 range-count g i zero = refl
 range-count g i (suc n) = ap suc (range-count g (suc i) n)
+
+-- how many rows a range of a table has
+pub table-count : (s : List ℕ) (i n : ℕ) → count (tableRows s i n) ≡ n
+unfolding tableRows
+table-count s i n = range-count (rowAt maxDepth s 0) i n

@@ -6,6 +6,7 @@ use Prim.Native.Nat.{ℕ, zero, suc, _+_, _-_, _/_, _%_, _≤_, _<_}
 use native.Mathlib.Omega.{arith}
 use lib.ListN.{length, take, drop, set, length-append, length-drop, take-append-drop, List·getD-append}
 use lib.Seq.{length-take-le, take-at, drop-at, drop-cons, drop-drop, take-append-seam, getD-take, set-split}
+use Rattle.image.specs.Ranges.{pieces}
 use Rattle.image.specs.Bytes.{byteAt, numberBytes, bytesAt}
 use Rattle.image.specs.Row.{rowAt}
 use Rattle.image.specs.RowBytes.{rowBytes}
@@ -13,17 +14,17 @@ use Rattle.laws.proofs.Lengths.{number-length, bytes-length}
 use Rattle.rows.specs.declared.value.Value.{Value}
 use Rattle.rows.specs.Output.{over, Fits}
 use Rattle.rows.specs.Value.{frontBytes, ownBytes}
-use Rattle.rows.proofs.Joined.{joined, joined-start, joined-next, joined-end, bytes-joined, number-next}
+use Rattle.rows.proofs.Joined.{joined-start, joined-next, joined-end, bytes-joined, number-next}
 use Rattle.rows.proofs.RowParts.{RowValue, childrenBytes, own-length}
 
 -- nothing, one byte
-over-none : (out : List ℕ) (at : ℕ) → over out at [] ≡ out
+pub over-none : (out : List ℕ) (at : ℕ) → over out at [] ≡ out
 unfolding over
 over-none out at =
     let e : at + 0 ≡ at = omega arith in
     rw e (take-append-drop at out)
 
-over-one : (out : List ℕ) (at x : ℕ) → at < length out → set out at x ≡ over out at (x ∷ [])
+pub over-one : (out : List ℕ) (at x : ℕ) → at < length out → set out at x ≡ over out at (x ∷ [])
 unfolding over
 over-one out at x lt =
     let e : at + 1 ≡ suc at = omega arith in
@@ -143,14 +144,14 @@ before-kept {out₀} {whole} {out} {rest} {at} {next} t p lt le =
 
 -- Of n pieces from piece i on, those from piece k on are still to be put.
 pub record PiecesToPut (p : ℕ → List ℕ) (i n : ℕ) (out₀ : List ℕ) (at : ℕ) (out : List ℕ) (next k : ℕ) : Type 0 where
-  pub put : ToPut out₀ at (joined p i n) out next (joined p (i + k) (n - k))
+  pub put : ToPut out₀ at (pieces p i n) out next (pieces p (i + k) (n - k))
 
-pub pieces-start : (p : ℕ → List ℕ) (i n : ℕ) {out : List ℕ} {at : ℕ} → Fits out at (joined p i n) → PiecesToPut p i n out at out at 0
+pub pieces-start : (p : ℕ → List ℕ) (i n : ℕ) {out : List ℕ} {at : ℕ} → Fits out at (pieces p i n) → PiecesToPut p i n out at out at 0
 pieces-start p i n fits = record { put = put-as (put-start fits) (sym (joined-start p i n)) }
 
 module _ {p : ℕ → List ℕ} {i n : ℕ} {out₀ : List ℕ} {at : ℕ} {out : List ℕ} {next k : ℕ} (t : PiecesToPut p i n out₀ at out next k) where
   module _ (lt : k < n) where
-    piece-next : ToPut out₀ at (joined p i n) out next (p (i + k) ++ joined p (i + (k + 1)) (n - (k + 1)))
+    piece-next : ToPut out₀ at (pieces p i n) out next (p (i + k) ++ pieces p (i + (k + 1)) (n - (k + 1)))
     piece-next = put-as (t .put) (joined-next p i n k lt)
 
     pub pieces-fit : Fits out next (p (i + k))
@@ -160,13 +161,13 @@ module _ {p : ℕ → List ℕ} {i n : ℕ} {out₀ : List ℕ} {at : ℕ} {out 
     pieces-more e f = record { put = put-more _ _ piece-next e f }
 
   module _ (le : n ≤ k) where
-    none-left : ToPut out₀ at (joined p i n) out next []
+    none-left : ToPut out₀ at (pieces p i n) out next []
     none-left = put-as (t .put) (joined-end p i n k le)
 
-    pub pieces-place : next ≡ at + length (joined p i n)
+    pub pieces-place : next ≡ at + length (pieces p i n)
     pieces-place = put-place none-left
 
-    pub pieces-done : out ≡ over out₀ at (joined p i n)
+    pub pieces-done : out ≡ over out₀ at (pieces p i n)
     pieces-done = put-done none-left
 
 -- The w bytes of a number x, of which those from byte k on are still to be put; rest is what is left of the number.
@@ -201,7 +202,7 @@ pub record BytesToPut (s : List ℕ) (place n : ℕ) (out₀ : List ℕ) (at : �
 pub bytes-start : {s : List ℕ} {place n at : ℕ} {out : List ℕ} → at + n ≤ length out → BytesToPut s place n out at out 0
 bytes-start {s} {place} {n} {at} {out} fits =
     let a : at + 0 ≡ at = omega arith in
-    let b : length (joined (oneByte s) place n) ≡ n = sym (ap length (bytes-joined s place n)) ∙ bytes-length s place n in
+    let b : length (pieces (oneByte s) place n) ≡ n = sym (ap length (bytes-joined s place n)) ∙ bytes-length s place n in
     record { put = rw a (pieces-start (oneByte s) place n (record { within = omega arith })) }
 
 module _ {s : List ℕ} {place n : ℕ} {out₀ : List ℕ} {at : ℕ} {out : List ℕ} {k : ℕ} (t : BytesToPut s place n out₀ at out k) where
@@ -229,7 +230,7 @@ module _ {out bytes : List ℕ} {at : ℕ} (fits : Fits out at bytes) (e : bytes
   null-put f = put-last (put-as (put-start fits) e) (f .1) (f .0)
 
 -- the bytes that are left, as pieces
-pub pieces-from : {p : ℕ → List ℕ} {i n : ℕ} {out₀ whole out : List ℕ} {at next : ℕ} → ToPut out₀ at whole out next (joined p i n) → PiecesToPut p i n out next out next 0
+pub pieces-from : {p : ℕ → List ℕ} {i n : ℕ} {out₀ whole out : List ℕ} {at next : ℕ} → ToPut out₀ at whole out next (pieces p i n) → PiecesToPut p i n out next out next 0
 pieces-from {p} {i} {n} t = pieces-start p i n (record { within = t .fits })
 
 -- What a value has before its child rows: the byte 01, the number in front, the image's bytes.

@@ -29,7 +29,7 @@ repeated-length zero x = sym (zero-mul (length x))
 repeated-length (suc n) x = omega (arith, length-append x (repeated n x), repeated-length n x, suc-mul n (length x))
 
 -- bytes from a place on: more of them, and those of two buffers that agree there
-bytes-add : (s : List ℕ) (i m n : ℕ) → bytesAt s i (m + n) ≡ bytesAt s i m ++ bytesAt s (i + m) n
+pub bytes-add : (s : List ℕ) (i m n : ℕ) → bytesAt s i (m + n) ≡ bytesAt s i m ++ bytesAt s (i + m) n
 unfolding bytesAt
 bytes-add s i zero n =
     let e : zero + n ≡ n = omega arith in

@@ -9,12 +9,13 @@ use native.Mathlib.Omega.{arith}
 use lib.Dec.{ltb}
 use lib.ListN.{length, length-append}
 use borrow.Author.Tests.{lt-ltb, le-ltb, ltb-true, ltb-false}
+use Rattle.image.specs.Ranges.{pieces}
 use Rattle.image.specs.Row.{Row, rowAt}
 use Rattle.image.specs.RowBytes.{rowBytes}
 use Rattle.rows.specs.declared.measure.Room.the-variants.{Left, Short}
 use Rattle.rows.specs.declared.value.Value.{Value}
 use Rattle.rows.specs.Output.{roomAfter}
-use Rattle.rows.proofs.Joined.{joined, joined-start, joined-next, joined-end}
+use Rattle.rows.proofs.Joined.{joined-start, joined-next, joined-end}
 use Rattle.rows.proofs.RowParts.{RowValue, childrenBytes, row-some, value-length}
 
 -- bytes that fit, and bytes that do not
@@ -101,23 +102,23 @@ measure-done {left = left} {n} t e =
 
 -- Of n pieces from piece i on, those from piece k on are still to be measured.
 pub record PiecesToMeasure (p : ℕ → List ℕ) (i n room left k : ℕ) : Type 0 where
-  pub measure : ToMeasure room (length (joined p i n)) left (length (joined p (i + k) (n - k)))
+  pub measure : ToMeasure room (length (pieces p i n)) left (length (pieces p (i + k) (n - k)))
 
 pub measuring-start : (p : ℕ → List ℕ) (i n : ℕ) {room : ℕ} → PiecesToMeasure p i n room room 0
 measuring-start p i n {room} = record { measure = record { same = ap (λ (b : List ℕ). roomAfter room (length b)) (joined-start p i n) } }
 
 module _ {p : ℕ → List ℕ} {i n room left k : ℕ} (t : PiecesToMeasure p i n room left k) where
   module _ (lt : k < n) where
-    next-length : length (joined p (i + k) (n - k)) ≡ length (p (i + k)) + length (joined p (i + (k + 1)) (n - (k + 1)))
-    next-length = ap length (joined-next p i n k lt) ∙ length-append (p (i + k)) (joined p (i + (k + 1)) (n - (k + 1)))
+    next-length : length (pieces p (i + k) (n - k)) ≡ length (p (i + k)) + length (pieces p (i + (k + 1)) (n - (k + 1)))
+    next-length = ap length (joined-next p i n k lt) ∙ length-append (p (i + k)) (pieces p (i + (k + 1)) (n - (k + 1)))
 
     pub measuring-more : {next : ℕ} → Left next ≡ roomAfter left (length (p (i + k))) → PiecesToMeasure p i n room next (k + 1)
     measuring-more e = record { measure = measure-more (t .measure) _ _ next-length e }
 
-    pub measuring-short : Short ≡ roomAfter left (length (p (i + k))) → Short ≡ roomAfter room (length (joined p i n))
+    pub measuring-short : Short ≡ roomAfter left (length (p (i + k))) → Short ≡ roomAfter room (length (pieces p i n))
     measuring-short e = measure-short (t .measure) _ _ next-length e
 
-  pub measuring-done : n ≤ k → Left left ≡ roomAfter room (length (joined p i n))
+  pub measuring-done : n ≤ k → Left left ≡ roomAfter room (length (pieces p i n))
   measuring-done le = measure-done (t .measure) (ap length (joined-end p i n k le))
 
 -- a row where no room is left

@@ -7,12 +7,13 @@ use Prim.Native.Nat.{ℕ, zero, suc, _+_, _-_, _≤_, _<_}
 use native.Mathlib.Omega.{arith}
 use lib.ListN.{length, length-append}
 use borrow.Author.Tests.{not-true, not-false}
+use Rattle.image.specs.Ranges.{pieces}
 use Rattle.image.specs.Bytes.{bitAt, numberBytes, bytesAt}
 use Rattle.image.specs.Record.{codeOf, offsetOf, hasBitmap, bitmapPlace, firstBit}
 use Rattle.image.specs.TypeCode.{layoutOf}
 use Rattle.image.specs.Element.{valid}
 use Rattle.image.specs.Reads.{Read}
-use Rattle.image.specs.Row.{Row, null, fixed, sized, joined as joinedRow, counted, tagged, range, valueAt, rowAt}
+use Rattle.image.specs.Row.{Row, null, fixed, sized, joined, counted, tagged, range, valueAt, rowAt}
 use Rattle.image.specs.RowBytes.{rowBytes, rowsBytes}
 use Rattle.laws.proofs.Lengths.{number-length, bytes-length}
 use Rattle.accepted.specs.Parts.{Side, Part}
@@ -21,7 +22,7 @@ use Rattle.accepted.proofs.Nodes.{side-small}
 use Rattle.rows.specs.declared.value.Value.{Value}
 use Rattle.rows.specs.Value.{isNull, frontBytes, ownBytes, childRows}
 use Rattle.rows.specs.ValueOf.{valueOf}
-use Rattle.rows.proofs.Joined.{joined, parts-joined}
+use Rattle.rows.proofs.Joined.{parts-joined}
 use Rattle.rows.proofs.ValueRows.{value-written}
 use Rattle.rows.proofs.ValuePlaces.{Placed, value-placed}
 
@@ -31,7 +32,7 @@ unfolding rowBytes
 row-some null = omega arith
 row-some (fixed b) = omega arith
 row-some (sized b) = omega arith
-row-some (joinedRow rs) = omega arith
+row-some (joined rs) = omega arith
 row-some (counted rs) = omega arith
 row-some (tagged id r) = omega arith
 
@@ -79,7 +80,7 @@ childBytes sub v c = rowsBytes (range (sub c) (v .start) (v .count))
 
 -- the bytes of all its child rows, one depth less
 abbrev pub childrenBytes : ℕ → List ℕ → Value → List ℕ
-childrenBytes depth s v = joined (childBytes (rowAt (depth - 1) s) v) (v .child) (v .parts)
+childrenBytes depth s v = pieces (childBytes (rowAt (depth - 1) s) v) (v .child) (v .parts)
 
 -- A row is not null and is written as the value: its own bytes, then its child rows, one depth less.
 pub record RowValue (depth : ℕ) (s : List ℕ) (k i : ℕ) (v : Value) : Type 0 where
@@ -87,7 +88,7 @@ pub record RowValue (depth : ℕ) (s : List ℕ) (k i : ℕ) (v : Value) : Type 
   pub bytes : rowBytes (rowAt depth s k i) ≡ ownBytes s v ++ childrenBytes depth s v
   pub placed : Placed s v
 
-children-joined : (sub : ℕ → ℕ → Row) (v : Value) → rowsBytes (childRows sub v) ≡ joined (childBytes sub v) (v .child) (v .parts)
+children-joined : (sub : ℕ → ℕ → Row) (v : Value) → rowsBytes (childRows sub v) ≡ pieces (childBytes sub v) (v .child) (v .parts)
 unfolding childRows
 children-joined sub v = parts-joined sub (v .child) (v .parts) (v .start) (v .count)
 

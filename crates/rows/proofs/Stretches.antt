@@ -5,6 +5,7 @@ use mathlib.Core.List.{List, [], _++_, append-assoc}
 use Prim.Native.Nat.{ℕ, zero, suc, _+_, _*_, _-_, _<_, _≤_}
 use native.Mathlib.Omega.{arith}
 use lib.ListN.{length, length-append}
+use Rattle.image.specs.Ranges.{pieces}
 use Rattle.image.specs.Bytes.{bytesAt}
 use Rattle.image.specs.Row.{rowAt, range}
 use Rattle.image.specs.RowBytes.{rowBytes, rowsBytes}
@@ -15,7 +16,7 @@ use Rattle.accepted.specs.Runs.{Kept, Behind, Stays}
 use Rattle.accepted.proofs.Columns.{kept-behind, behind-kept, same-row}
 use Rattle.rows.specs.declared.measure.Room.the-variants.{Left, Short}
 use Rattle.rows.specs.Output.{over, repeated, roomAfter, Fits}
-use Rattle.rows.proofs.Joined.{joined, joined-start, joined-first, rows-joined}
+use Rattle.rows.proofs.Joined.{joined-start, joined-first, rows-joined}
 use Rattle.rows.proofs.Over.{ToPut, put-start, put-place, put-done, PiecesToPut, pieces-start, pieces-fit, pieces-more, pieces-place, pieces-done, put-as, put-fits, put-more}
 use Rattle.rows.proofs.Repeats.{repeated-length, Stands, stands-put}
 use Rattle.rows.proofs.Rooms.{PiecesToMeasure, measuring-start, measuring-more, measuring-short, measuring-done, measure-more, measure-short, left-told, fits-left}
@@ -26,7 +27,7 @@ abbrev pub bytesOf : ℕ → List ℕ → ℕ → ℕ → List ℕ
 bytesOf depth s k j = rowBytes (rowAt depth s k j)
 
 -- pieces of which the first m are the same bytes
-joined-same : (p : ℕ → List ℕ) (i n m : ℕ) (b : List ℕ) → m ≤ n → ((h : ℕ) → h < m → p (i + h) ≡ b) → joined p i n ≡ repeated m b ++ joined p (i + m) (n - m)
+joined-same : (p : ℕ → List ℕ) (i n m : ℕ) (b : List ℕ) → m ≤ n → ((h : ℕ) → h < m → p (i + h) ≡ b) → pieces p i n ≡ repeated m b ++ pieces p (i + m) (n - m)
 unfolding repeated
 joined-same p i n zero b le same = sym (joined-start p i n)
 joined-same p i n (suc m) b le same =
@@ -34,10 +35,10 @@ joined-same p i n (suc m) b le same =
     let place : i + 1 + m ≡ i + suc m = omega arith in
     let count : n - 1 - m ≡ n - suc m = omega arith in
     let first : p i ≡ b = rw here at (same 0 (omega arith)) in
-    let rest : joined p (i + 1) (n - 1) ≡ repeated m b ++ joined p (i + 1 + m) (n - 1 - m) = joined-same p (i + 1) (n - 1) m b (omega arith) (λ h lt.
+    let rest : pieces p (i + 1) (n - 1) ≡ repeated m b ++ pieces p (i + 1 + m) (n - 1 - m) = joined-same p (i + 1) (n - 1) m b (omega arith) (λ h lt.
     let e : i + 1 + h ≡ i + suc h = omega arith in
     rw e (same (suc h) (omega arith))) in
-    joined-first p i n (omega arith) ∙ rw (first, rest, place, count) (sym (append-assoc b (repeated m b) (joined p (i + suc m) (n - suc m))))
+    joined-first p i n (omega arith) ∙ rw (first, rest, place, count) (sym (append-assoc b (repeated m b) (pieces p (i + suc m) (n - suc m))))
 
 -- what the rows of a stretch ask for: the first, and those from row h on
 module _ {s : List ℕ} {k i n : ℕ} (r : Side s k i n) where
@@ -100,7 +101,7 @@ module _ {depth : ℕ} {s : List ℕ} {k : ℕ} {c : Column} {i n : ℕ} {out₀
       one-put : PiecesToPut (bytesOf depth s k) i n out₀ at one end (h + 1)
       one-put = pieces-more (w .put) lt (f .1) (f .0)
 
-      others : joined (bytesOf depth s k) (i + (h + 1)) (n - (h + 1)) ≡ repeated (stay .rows - 1) (bytesOf depth s k (i + h)) ++ joined (bytesOf depth s k) (i + (h + 1) + (stay .rows - 1)) (n - (h + 1) - (stay .rows - 1))
+      others : pieces (bytesOf depth s k) (i + (h + 1)) (n - (h + 1)) ≡ repeated (stay .rows - 1) (bytesOf depth s k (i + h)) ++ pieces (bytesOf depth s k) (i + (h + 1) + (stay .rows - 1)) (n - (h + 1) - (stay .rows - 1))
       others = joined-same (bytesOf depth s k) (i + (h + 1)) (n - (h + 1)) (stay .rows - 1) (bytesOf depth s k (i + h)) (omega (arith, st .within, st .some)) (rows-same depth h r st)
 
       row-stands : Stands one next end (bytesOf depth s k (i + h))
@@ -113,7 +114,7 @@ module _ {depth : ℕ} {s : List ℕ} {k : ℕ} {c : Column} {i n : ℕ} {out₀
       others-size = repeated-length (stay .rows - 1) (bytesOf depth s k (i + h)) ∙ ap (λ (x : ℕ). (stay .rows - 1) * x) (sym row-size)
 
       pub others-fit : (end - next ≤ end) × (end + (stay .rows - 1) * (end - next) ≤ length one)
-      others-fit = (omega arith, omega (arith, others-size, put-fits (repeated (stay .rows - 1) (bytesOf depth s k (i + h))) (joined (bytesOf depth s k) (i + (h + 1) + (stay .rows - 1)) (n - (h + 1) - (stay .rows - 1))) (put-as (one-put .put) others) .within))
+      others-fit = (omega arith, omega (arith, others-size, put-fits (repeated (stay .rows - 1) (bytesOf depth s k (i + h))) (pieces (bytesOf depth s k) (i + (h + 1) + (stay .rows - 1)) (n - (h + 1) - (stay .rows - 1))) (put-as (one-put .put) others) .within))
 
       pub writing-more : {stop : ℕ} {all : List ℕ} → (stop ≡ end + (stay .rows - 1) * (end - next)) × (all ≡ over one end (repeated (stay .rows - 1) (bytesAt one (end - (end - next)) (end - next))))
           → Writing depth s k c i n out₀ at all (stay .next) stop (h + stay .rows)
@@ -144,7 +145,7 @@ measured-start depth s k i n room kept =
     record { few = omega arith; kept = rw e (kept-behind kept); measure = measuring-start (bytesOf depth s k) i n }
 
 module _ {depth : ℕ} {s : List ℕ} {k : ℕ} {c : Column} {i n room run left h : ℕ} (m : Measuring depth s k c i n room run left h) where
-  as-rows : roomAfter room (length (joined (bytesOf depth s k) i n)) ≡ roomAfter room (length (rowsBytes (range (rowAt depth s k) i n)))
+  as-rows : roomAfter room (length (pieces (bytesOf depth s k) i n)) ≡ roomAfter room (length (rowsBytes (range (rowAt depth s k) i n)))
   as-rows = ap (λ (b : List ℕ). roomAfter room (length b)) (sym (rows-joined (rowAt depth s k) i n))
 
   -- the rows of a run: the first is measured, and then the others
@@ -160,13 +161,13 @@ module _ {depth : ℕ} {s : List ℕ} {k : ℕ} {c : Column} {i n room run left 
       row-takes = omega (arith, row-took, row-some (rowAt depth s k (i + h)))
 
       module _ {stay : Stay} (r : Side s k i n) (st : Stays s k c (i + h) (n - h) run stay) where
-        others-measured : length (joined (bytesOf depth s k) (i + (h + 1)) (n - (h + 1))) ≡ (stay .rows - 1) * (left - one) + length (joined (bytesOf depth s k) (i + (h + stay .rows)) (n - (h + stay .rows)))
+        others-measured : length (pieces (bytesOf depth s k) (i + (h + 1)) (n - (h + 1))) ≡ (stay .rows - 1) * (left - one) + length (pieces (bytesOf depth s k) (i + (h + stay .rows)) (n - (h + stay .rows)))
         others-measured =
             let size : length (bytesOf depth s k (i + h)) ≡ left - one = omega (arith, row-took) in
             let place : i + (h + 1) + (stay .rows - 1) ≡ i + (h + stay .rows) = omega (arith, st .some) in
             let count : n - (h + 1) - (stay .rows - 1) ≡ n - (h + stay .rows) = omega (arith, st .some) in
             ap length (joined-same (bytesOf depth s k) (i + (h + 1)) (n - (h + 1)) (stay .rows - 1) (bytesOf depth s k (i + h)) (omega (arith, st .within, st .some)) (rows-same depth h r st))
-            ∙ length-append (repeated (stay .rows - 1) (bytesOf depth s k (i + h))) (joined (bytesOf depth s k) (i + (h + 1) + (stay .rows - 1)) (n - (h + 1) - (stay .rows - 1)))
+            ∙ length-append (repeated (stay .rows - 1) (bytesOf depth s k (i + h))) (pieces (bytesOf depth s k) (i + (h + 1) + (stay .rows - 1)) (n - (h + 1) - (stay .rows - 1)))
             ∙ rw (repeated-length (stay .rows - 1) (bytesOf depth s k (i + h)), size, place, count)
 
         pub others-short : Short ≡ roomAfter one ((stay .rows - 1) * (left - one)) → Short ≡ roomAfter room (length (rowsBytes (range (rowAt depth s k) i n)))

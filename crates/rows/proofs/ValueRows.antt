@@ -16,7 +16,7 @@ use Rattle.image.specs.Bytes.{bitAt, bytesAt, numberBytes}
 use Rattle.image.specs.Record.{codeOf, idOf, bufferPlace}
 use Rattle.image.specs.TypeCode.{layoutOf, isUnion}
 use Rattle.image.specs.Element.{childEnd, childWithId, typeIdAt, denseOffsetAt}
-use Rattle.image.specs.Row.{Row, Rows, null, fixed, sized, joined, counted, tagged, none, more, range, valueAt, booleanRow, fixedRow, variableRow, viewRow, listRow, listViewRow, fixedListRow, structRow, denseRow, sparseRow, dictionaryRow, runRow}
+use Rattle.image.specs.Row.{Row, Rows, null, fixed, sized, joined, counted, tagged, none, more, range, rowsThen, valueAt, booleanRow, fixedRow, variableRow, viewRow, listRow, listViewRow, fixedListRow, structRow, denseRow, sparseRow, dictionaryRow, runRow}
 use Rattle.image.specs.RowBytes.{rowBytes, rowsBytes}
 use Rattle.laws.specs.Accepted.{IdKnown}
 use Rattle.laws.proofs.Codes.{dense-code, sparse-code}
@@ -25,7 +25,7 @@ use Rattle.accepted.specs.Parts.{Part}
 use Rattle.accepted.proofs.Nodes.{part-node}
 use Rattle.accepted.proofs.ChildRows.{dense-known, sparse-known}
 use Rattle.rows.specs.declared.value.Value.{Value}
-use Rattle.rows.specs.Value.{leafValue, nestedValue, frontBytes, ownBytes, rowsThen, partRows, childRows, taggedFirst, rowOf}
+use Rattle.rows.specs.Value.{leafValue, nestedValue, frontBytes, ownBytes, partRows, childRows, taggedFirst, rowOf}
 use Rattle.rows.specs.ValueOf.{textValue, listValue, unionValue, valueOf}
 
 then-none : (rs : Rows) → rowsThen rs none ≡ rs

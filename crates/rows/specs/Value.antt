@@ -7,7 +7,7 @@ use Rattle.image.specs.declared.type_code.Layout.{Layout}
 use Rattle.image.specs.declared.type_code.Layout.the-variants.{Null, Boolean, FixedWidth, VariableSize, View, List as Lists, ListView, FixedList, Struct, DenseUnion, SparseUnion, Dictionary, Runs}
 use Rattle.image.specs.Bytes.{numberBytes, bytesAt}
 use Rattle.image.specs.Element.{valid}
-use Rattle.image.specs.Row.{Row, Rows, null, fixed, sized, joined, counted, tagged, none, more, range}
+use Rattle.image.specs.Row.{Row, Rows, null, fixed, sized, joined, counted, tagged, none, more, range, rowsThen}
 use Rattle.rows.specs.declared.value.Value.{Value}
 
 -- a row is null: no depth is left, or its bit is 0
@@ -31,11 +31,6 @@ frontBytes s v = numberBytes (v .width) (v .head) ++ bytesAt s (v .place) (v .si
 -- what is written of a row before its child rows: "01 and the value"
 unfoldable pub ownBytes : List ℕ → Value → List ℕ
 ownBytes s v = 1 ∷ frontBytes s v
-
--- rows, and then more rows
-unfoldable pub rowsThen : Rows → Rows → Rows
-rowsThen none rest = rest
-rowsThen (more r rs) rest = more r (rowsThen rs rest)
 
 -- n rows from row i on of each of so many children from c on; `sub c i` is row i of node c
 unfoldable pub partRows : (ℕ → ℕ → Row) → ℕ → ℕ → ℕ → ℕ → Rows

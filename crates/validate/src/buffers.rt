@@ -2,6 +2,7 @@
 use crate::names::is_outside;
 use crate::tree::Walk;
 use image::element::element_width;
+use image::record::MOST_ELEMENTS;
 use image::record::bitmap_length;
 use image::record::bitmap_place;
 use image::record::buffer_count;
@@ -26,8 +27,6 @@ ghost use Rattle.image.specs.TypeCode.{layoutOf, bufferRule, counts};
 ghost use Rattle.image.specs.Faults.{fault14, fault15, outside, bufferOutside, whole, notWhole, under, tooFewElements};
 ghost use Rattle.image.specs.declared.type_code.Layout.the-variants.{ListView, DenseUnion};
 ghost use Rattle.validate.specs.Walks.{Walks};
-
-const MOST_ELEMENTS: usize = 1073741824;
 
 // The number of buffers is not what the code's rule says.
 fn count_wrong(image: &[u8], node: u32) -> bool

@@ -17,6 +17,7 @@ use codes::fault_11;
 use image::answer::Checked;
 use image::answer::Fault;
 use image::record::HEADER_SIZE;
+use image::record::LONGEST_IMAGE;
 use image::record::buffer_total;
 use image::record::node_count;
 use image::record::tables_end;
@@ -32,8 +33,6 @@ ghost use Rattle.image.specs.Record.{nodeCount};
 ghost use Rattle.image.specs.Faults.{fault10, fault, firstFaulty, checkImage};
 ghost use Rattle.laws.specs.Accepted.{NoneBelow};
 ghost use Rattle.validate.specs.Walks.{Walks};
-
-const LONGEST_IMAGE: usize = 16777216;
 
 const MOST_NODES: u32 = 256;
 

@@ -1,0 +1,3 @@
+pub mod Typed
+pub mod Walk
+pub mod Theorems

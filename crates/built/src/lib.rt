@@ -1,0 +1,1 @@
+// Theorems about tables built from written rows; no code.

@@ -1,0 +1,10 @@
+pub mod Steps
+pub mod Bytes
+pub mod BitsSet
+pub mod Parts
+pub mod Grow
+pub mod Events
+pub mod Reading
+pub mod Walks
+pub mod Arms
+pub mod Whole
