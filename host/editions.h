@@ -66,9 +66,9 @@ static inline const char *editions_refusal_text(unsigned refusal)
     switch (refusal) {
     case 0: return "The call is not refused.";
     case EDITIONS_SIZE: return "The image is too long, too short for its tables, or has too few or too many nodes or buffers.";
-    case EDITIONS_CODE: return "A type code, flag or parameter is not allowed, or a bitmap or a zone stands where none may be.";
+    case EDITIONS_CODE: return "A type code, flag or parameter is not allowed, or a bitmap stands where none may be.";
     case EDITIONS_TREE: return "The tree is broken: child counts, numbering, depth, type ids, a Map's entries or run ends.";
-    case EDITIONS_NAME: return "A name is too long or lies outside the image, or a zone does.";
+    case EDITIONS_NAME: return "A name is too long or lies outside the image.";
     case EDITIONS_BUFFER: return "Buffers are miscounted, lie outside or are not whole elements, or rows are too many.";
     case EDITIONS_TOO_FEW: return "A bitmap or a buffer has too few elements for the rows.";
     case EDITIONS_CHILD: return "A child has too few rows, or run ends and run values are not equally many.";

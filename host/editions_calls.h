@@ -46,10 +46,10 @@ uint64_t editions_compare_digits(const uint8_t *left, size_t left_length, const 
 uint64_t editions_map_names(const uint8_t *image, size_t image_length);
 
 /* Builds the table of `count` rows that editions_write has written, `rows`, and puts its image to the front of `out`; the
- * answer's value is the image's length. The type is that of `image`: codes, p1, p2, zones, names and nullable flags are taken
- * from it, and no row. Writing the built table gives `rows` again, and rows that were written of a table of this type are equal
- * to those that are built. docs/FORMAT.md has the built image byte for byte: the same type and rows give the same image. Refused
- * by the first of these that holds:
+ * answer's value is the image's length. The type is that of `image`: codes, p1, p2, names and nullable flags are taken from it,
+ * and no row. Writing the built table gives `rows` again, and rows that were written of a table of this type are equal to those
+ * that are built. docs/FORMAT.md has the built image byte for byte: the same type and rows give the same image. Refused by the
+ * first of these that holds:
  *   - 10 to 19 as editions_check;
  *   - EDITIONS_UNREADABLE, where a node of `image` has another code than 0 to 30, 33, 34 and 38, whatever `rows` are;
  *   - EDITIONS_STRING, where `rows` are not exactly `count` rows of this type, or have ill-formed text for Utf8 or LargeUtf8;

@@ -8,7 +8,7 @@
 #include <string.h>
 
 /* The sizes of an image's header, of a node's record and of a buffer's entry. */
-enum { HEADER = 4, RECORD = 48, ENTRY = 8 };
+enum { HEADER = 4, RECORD = 44, ENTRY = 8 };
 
 /* Of a record: where its type code stands, two codes, and a flag. */
 enum { CODE = 0, INT8 = 2, NO_SUCH_CODE = 44, HAS_BITMAP = 2 };
@@ -50,7 +50,6 @@ static void int8_table(struct image *image, const uint8_t *values, uint32_t coun
     put(image, 2, 0);            /* children */
     put(image, 2, 0);            /* first buffer */
     put(image, 2, 1);            /* buffers */
-    put(image, 4, 0);            /* zone place */
     put(image, 4, data);         /* the buffer: place and length */
     put(image, 4, count);
     for (uint32_t k = 0; k < count; k++)

@@ -6,22 +6,15 @@ in any order. Two layouts of the same rows make equal tables.
 """
 
 import letters
-from image import FIELDS, INLINE, LONGEST_NAME, LONGEST_ZONE, VIEW, by_level, flags, number, tables, tables_size, view, with_fields
+from image import FIELDS, INLINE, LONGEST_NAME, VIEW, by_level, flags, number, tables, tables_size, view
 from model import BOOLEAN, DENSE_UNION, DICTIONARY, FIXED_SIZE_BINARY, FIXED_SIZE_LIST, LIST, LIST_VIEWS, LISTS, MAP, NULL
-from model import OFFSET_WIDTH, P1, READABLE, RUN_END_ENCODED, SPARSE_UNION, STRUCT, TEXTS, TIMESTAMP, UNIONS, UTF8S, VIEWS, WIDTHS
+from model import OFFSET_WIDTH, P1, READABLE, RUN_END_ENCODED, SPARSE_UNION, STRUCT, TEXTS, UNIONS, UTF8S, VIEWS, WIDTHS
 
 LEAVES = [NULL, BOOLEAN, *range(2, LIST)]
 NESTED = [*range(LIST, RUN_END_ENCODED + 1)]
 
 # the names of a Map's entries, key and value that the query asks for
 MAP_NAMES = [b"entries", b"key", b"value"]
-
-# zones that are alike but for their case or their end, that lie in one another, and that the tables of images hold
-ZONES = [b"UTC", b"utc", b"UTC+1", b"Europe/Paris", b"Europe/Pari", b"Paris", b"+02:00", b"+02:0", b"Z"]
-ZONES += [b"\x01", b"\x01\x00", b"\x01\x00\x01\x00", b"\x00", b"\x15"]
-
-# how long zones that are not among these are
-ZONE_LENGTHS = [1, 2, 5, 9, LONGEST_ZONE - 1, LONGEST_ZONE]
 
 # how long texts that are not among the usual few are
 TEXT_LENGTHS = [1, 4, 12, 13, 20]
@@ -31,15 +24,12 @@ ILL_FORMED = 0.0
 
 
 class Type:
-    """A field. The zone is a Timestamp's alone, which has its length for p2."""
-
-    def __init__(self, code, p1=0, p2=0, children=(), name=b"", nullable=False, id=0, zone=b""):
+    def __init__(self, code, p1=0, p2=0, children=(), name=b"", nullable=False, id=0):
         self.code, self.p1, self.p2, self.children = code, p1, p2, list(children)
-        self.name, self.nullable, self.id, self.zone = name, nullable, id, zone
+        self.name, self.nullable, self.id = name, nullable, id
 
     def copy(self, **changes):
-        children = [child.copy() for child in self.children]
-        made = Type(self.code, self.p1, self.p2, children, self.name, self.nullable, self.id, self.zone)
+        made = Type(self.code, self.p1, self.p2, [child.copy() for child in self.children], self.name, self.nullable, self.id)
         for field, value in changes.items():
             setattr(made, field, value)
         return made
@@ -55,21 +45,6 @@ class Type:
     def maps(self):
         """Of each Map the Map, its entries, its key and its value."""
         return [(map, *map.children, *map.children[0].children) for map in self.all() if map.code == MAP]
-
-
-def random_zone(rng):
-    """A zone, none in one of three cases."""
-    if rng.random() < 1 / 3:
-        return b""
-    return rng.randbytes(rng.choice(ZONE_LENGTHS)) if rng.random() < 0.3 else rng.choice(ZONES)
-
-
-def change_zone(rng, zone):
-    """A zone that differs in a byte, in its case or in its length, or none; one where there was none."""
-    if not zone:
-        return rng.choice(ZONES)
-    longer = zone + rng.choice([b"\x00", b"1"]) if len(zone) < LONGEST_ZONE else zone[1:]
-    return rng.choice([change_byte(rng, zone), zone.swapcase(), zone[:-1], longer, b""])
 
 
 def map_name(rng, usual):
@@ -96,8 +71,6 @@ def random_type(rng, depth=3, code=None):
     made.p1 = rng.choice([0, 1, 2, 3, 7, 16]) if code in (FIXED_SIZE_BINARY,) else rng.choice([0, 1, 2, 3]) if code == FIXED_SIZE_LIST else rng.randint(low, high)
     if 15 <= code <= 18:
         made.p2 = rng.choice([-128, -1, 0, 5, 127])
-    if code == TIMESTAMP:
-        made.zone = random_zone(rng)
     if code == MAP:
         made.children = [random_map(rng, depth)]
     elif code == RUN_END_ENCODED:
@@ -338,10 +311,10 @@ def lay_runs(rng, type, stored, odd, plain):
 
 
 def image(rng, root, plain=False):
-    """The bytes of a laid out column: nodes level by level, then the buffers, bitmaps, names and zones, in any order and apart."""
+    """The bytes of a laid out column: nodes level by level, then the buffers, bitmaps and names, in any order and apart."""
     nodes = by_level(root)
     start = tables_size(len(nodes), sum(len(node.buffers) for node in nodes))
-    parts = [part for node in nodes for part in (*node.buffers, node.bitmap, node.type.name, zone_of(node)) if part]
+    parts = [part for node in nodes for part in (*node.buffers, node.bitmap, node.type.name) if part]
     if not plain:
         rng.shuffle(parts)
     places, data = {}, b""
@@ -358,10 +331,8 @@ def image(rng, root, plain=False):
 
     def described(node):
         t = node.type
-        fields = dict(code=t.code, flags=flags(t.nullable, node.bitmap is not None), type_id=t.id, p1=t.p1)
+        fields = dict(code=t.code, flags=flags(t.nullable, node.bitmap is not None), type_id=t.id, p1=t.p1, p2=t.p2)
         fields |= dict(length=node.length, offset=node.offset, name_length=len(t.name))
-        fields["p2"] = len(t.zone) if t.code == TIMESTAMP else t.p2
-        fields["zone_place"] = places.get(zone_of(node), 0)
         fields["name_place"] = places[t.name] if t.name else garbage("name_place")
         if node.bitmap is None:
             fields |= {field: garbage(field) for field in ("bitmap_place", "bitmap_length", "first_bit")}
@@ -369,27 +340,7 @@ def image(rng, root, plain=False):
             fields |= dict(bitmap_place=places.get(node.bitmap, 0), bitmap_length=len(node.bitmap), first_bit=node.first_bit)
         return fields, [(places.get(stored, 0), len(stored)) for stored in node.buffers]
 
-    made = b"".join(tables(nodes, described)) + data
-    return made if plain else share_zones(rng, nodes, places, made)
-
-
-def zone_of(node):
-    return node.type.zone if node.type.code == TIMESTAMP else b""
-
-
-def share_zones(rng, nodes, places, data):
-    """An image some of whose zones lie where their bytes stand anyway: in the header and the tables, in other parts."""
-    zones = {k: zone_of(node) for k, node in enumerate(nodes) if zone_of(node)}
-    standing = {k: places[zone] for k, zone in zones.items()}
-    for k, zone in zones.items():
-        if rng.random() < 0.3:
-            found = [at for at in range(len(data)) if data.startswith(zone, at)]
-            moved = standing | {k: rng.choice([found[0], rng.choice(found)])}
-            made = with_fields(data, k, zone_place=moved[k])
-            # a zone may lie over a place that is another now
-            if all(made.startswith(zones[n], at) for n, at in moved.items()):
-                data, standing = made, moved
-    return data
+    return b"".join(tables(nodes, described)) + data
 
 
 def change_row(rng, type, row):
@@ -431,8 +382,8 @@ def change_byte(rng, row):
 
 
 def change_type(rng, type):
-    """A type that differs in one of p1, p2, a zone, a name, a nullable flag or an id, somewhere in the tree; where there are Maps,
-    half of the time in a label of one, of its entries, its key, its value or a child of these."""
+    """A type that differs in one of p1, p2, a name, a nullable flag or an id, somewhere in the tree; where there are Maps, half
+    of the time in a label of one, of its entries, its key, its value or a child of these."""
     made = type.copy()
     node = rng.choice(made.all())
     what = rng.randrange(5)
@@ -449,8 +400,6 @@ def change_type(rng, type):
         node.p1 = rng.randint(*P1[node.code])
     elif what == 3 and 15 <= node.code <= 18:
         node.p2 = rng.choice([-128, 0, 1, 127])
-    elif node.code == TIMESTAMP:
-        node.zone = change_zone(rng, node.zone)
     elif node.code in UNIONS and node.children:
         child = node.children[-1]
         if child.id < 127:

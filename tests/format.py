@@ -3,7 +3,7 @@
 
 The bytes of each table follow each other at the places that it names; the first image is that of the session's first line; all
 are accepted, have as many bytes as the page says, and their rows have the bytes that it gives; the third is what is built of its
-rows' bytes with the second for its type; and what is built of the fourth's has its zone, bitmap and value where the page says.
+rows' bytes with the second for its type.
 """
 
 import os
@@ -32,9 +32,8 @@ def worked(page):
 
 
 def main():
-    page = read("docs", "FORMAT.md")
-    images = list(worked(page))
-    assert len(images) == 4, f"{len(images)} worked images"
+    images = list(worked(read("docs", "FORMAT.md")))
+    assert len(images) == 3, f"{len(images)} worked images"
     first = bytes.fromhex(read("tests", "session.txt").split("\n")[0])
     assert first[1:] == images[0][1], "the first image is not that of the session's first line"
     for size, data, told in images:
@@ -43,12 +42,8 @@ def main():
         rows = model.Image(data).nodes[0].length
         written = model.write(data, 0, rows, 1 << 20)[1]
         assert written == told, f"the rows' bytes are {written.hex(' ')}"
-    _, (_, given, _), (size, made, string), (_, zoned, rows) = images
+    (_, given, _), (size, made, string) = images[1:]
     assert model.build(given, 2, string, size) == ((0, 0, 0, size), made), "the third image is not the one that is built"
-    places = [int(place) for place in re.findall(r"place (\d+)", page.rsplit("\n\n", 1)[1])]
-    zone, bitmap, value = places
-    node = model.Image(model.build(zoned, 1, rows, 1 << 20)[1])
-    assert (node.nodes[0].zone_place, node.nodes[0].bitmap_place, node.buffer(0, 0)[0]) == (zone, bitmap, value), "built otherwise"
     print(f"format: {len(images)} worked images are as the model has them")
 
 

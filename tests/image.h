@@ -29,8 +29,7 @@ enum {
     RECORD_CHILDREN = 38,
     RECORD_FIRST_BUFFER = 40,
     RECORD_BUFFERS = 42,
-    RECORD_ZONE = 44,
-    IMAGE_RECORD = 48
+    IMAGE_RECORD = 44
 };
 
 enum { FLAG_NULLABLE = 1, FLAG_BITMAP = 2 };
@@ -38,10 +37,9 @@ enum { FLAG_NULLABLE = 1, FLAG_BITMAP = 2 };
 /* The entry of a buffer: its place and its length, of four bytes each. */
 enum { ENTRY_PLACE = 0, ENTRY_LENGTH = 4, IMAGE_ENTRY = 8 };
 
-/* How long an image may be, how many elements a node may have, how deep it may stand, how long a name and a zone may be, and
- * how many type codes there are. */
-enum { IMAGE_LONGEST = 16777216, IMAGE_MOST_ELEMENTS = 1073741824, IMAGE_DEEPEST = 16 };
-enum { IMAGE_LONGEST_NAME = 64, IMAGE_LONGEST_ZONE = 64, IMAGE_CODES = 44 };
+/* How long an image may be, how many elements a node may have, how deep it may stand, how long a name may be, and how many
+ * type codes there are. */
+enum { IMAGE_LONGEST = 16777216, IMAGE_MOST_ELEMENTS = 1073741824, IMAGE_DEEPEST = 16, IMAGE_LONGEST_NAME = 64, IMAGE_CODES = 44 };
 
 /* How many bytes the header and the tables of so many nodes and buffers have. */
 #define IMAGE_TABLES(nodes, buffers) (IMAGE_HEADER + IMAGE_RECORD * (nodes) + IMAGE_ENTRY * (buffers))

@@ -22,7 +22,6 @@ FIELDS = {
     "child_count": 2,
     "first_buffer": 2,
     "buffer_count": 2,
-    "zone_place": 4,
 }
 
 HEADER, RECORD, ENTRY = 4, sum(FIELDS.values()), 8
@@ -30,9 +29,9 @@ HEADER, RECORD, ENTRY = 4, sum(FIELDS.values()), 8
 # The flags.
 NULLABLE, HAS_BITMAP = 1, 2
 
-# How many type codes there are, how deep a node may stand, how long a name and a zone may be, how many nodes an image may have,
-# and how many elements a node.
-CODES, DEEPEST, LONGEST_NAME, LONGEST_ZONE, MOST_NODES, MOST_ELEMENTS = 44, 16, 64, 64, 256, 1 << 30
+# How many type codes there are, how deep a node may stand, how long a name may be, how many nodes an image may have, and how
+# many elements a node.
+CODES, DEEPEST, LONGEST_NAME, MOST_NODES, MOST_ELEMENTS = 44, 16, 64, 256, 1 << 30
 
 # The bytes of a view, and how many of a text it holds itself.
 VIEW, INLINE = 16, 12

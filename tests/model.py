@@ -1,6 +1,6 @@
 """A model of document 01, written from its sentences: the image check, types, rows, row bytes, and the session; and of what
 document 02 adds, the first unequal row of two ranges, text that is UTF-8 (RFC 3629), the comparison at fewer digits, Map
-names at every depth, the image that is built of written rows, and the zones of Timestamps.
+names at every depth, and the image that is built of written rows.
 
 It is the second opinion that the proved program is held to, so it shares nothing with it: numbers are Python's, rows are
 tuples, and speed is no aim.
@@ -8,16 +8,15 @@ tuples, and speed is no aim.
 
 NULL, BOOLEAN = 0, 1
 DECIMAL32, DECIMAL64 = 15, 16
-TIMESTAMP = 21
 UTF8, BINARY, LARGE_UTF8, LARGE_BINARY, FIXED_SIZE_BINARY, UTF8_VIEW, BINARY_VIEW = 26, 27, 28, 29, 30, 31, 32
 LIST, LARGE_LIST, LIST_VIEW, LARGE_LIST_VIEW, FIXED_SIZE_LIST, STRUCT = 33, 34, 35, 36, 37, 38
 DENSE_UNION, SPARSE_UNION, DICTIONARY, MAP, RUN_END_ENCODED = 39, 40, 41, 42, 43
 
 LAST_CODE = RUN_END_ENCODED
 
-# The sizes of the header, of a node's record and of a buffer's entry. These, the fields and the limits below are read from the
-# documents once more: what lays images out (tests/image.py) has its own, and neither takes anything from the other.
-HEADER, RECORD, ENTRY = 4, 48, 8
+# The sizes of the header, of a node's record and of a buffer's entry. These, the fields and the limits below are read from
+# document 01 once more: what lays images out (tests/image.py) has its own, and neither takes anything from the other.
+HEADER, RECORD, ENTRY = 4, 44, 8
 
 # The fields of a record: place and width.
 FIELDS = {
@@ -37,7 +36,6 @@ FIELDS = {
     "child_count": (38, 2),
     "first_buffer": (40, 2),
     "buffer_count": (42, 2),
-    "zone_place": (44, 4),
 }
 SIGNED = {"p1", "p2"}
 
@@ -45,7 +43,7 @@ NULLABLE, HAS_BITMAP = 1, 2
 
 LONGEST_IMAGE = 16_777_216
 MOST_NODES, MOST_BUFFERS, MOST_ELEMENTS = 256, 1_024, 1_073_741_824
-DEEPEST, LONGEST_NAME, LONGEST_ZONE, LAST_ID = 16, 64, 64, 127
+DEEPEST, LONGEST_NAME, LAST_ID = 16, 64, 127
 # the width of a FixedSizeBinary, the rows of a FixedSizeList
 WIDEST = 16_777_216
 
@@ -62,9 +60,6 @@ WIDTHS |= {15: 4, 16: 8, 17: 16, 18: 32, 19: 4, 20: 8, 21: 8, 22: 8, 23: 4, 24: 
 # (lowest, highest) p1 of the codes that use it
 P1 = {15: (1, 9), 16: (1, 18), 17: (1, 38), 18: (1, 76), 19: (0, 1), 20: (2, 3), 21: (0, 3), 22: (0, 3)}
 P1 |= {30: (0, WIDEST), 37: (0, WIDEST), 41: (2, 9), 42: (0, 1)}
-
-# the same of p2: scales, and the length of a zone
-P2 = {15: (-128, 127), 16: (-128, 127), 17: (-128, 127), 18: (-128, 127), TIMESTAMP: (0, LONGEST_ZONE)}
 
 OFFSET_WIDTH = {UTF8: 4, BINARY: 4, LARGE_UTF8: 8, LARGE_BINARY: 8, LIST: 4, LARGE_LIST: 8, LIST_VIEW: 4, LARGE_LIST_VIEW: 8, MAP: 4}
 
@@ -146,7 +141,6 @@ class Record:
         self.elements = self.length + self.offset
         self.has_bitmap = self.flags & HAS_BITMAP != 0
         self.nullable = self.flags & NULLABLE != 0
-        self.zone_length = self.p2 if self.code == TIMESTAMP else 0
 
 
 class Image:
@@ -170,10 +164,6 @@ class Image:
     def name(self, node):
         record = self.nodes[node]
         return self.data[record.name_place :][: record.name_length]
-
-    def zone(self, node):
-        record = self.nodes[node]
-        return self.data[record.zone_place :][: record.zone_length]
 
     def buffer(self, node, k):
         """The place and the length of buffer k of a node."""
@@ -199,10 +189,7 @@ class Image:
         low, high = P1.get(r.code, (0, 0))
         if not low <= r.p1 <= high:
             return True
-        low, high = P2.get(r.code, (0, 0))
-        if not low <= r.p2 <= high:
-            return True
-        if r.zone_place != 0 and r.zone_length == 0:
+        if not (-128 <= r.p2 <= 127 if 15 <= r.code <= 18 else r.p2 == 0):
             return True
         return r.has_bitmap and r.code in (NULL, DENSE_UNION, SPARSE_UNION, RUN_END_ENCODED)
 
@@ -263,9 +250,7 @@ class Image:
 
     def fault_13(self, node):
         r = self.nodes[node]
-        if r.name_length > LONGEST_NAME or (r.name_length > 0 and r.name_place + r.name_length > len(self.data)):
-            return True
-        return r.zone_length > 0 and r.zone_place + r.zone_length > len(self.data)
+        return r.name_length > LONGEST_NAME or (r.name_length > 0 and r.name_place + r.name_length > len(self.data))
 
     def fault_14(self, node):
         r = self.nodes[node]
@@ -496,8 +481,6 @@ def types_agree(a, b, x=0, y=0, entries=False):
     children the names do not count."""
     r, s = a.nodes[x], b.nodes[y]
     if (r.code, r.p1, r.p2, r.child_count) != (s.code, s.p1, s.p2, s.child_count):
-        return False
-    if a.zone(x) != b.zone(y):
         return False
     flag = r.code not in (DICTIONARY, MAP)
     name = flag and not entries
@@ -784,8 +767,7 @@ class Built:
             self.columns |= dict(child_rows(given, node, self.columns[node]))
         self.sizes = [part_sizes(record, self.columns[node]) for node, record in enumerate(given.nodes)]
         self.front = HEADER + RECORD * len(given.nodes) + ENTRY * len(given.entries)
-        texts = sum(record.name_length + record.zone_length for record in given.nodes)
-        self.size = self.front + texts + sum(map(sum, self.sizes))
+        self.size = self.front + sum(record.name_length + sum(sizes) for record, sizes in zip(given.nodes, self.sizes))
 
     def too_large(self, room):
         most = max(len(rows) for rows in self.columns.values())
@@ -803,11 +785,8 @@ class Built:
 
         put(0, 2, len(given.nodes))
         put(2, 2, len(given.entries))
-        # a name and a zone have a place where they have a length; each zone stands directly behind its node's name
-        names, zones = [], []
-        for node, record in enumerate(given.nodes):
-            names.append(place(given.name(node)) if record.name_length else 0)
-            zones.append(place(given.zone(node)) if record.zone_length else 0)
+        # a name has a place where it has a length
+        names = [place(given.name(node)) if record.name_length else 0 for node, record in enumerate(given.nodes)]
         child, entry = 1, 0
         for node, record in enumerate(given.nodes):
             rows, masked = self.columns[node], record.code != NULL
@@ -815,7 +794,7 @@ class Built:
             assert [len(part) for part in parts] == self.sizes[node]
             places = [(place(part), len(part)) for part in parts]
             fields = dict(code=record.code, flags=int(record.nullable) + HAS_BITMAP * masked, p1=record.p1, p2=record.p2)
-            fields |= dict(name_length=record.name_length, name_place=names[node], zone_place=zones[node], length=len(rows))
+            fields |= dict(name_length=record.name_length, name_place=names[node], length=len(rows))
             if masked:
                 fields["bitmap_place"], fields["bitmap_length"] = places.pop(0)
             fields |= dict(first_child=child, child_count=record.child_count, first_buffer=entry, buffer_count=len(places))

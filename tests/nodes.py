@@ -8,7 +8,7 @@ from columns import Node, Type
 from image import number
 
 NULL, BOOLEAN, INT8, INT16, INT32, INT64, UINT8 = 0, 1, 2, 3, 4, 5, 6
-FLOAT32, FLOAT64, TIMESTAMP = 11, 12, 21
+FLOAT32, FLOAT64 = 11, 12
 UTF8, BINARY, LARGE_UTF8, LARGE_BINARY, FIXED_SIZE_BINARY, UTF8_VIEW, BINARY_VIEW = 26, 27, 28, 29, 30, 31, 32
 LIST, LARGE_LIST, LIST_VIEW, LARGE_LIST_VIEW, FIXED_SIZE_LIST, STRUCT = 33, 34, 35, 36, 37, 38
 DENSE, SPARSE, DICTIONARY, MAP, RUNS = 39, 40, 41, 42, 43
@@ -19,9 +19,9 @@ def packed(bits):
     return number((len(bits) + 7) // 8, sum(int(bit) << place for place, bit in enumerate(bits)))
 
 
-def column(code, rows, buffers=(), children=(), offset=0, bits=None, first_bit=0, **field):
+def column(code, rows, buffers=(), children=(), p1=0, p2=0, name=b"", nullable=False, id=0, offset=0, bits=None, first_bit=0):
     """A node. Its bitmap is given from bit 0 on, bits before the first included."""
-    type = Type(code, children=[child.type for child in children], **field)
+    type = Type(code, p1, p2, [child.type for child in children], name, nullable, id)
     return Node(type, rows, offset, buffers, children, None if bits is None else packed(bits), first_bit)
 
 

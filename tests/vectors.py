@@ -4,9 +4,8 @@
 The lines are made here; the replies are those of the model (tests/model.py), which is written from document 01 and shares
 nothing with the program. In turn: document 01's session; lines that are no frames; every frame in every state of the two
 sides; document 01's pairs; rows of each layout, written; images with each fault; texts that are UTF-8 and texts that are not;
-Maps whose labels differ, and Timestamps whose zones do, compared in whole and as ranges; zones that are allowed and zones that
-are not; random tables of every type code, compared and written in two layouts; and the fixed list of the Rust's answers
-(tests/rust/answers.txt), whose replies are the Rust's.
+Maps whose labels differ, compared in whole and as ranges; random tables of every type code, compared and written in two
+layouts; and the fixed list of the Rust's answers (tests/rust/answers.txt), whose replies are the Rust's.
 
     python3 tests/vectors.py            write the two files
     python3 tests/vectors.py --check    say whether they are as written
@@ -21,7 +20,6 @@ import maps
 import model
 import pairs
 import texts
-import zones
 from image import CODES, DEEPEST, number
 
 CRATE = os.path.join(os.path.dirname(os.path.abspath(__file__)), "..", "crates", "editions")
@@ -226,43 +224,20 @@ def utf8(script):
 
 
 def map_labels(script):
-    """The pairs of tests/maps.py. What is asked of names has no frame, and is held to the model alone."""
+    """The pairs of tests/maps.py, compared, and as the range of the left one's rows. A side that holds its image is not filled
+    again. What is asked of names has no frame, and is held to the model alone."""
     for words, image, answer in maps.QUERIES:
         assert model.map_names(image) == answer, words
-    type_pairs(script, maps.PAIRS)
-
-
-def type_pairs(script, listed):
-    """Pairs, compared, and as the range of the left one's rows. A side that holds its image is not filled again."""
     held = [None, None]
-    for words, *images, agree, equal in listed:
+    for words, *images, agree, equal in maps.PAIRS:
         assert model.compare_range(*images, 0, 0, 0) == ((0, 0, 0, 1) if agree else (20, 0, 0, 0)), words
         assert model.compare(*images) == (0, 0, 0, int(equal)), words
-        if max(map(len, images)) > model.Session.STORE:
-            continue
         for side, image in enumerate(images):
             if image != held[side]:
                 script.store(side, image)
         held = images
         script.compare()
         script.compare_range(0, 0, model.Image(images[LEFT]).nodes[0].length)
-
-
-def timestamps(script):
-    """Document 01's own session, whose records are too short; the images of tests/zones.py on either side in turn, of those of
-    other codes every fifth; and its pairs."""
-    for side, last in ((LEFT, "05000705"), (RIGHT, "05090705")):
-        script.empty(side)
-        script.line(f"0{1 + side} " + zones.OLD_SESSION[:-8] + last)
-        script.close(side)
-        script.answered("0b0000")
-    script.compare()
-    for words, image, answer in zones.IMAGES + zones.OTHER_CODES:
-        assert model.check(image) == answer, words
-    for k, (_, image, _) in enumerate(zones.IMAGES + zones.OTHER_CODES[::5]):
-        script.store(k % 2, image)
-        script.write(k % 2, 0, 1)
-    type_pairs(script, zones.PAIRS)
 
 
 def tables(script):
@@ -316,7 +291,7 @@ def rust(script):
 
 def script():
     made = Script()
-    for part in (document, bad_lines, every_state, full_store, desk, written, faults, utf8, map_labels, timestamps, tables, rust):
+    for part in (document, bad_lines, every_state, full_store, desk, written, faults, utf8, map_labels, tables, rust):
         part(made)
     # the last line ends with the input
     made.line("04")

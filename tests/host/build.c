@@ -288,7 +288,7 @@ static void columns(void)
 /* Int8: as many rows as fill the longest image, and one more. */
 static void largest_numbers(void)
 {
-    enum { FRONT = IMAGE_TABLES(1, 1), ROWS = 14913027 };
+    enum { FRONT = IMAGE_TABLES(1, 1), ROWS = 14913031 };
     uint8_t given[FRONT], *string = lent_bytes(string_memory, 2 * ROWS + 2, 1), *out = lent_bytes(out_memory, IMAGE_LONGEST, 1);
     struct image m = image_in(given, FRONT, 1, 1);
     image_node(&m, INT8, 0, 0, 0, 1);

@@ -1,7 +1,7 @@
 #!/usr/bin/env python3
 """Writes calls with their answers for the host tests: document 01's pairs, the texts of tests/texts.py, the decimals of
-tests/decimals.py, the Maps of tests/maps.py and the zones of tests/zones.py with their answers, and random images, good and
-damaged, with what the model says of them.
+tests/decimals.py and the Maps of tests/maps.py with their answers, and random images, good and damaged, with what the model says
+of them.
 
     python3 tests/host/cases.py FILE COUNT SEED [CORPUS]
 
@@ -27,11 +27,10 @@ import maps
 import model
 import pairs
 import texts
-import zones
 from columns import MAP_NAMES
 from decimals import LARGEST
-from image import CODES, LONGEST_ZONE, by_level, number, with_fields
-from model import DECIMAL32, DECIMAL64, MAP, MOST_DIGITS, RUN_END_ENCODED, TIMESTAMP
+from image import CODES, number
+from model import DECIMAL32, DECIMAL64, MAP, MOST_DIGITS
 from nodes import INT32, INT64
 
 # the longest input that a fuzzer starts from
@@ -139,9 +138,9 @@ def decimal_calls():
         yield digits_call(left, right, [asked])
 
 
-def type_calls(listed):
-    """Pairs whose types agree or do not, both ways round, over the left table's rows and over none."""
-    for words, left, right, agree, equal in listed:
+def map_calls():
+    """The pairs and the queries of tests/maps.py. A pair whose types agree is asked about over the left table's rows."""
+    for words, left, right, agree, equal in maps.PAIRS:
         for one, other in ((left, right), (right, left)):
             rows = model.checked(one).nodes[0].length
             assert model.compare(one, other) == (0, 0, 0, int(equal)), words
@@ -149,33 +148,10 @@ def type_calls(listed):
             yield b"\x01" + sized(one) + sized(other) + packed(model.compare(one, other))
             yield ranges_call(one, other, [(0, 0, 0), (0, 0, rows)])
             yield names_call(one)
-            # 20 before 22, and 22 since no root is a decimal
-            yield digits_call(one, other, [(0, 0, rows, 0)])
-
-
-def map_calls():
-    """The pairs and the queries of tests/maps.py."""
-    yield from type_calls(maps.PAIRS)
     for words, image, answer in maps.QUERIES:
         assert model.map_names(image) == answer, words
         yield b"\x00" + sized(image) + packed(answer if answer[0] else (0, 0, 0, 0))
         yield names_call(image)
-
-
-def zone_calls():
-    """The images and the pairs of tests/zones.py. Each image is checked, asked for its Maps' names and written, and stands on
-    either side of one whose type is another."""
-    other = b"".join(pairs.session(0))
-    for words, image, answer in zones.IMAGES + zones.OTHER_CODES:
-        assert model.check(image) == answer, words
-        yield b"\x00" + sized(image) + packed(answer)
-        yield names_call(image)
-        yield write_call(image, 0, 1, 64, *model.write(image, 0, 1, 64))
-        for left, right in ((image, other), (other, image)):
-            yield b"\x01" + sized(left) + sized(right) + packed(model.compare(left, right))
-            yield ranges_call(left, right, [(0, 0, 1)])
-            yield digits_call(left, right, [(0, 0, 1, 0)])
-    yield from type_calls(zones.PAIRS)
 
 
 def calls(rng, seed):
@@ -397,63 +373,6 @@ def named_calls(rng):
             yield ranges_call(one, two, [(0, 0, len(rows)), (0, 0, 0)])
 
 
-def zone_type(rng):
-    """A Timestamp, or another code with Timestamps among its leaves."""
-    made = columns.random_type(rng, rng.choice([2, 2, 3]), rng.choice([TIMESTAMP, *columns.NESTED]))
-    for node in made.all():
-        for k, child in enumerate(node.children):
-            if child.code in columns.LEAVES and not (node.code == RUN_END_ENCODED and k == 0) and rng.random() < 0.7:
-                stamp = columns.random_type(rng, 1, TIMESTAMP)
-                node.children[k] = stamp.copy(name=child.name, nullable=child.nullable, id=child.id)
-    return made
-
-
-def zone_table(rng):
-    columns.ILL_FORMED = 0.0
-    kind = zone_type(rng)
-    return kind, [columns.random_row(rng, kind) for _ in range(rng.choice([0, 1, 2, 5]))]
-
-
-def other_zone(rng, kind):
-    """The type with the zone of one Timestamp, if there is one, another."""
-    made = kind.copy()
-    stamps = [node for node in made.all() if node.code == TIMESTAMP]
-    if stamps:
-        node = rng.choice(stamps)
-        node.zone = columns.change_zone(rng, node.zone)
-    return made
-
-
-def damaged_zone(rng, kind, image):
-    """An image whose p2 or zone's place is another, of a Timestamp most of the time."""
-    nodes = by_level(kind)
-    stamps = [k for k, node in enumerate(nodes) if node.code == TIMESTAMP]
-    node = rng.choice(stamps) if stamps and rng.random() < 0.8 else rng.randrange(len(nodes))
-    end = len(image)
-    p2 = rng.choice([0, 1, 3, LONGEST_ZONE, LONGEST_ZONE + 1, 256, -1, -(1 << 31), rng.randrange(LARGEST)])
-    place = rng.choice([0, 1, end - 3, end - 1, end, end - LONGEST_ZONE, rng.randrange(end), LARGEST, LARGEST - LONGEST_ZONE])
-    return with_fields(image, node, **rng.choice([dict(p2=p2), dict(zone_place=place), dict(p2=p2, zone_place=place)]))
-
-
-def zoned_calls(rng):
-    """Tables with Timestamps: the same rows in two layouts, one zone another, one row another; and zones damaged."""
-    kind, rows = zone_table(rng)
-    left = laid(rng, kind, rows)
-    asked = [laid(rng, kind, rows), laid(rng, other_zone(rng, kind), rows)]
-    if rows:
-        k = rng.randrange(len(rows))
-        asked.append(laid(rng, kind, rows[:k] + [changed(rng, kind, rows[k])] + rows[k + 1 :]))
-    damaged = [damaged_zone(rng, kind, left) for _ in range(4)]
-    for image in damaged:
-        yield b"\x00" + sized(image) + packed(model.check(image))
-        yield names_call(image)
-        yield write_call(image, 0, 1, 64, *model.write(image, 0, 1, 64))
-    for image in asked + damaged:
-        for one, other in ((left, image), (image, left)):
-            yield b"\x01" + sized(one) + sized(other) + packed(model.compare(one, other))
-            yield ranges_call(one, other, [(0, 0, len(rows)), (0, 0, 0)])
-
-
 def two_images(rng, left, right):
     """Two images, any starts and count, any number of digits, and any damage, as tests/host/fuzz.c reads them."""
     return b"".join(number(2, x) for x in (len(left), *(rng.randrange(1 << 16) for _ in range(6)))) + left + right
@@ -484,13 +403,6 @@ def map_input(rng):
     return two_images(rng, laid(rng, left, rows), laid(rng, freed(rng, right), rows))
 
 
-def zone_input(rng):
-    """Two tables with Timestamps, with the same rows, of which in half of them one zone is another."""
-    kind, rows = zone_table(rng)
-    other = kind if rng.random() < 0.5 else other_zone(rng, kind)
-    return two_images(rng, laid(rng, kind, rows), laid(rng, other, rows))
-
-
 def readable_input(rng):
     """Two layouts of rows that may be read back."""
     columns.ILL_FORMED = 0.0
@@ -506,15 +418,13 @@ def records(rng, seed):
 
 
 def fuzz_inputs(seeds):
-    """Random tables, one of decimals beside every seventh, one with Maps beside every fifth, one with Timestamps beside every
-    third and one whose rows may be read back beside every second, and each text of tests/texts.py beside the one after it."""
+    """Random tables, one of decimals beside every seventh, one with Maps beside every fifth and one whose rows may be read back
+    beside every second, and each text of tests/texts.py beside the one after it."""
     for seed in seeds:
         try:
             yield fuzz_input(random.Random(seed), seed)
             if seed % 5 == 0:
                 yield map_input(of_maps(seed))
-            if seed % 3 == 0:
-                yield zone_input(of_zones(seed))
         except NoLayout:
             continue
         if seed % 2 == 0:
@@ -529,11 +439,6 @@ def fuzz_inputs(seeds):
 def of_maps(seed):
     """The numbers that tables with Maps are drawn from, so that those of all other tables stay the same."""
     return random.Random(f"maps {seed}")
-
-
-def of_zones(seed):
-    """The same for tables with Timestamps."""
-    return random.Random(f"zones {seed}")
 
 
 def write_corpus(corpus, seeds):
@@ -559,11 +464,9 @@ def main():
         file.write(b"".join(text_calls()))
         file.write(b"".join(decimal_calls()))
         file.write(b"".join(map_calls()))
-        file.write(b"".join(zone_calls()))
         for seed in seeds:
             file.write(joined(records(random.Random(seed), seed)))
             file.write(joined(named_calls(of_maps(seed))))
-            file.write(joined(zoned_calls(of_zones(seed))))
     if len(sys.argv) > 4:
         write_corpus(sys.argv[4], seeds[:400])
 

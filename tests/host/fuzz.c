@@ -4,9 +4,8 @@
  * is none exactly when the ranges are equal, the rows before it are equal, and its row is not. The comparison at fewer digits
  * is refused as they are, or by 22 before 21; it is symmetric, says yes of equal rows, of no others where no digit is dropped,
  * and of a range exactly when it does of both halves. The query for Map names is refused as the check is; else it says what a
- * walk over the nodes finds. An accepted image has each zone inside and no place where there is none, and types that agree have
- * the same zones. Rows that are written are built again where the type's codes may be: a table that is accepted, equals them and
- * is written as they were. Any other string is refused, or gives a table that is accepted and writes the string.
+ * walk over the nodes finds. Rows that are written are built again where the type's codes may be: a table that is accepted, equals
+ * them and is written as they were. Any other string is refused, or gives a table that is accepted and writes the string.
  *
  * An input is seven numbers of two bytes, the left image and the right one. The numbers: how long the left image is; then, of
  * ranges, the left start, the right start and the count, and the digits, as `ranged` takes them; then where a string of rows is
@@ -40,7 +39,7 @@ enum {
 /* The type codes whose digits may be dropped, and how many. */
 enum { DECIMAL32 = 15, DECIMAL64 = 16, MOST_DIGITS = 9 };
 
-enum { TIMESTAMP = 21, FIXED_SIZE_BINARY = 30, LIST = 33, LARGE_LIST = 34, STRUCT = 38, MAP = 42 };
+enum { FIXED_SIZE_BINARY = 30, LIST = 33, LARGE_LIST = 34, STRUCT = 38, MAP = 42 };
 
 /* what a comparison that says yes answers */
 static const uint64_t EQUAL = (uint64_t)1 << 8;
@@ -123,36 +122,6 @@ static void parted(const struct pair *p, uint64_t first)
     must(first_difference(p, row, p->count - row) == FIRST_ROW, "the first difference is another one from its row on");
 }
 
-/* The length of a node's zone. */
-static uint32_t zone_length(const uint8_t *image, uint32_t record)
-{
-    return image[record + RECORD_CODE] == TIMESTAMP ? (uint32_t)image_get(image, record + RECORD_P2, 4) : 0;
-}
-
-/* The zones of an accepted image. */
-static void zones(const uint8_t *image, size_t length)
-{
-    for (uint32_t node = 0; node < image_get(image, HEADER_NODES, 2); node++) {
-        uint32_t record = image_record(node), size = zone_length(image, record);
-        uint64_t place = image_get(image, record + RECORD_ZONE, 4);
-        must(size <= IMAGE_LONGEST_ZONE && place + size <= length, "a zone that is too long or outside is accepted");
-        must(size != 0 || place == 0, "a place without a zone is accepted");
-    }
-}
-
-/* The zones of two images whose types agree. */
-static void same_zones(const struct pair *p)
-{
-    uint32_t nodes = (uint32_t)image_get(p->left, HEADER_NODES, 2);
-    must(nodes == image_get(p->right, HEADER_NODES, 2), "types that agree have other numbers of nodes");
-    for (uint32_t node = 0; node < nodes; node++) {
-        uint32_t record = image_record(node), size = zone_length(p->left, record);
-        must(size == zone_length(p->right, record), "types that agree have zones of other lengths");
-        const uint8_t *left = p->left + image_get(p->left, record + RECORD_ZONE, 4);
-        must(memcmp(left, p->right + image_get(p->right, record + RECORD_ZONE, 4), size) == 0, "types that agree have other zones");
-    }
-}
-
 /* Both calls on ranges; a and b are the checks of the images, ab their comparison. */
 static void ranges(const struct pair *p, uint64_t a, uint64_t b, uint64_t ab)
 {
@@ -169,7 +138,6 @@ static void ranges(const struct pair *p, uint64_t a, uint64_t b, uint64_t ab)
         return;
     }
     must(same == EQUAL || same == 0, "a range comparison that says neither yes nor no");
-    same_zones(p);
     must(editions_differs(first) == (same == 0), "a first difference of equal ranges, or none of unequal ones");
     if (editions_differs(first))
         parted(p, first);
@@ -318,8 +286,8 @@ static uint32_t behind(uint32_t at, uint64_t place, uint64_t length)
     return at + (uint32_t)length;
 }
 
-/* A built image is its tables, the names, each with its zone behind it, and of each node its bitmap and its buffers, one behind
- * the other; no offset and no first bit is other than 0. */
+/* A built image is its tables, the names, and of each node its bitmap and its buffers, one behind the other; no offset and no
+ * first bit is other than 0. */
 static void hold_places(const uint8_t *built, size_t length)
 {
     uint32_t nodes = (uint32_t)image_get(built, HEADER_NODES, 2), buffers = (uint32_t)image_get(built, HEADER_BUFFERS, 2);
@@ -327,8 +295,6 @@ static void hold_places(const uint8_t *built, size_t length)
     for (uint32_t node = 0; node < nodes; node++) {
         uint32_t record = image_record(node), size = built[record + RECORD_NAME_LENGTH];
         at = behind(at, image_get(built, record + RECORD_NAME, 4) + (size ? 0 : at), size);
-        size = zone_length(built, record);
-        at = behind(at, image_get(built, record + RECORD_ZONE, 4) + (size ? 0 : at), size);
     }
     for (uint32_t node = 0; node < nodes; node++) {
         uint32_t record = image_record(node);
@@ -451,10 +417,6 @@ static void one(const uint8_t *data, size_t size)
     uint64_t a = editions_check(left, cut), b = editions_check(right, rest), ab = editions_compare(left, cut, right, rest);
     map_names(left, cut, a);
     map_names(right, rest, b);
-    if (a == 0)
-        zones(left, cut);
-    if (b == 0)
-        zones(right, rest);
     three_calls(&p, a, b, ab);
     uint32_t digits = ranged(data + INPUT_DIGITS, MOST_DIGITS);
     ranges(&p, a, b, ab);
@@ -535,28 +497,8 @@ static unsigned read_seeds(const char *path)
     return count;
 }
 
-/* Another zone, where a drawn node is a Timestamp: its length, its place, a byte of it, or none. */
-static void mutate_zone(uint8_t *image, size_t length)
-{
-    uint32_t record = image_record(next(image[HEADER_NODES] + 1u));
-    if (record + IMAGE_RECORD > length || image[record + RECORD_CODE] != TIMESTAMP)
-        return;
-    struct image m = {.bytes = image};
-    uint64_t place = image_get(image, record + RECORD_ZONE, 4);
-    switch (next(4)) {
-    case 0: image_put(&m, record + RECORD_P2, next(IMAGE_LONGEST_ZONE + 2), 4); break;
-    case 1: image_put(&m, record + RECORD_ZONE, next((uint32_t)length + 2), 4); break;
-    case 2: image_put(&m, record + RECORD_P2, 0, 4); image_put(&m, record + RECORD_ZONE, 0, 4); break;
-    default:
-        if (place < length)
-            image[place] ^= (uint8_t)(1u << next(8));
-    }
-}
-
 static void mutate(uint8_t *image, size_t length)
 {
-    if (length > 0 && next(4) == 0)
-        mutate_zone(image, length);
     static const uint8_t odd[] = {0, 1, 2, 3, 12, 13, IMAGE_DEEPEST, IMAGE_CODES - 1, IMAGE_CODES, IMAGE_LONGEST_NAME, 127, 128, 0xc2, 0xed, 0xf4, 255};
     for (uint32_t turns = next(4); turns > 0 && length > 0; turns--) {
         size_t tables = IMAGE_TABLES(image[HEADER_NODES], 1u);

@@ -738,7 +738,6 @@ static void faults(const struct tree *t, const struct laid *l)
         uint32_t record = image_record(k);
         with(l, record + RECORD_CODE, IMAGE_CODES, 1, EDITIONS_CODE, k);
         with(l, record + RECORD_FLAGS, 4, 1, EDITIONS_CODE, k);
-        with(l, record + RECORD_ZONE, 1 + drawn((uint32_t)l->length), 4, EDITIONS_CODE, k);
         with(l, record + RECORD_FIRST_CHILD, 0, 2, EDITIONS_TREE, k);
         if (parent->code != DENSE_UNION && parent->code != SPARSE_UNION)
             with(l, record + RECORD_TYPE_ID, 1, 1, EDITIONS_TREE, k);

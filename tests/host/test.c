@@ -7,7 +7,7 @@
 #include "expect.h"
 #include "memory.h"
 
-#define MOST 131072u
+#define MOST 65536u
 
 /* The type codes that are laid out here. */
 enum { NULLS = 0, BOOLEAN = 1, INT8 = 2, INT32 = 4, INT64 = 5, FIXED_SIZE_BINARY = 30, LIST_VIEW = 35, SPARSE_UNION = 40, RUN_END_ENCODED = 43 };

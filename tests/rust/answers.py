@@ -2,17 +2,15 @@
 """The fixed list of the Rust's answers, answers.txt: pairs of accepted images, each with what the Rust says.
 
     answers.py write      lay the pairs out, ask the Rust (tests/rust/run has built it) and write the list
-    answers.py rust       the Rust still answers as in the list, on the gaps as it is said to, on pairs of zones as document 02 does
-    answers.py library    the library answers as in the list, on the gaps as we do, on pairs of zones as document 02 does, with the
-                          model's first unequal rows
+    answers.py rust       the Rust still answers as in the list, and on the gaps as it is said to
+    answers.py library    the library answers as in the list, and on the gaps as we do, with the model's first unequal rows
     answers.py model      the model answers as in the list, and on the gaps as we do; no misreading does; needs no Rust
     answers.py session    the list as lines for the session program
     answers.py replies    what the session program must print for them
 
 The list has document 01's pairs (tests/pairs.py), pairs for its misreadings, those of suspects.py, and random small ones of
 each type code, which were laid out once and are kept as they stand in it. The gaps, pairs on which document 02 has another
-answer than the Rust, are not in it: they are those of suspects.py and the one among document 01's pairs. Nor are the pairs of
-tests/zones.py, of which it has a choice of its own.
+answer than the Rust, are not in it: they are those of suspects.py and the one among document 01's pairs.
 """
 
 import os
@@ -26,7 +24,6 @@ from suspects import GAPS, NO, SUSPECTS, YES
 import labels
 import model
 import pairs
-import zones
 
 FILE = os.path.join(os.path.dirname(os.path.abspath(__file__)), "answers.txt")
 
@@ -72,20 +69,14 @@ def gaps():
         yield "%s: %s" % (file, about), case, rust, ours
 
 
-def zone_pairs():
-    """Of each pair of tests/zones.py its words, the pair and document 02's answer."""
-    for words, left, right, _, equal in zones.PAIRS:
-        yield words, Case(left, right), int(equal)
-
-
-def hold(what, asked, who, said, meant):
-    """How many of these, whose words come first, one side answers otherwise than it is to."""
+def hold_gaps(who, said, meant):
+    """How many gaps one side answers otherwise than it is to."""
     wrong = 0
-    for (words, *_), one, other in zip(asked, said, meant, strict=True):
+    for (words, *_), one, other in zip(gaps(), said, meant, strict=True):
         if one != other:
             print("%s: meant %s, %s says %s" % (words, other, who, one))
             wrong += 1
-    print("%d %s asked of %s, %d others" % (len(meant), what, who, wrong))
+    print("%d gaps asked of %s, %d others" % (len(meant), who, wrong))
     return wrong
 
 
@@ -174,11 +165,8 @@ def rust():
         wrong += sum(said != str(answer) for said, (_, answer) in zip(given, listed))
     print("%d listed answers asked of the Rust again, %d others" % (len(listed), wrong))
     for program in programs:
-        who = "the Rust (%s)" % program
         given = answers(program, [case for _, case, _, _ in gaps()])
-        wrong += hold("gaps", gaps(), who, given, [str(rust) for *_, rust, _ in gaps()])
-        given = answers(program, [case for _, case, _ in zone_pairs()])
-        wrong += hold("pairs of zones", zone_pairs(), who, given, [str(answer) for *_, answer in zone_pairs()])
+        wrong += hold_gaps("the Rust (%s)" % program, given, [str(rust) for *_, rust, _ in gaps()])
     return wrong
 
 
@@ -193,12 +181,9 @@ def library():
         else:
             wrong += (ranged, first == "0") != (str(answer), answer == YES)
     print("%d listed answers and first unequal rows asked of the library, %d others" % (len(listed), wrong))
-    ours = [(words, case, answer) for words, case, _, answer in gaps()]
-    for what, asked in (("gaps", ours), ("pairs of zones", list(zone_pairs()))):
-        given = [line.split()[:3] for line in answers(BOTH, [case for _, case, _ in asked])]
-        meant = [[str(answer), word(case.range_model()), word(case.first_model())] for _, case, answer in asked]
-        wrong += hold(what, asked, "the library", given, meant)
-    return wrong
+    given = [line.split()[:3] for line in answers(BOTH, [case for _, case, _, _ in gaps()])]
+    meant = [[str(ours), word(case.range_model()), word(case.first_model())] for _, case, _, ours in gaps()]
+    return wrong + hold_gaps("the library", given, meant)
 
 
 # The misreadings, as models that read an accepted image wrongly.
@@ -247,7 +232,7 @@ def by_model():
     listed = [(case, answer) for case, answer in read() if counted(case)]
     wrong = sum(case.model() != (0, 0, 0, answer) for case, answer in listed)
     print("%d listed answers asked of the model, %d others" % (len(listed), wrong))
-    wrong += hold("gaps", gaps(), "the model", [word(case.model()) for _, case, _, _ in gaps()], [str(ours) for *_, ours in gaps()])
+    wrong += hold_gaps("the model", [word(case.model()) for _, case, _, _ in gaps()], [str(ours) for *_, ours in gaps()])
     # gaps, and no listed pairs, leave the comparison of random pairs too
     wrong += sum(not labels.differ(case.left, case.right) for _, case, _, _ in gaps())
     wrong += sum(labels.differ(case.left, case.right) for case, _ in listed)

@@ -1,8 +1,8 @@
 """Random pairs of accepted images to ask both sides about, and the file that a program answers them from.
 
 A pair has a kind: the same rows in two layouts, one difference at any depth, types that differ, ranges, no rows, one or more
-differences far down, zones that differ. Types and layouts are those of tests/columns.py; `odd_places` adds what an accepted
-image may hold where nothing counts.
+differences far down. Types and layouts are those of tests/columns.py; `odd_places` adds what an accepted image may hold where
+nothing counts.
 """
 
 import os
@@ -14,16 +14,15 @@ sys.path.insert(0, os.path.join(os.path.dirname(os.path.abspath(__file__)), ".."
 import columns
 import model
 from image import DEEPEST, VIEW, number
-from model import DENSE_UNION, DICTIONARY, FIXED_SIZE_BINARY, LIST_VIEWS, LISTS, MAP, OFFSET_WIDTH, RUN_END_ENCODED, STRUCT, TEXTS, TIMESTAMP, UNIONS, VIEWS, WIDTHS
+from model import DENSE_UNION, DICTIONARY, FIXED_SIZE_BINARY, LIST_VIEWS, LISTS, MAP, OFFSET_WIDTH, RUN_END_ENCODED, STRUCT, TEXTS, UNIONS, VIEWS, WIDTHS
 
-KINDS = ["layouts", "difference", "labels", "types", "range", "range with a difference", "no rows", "differences far down", "zones"]
+KINDS = ["layouts", "difference", "labels", "types", "range", "range with a difference", "no rows", "differences far down"]
 
 # how many of the long tables have more than a block of rows
 VERY_LONG = 0.03
 
-# how many types with nodes below the root get a Map among them, and how many a Timestamp
+# how many types with nodes below the root get a Map among them
 MAPS = 0.3
-STAMPS = 0.2
 
 # codes whose rows have the same form, so that one type's rows can be laid out as another's
 FORMS = [[code for code in WIDTHS if WIDTHS[code] == width] for width in (1, 2, 4, 8, 16)]
@@ -60,10 +59,6 @@ class Case:
         """Whether the left table has Maps below the root."""
         return any(record.code == MAP for record in model.Image(self.left).nodes[1:])
 
-    def zoned(self):
-        """Whether one of the tables has a zone."""
-        return any(record.zone_length for data in (self.left, self.right) for record in model.Image(data).nodes)
-
     def line(self):
         starts = " ".join(map(str, self.range or (0, 0, 0)))
         return "%s %s %s %s" % (self.left.hex(), self.right.hex(), starts, "range" if self.range else "whole")
@@ -88,8 +83,6 @@ def random_type(rng, code):
     made = columns.random_type(rng, depth, code)
     if made.children and rng.random() < MAPS:
         put_map(rng, made)
-    if made.children and rng.random() < STAMPS:
-        put_stamp(rng, made)
     if made.code in UNIONS and rng.random() < 0.05:
         made.children = []
     elif rng.random() < 0.01:
@@ -106,28 +99,6 @@ def put_map(rng, type):
     node, k = rng.choice(places)
     old = node.children[k]
     node.children[k] = columns.random_type(rng, rng.choice([2, 2, 3, 4]), MAP).copy(name=old.name, nullable=old.nullable, id=old.id)
-
-
-def put_stamp(rng, type):
-    """A Timestamp, with a zone or without, instead of a leaf that may be of any type."""
-    ends = [node.children[0] for node in type.all() if node.code == RUN_END_ENCODED]
-    leaves = [node for node in type.all() if node.code in columns.LEAVES and node not in ends]
-    if leaves:
-        node, made = rng.choice(leaves), columns.random_type(rng, 1, TIMESTAMP)
-        node.code, node.p1, node.p2, node.zone = made.code, made.p1, made.p2, made.zone
-
-
-def stamps(type):
-    return [node for node in type.all() if node.code == TIMESTAMP]
-
-
-def stamped_type(rng, code):
-    """A type with a Timestamp: of that code where it has nodes below it, else of any such code or a Timestamp itself."""
-    made = columns.Type(code)
-    while not stamps(made):
-        made = random_type(rng, code if code in columns.NESTED else rng.choice([TIMESTAMP] * 3 + columns.NESTED))
-        put_stamp(rng, made)
-    return made
 
 
 def depth_of(type):
@@ -148,15 +119,6 @@ def change_labels(rng, type):
     made = type
     for _ in range(rng.randint(1, 3)):
         made = columns.change_type(rng, made)
-    return made
-
-
-def change_zones(rng, type):
-    """A type with other zones for none, some or all of its Timestamps."""
-    made = type.copy()
-    there = stamps(made)
-    for node in rng.sample(there, rng.choice([0, 1, 1, rng.randint(1, len(there))])):
-        node.zone = columns.change_zone(rng, node.zone)
     return made
 
 
@@ -190,7 +152,7 @@ def change_form(rng, type):
     elif siblings and node.name != b"run_ends":
         node.code = rng.choice(siblings[0])
         low, high = model.P1.get(node.code, (0, 0))
-        node.p1, node.p2, node.zone = rng.randint(low, high), 0, columns.random_zone(rng)
+        node.p1, node.p2 = rng.randint(low, high), 0
     elif node.code == RUN_END_ENCODED:
         node.children[0].code = rng.choice([3, 4, 5])
     return made
@@ -242,7 +204,7 @@ def random_case(rng, code, kind):
         type, rows, others, asked = far_down(rng, code)
         return laid_out(rng, type, rows, type, others, asked)
     nulls = rng.choice([0.0, 0.1, 0.2, 0.5, 0.9])
-    type = (stamped_type if kind == "zones" else random_type)(rng, code)
+    type = random_type(rng, code)
     rows = [] if kind == "no rows" else random_rows(rng, type, nulls)
     other, others = type, rows
     if rng.random() < 0.3:
@@ -255,8 +217,6 @@ def random_case(rng, code, kind):
     elif kind == "labels":
         other = change_labels(rng, type)
         others = [columns.relabelled(type, other, row) for row in rows]
-    elif kind == "zones":
-        other = change_zones(rng, other)
     elif kind == "types":
         other = change_form(rng, type)
         if depth_of(other) > DEEPEST:

@@ -92,8 +92,6 @@ class Tally:
         self.refused = collections.Counter()
         # pairs that differ in labels which only the Rust counts, by our answer
         self.labels = collections.Counter()
-        # pairs with zones, by our answer
-        self.zoned = collections.Counter()
         self.long = collections.Counter()
         self.differences, self.past = 0, collections.Counter()
 
@@ -154,7 +152,6 @@ class Tally:
         self.kinds[kind, value] += 1
         self.ranges += case.range is not None
         self.maps += case.deeper_maps()
-        self.zoned[value] += case.zoned()
         self.long.update(least for least in LONG if case.rows() >= least)
         if first[0]:
             self.refused[first[0]] += 1
@@ -167,7 +164,6 @@ class Tally:
         for kind in KINDS:
             print("  %-24s %8d yes %8d no" % (kind, self.kinds[kind, 1], self.kinds[kind, 0]))
         print("  " + ", ".join("%d of %d rows and more" % (self.long[least], least) for least in LONG) + ", %d with Maps below the root" % self.maps)
-        print("  %d with zones, %d yes and %d no" % (self.zoned.total(), self.zoned[1], self.zoned[0]))
         print("  %d of them ranges; the Rust was asked row by row about %d pairs; by 20 are refused %d, by 21 %d" % (self.ranges, self.by_rows, self.refused[TYPES], self.refused[21]))
         print("  %d have ill-formed text (19), and are none of these" % self.refused[ILL_FORMED])
         print("  %d differ in labels of deeper Maps, which only the Rust counts, and are none of these: our side says yes of %d, no of %d" % (self.labels.total(), self.labels[1], self.labels[0]))

@@ -25,13 +25,13 @@ def map_type(image, node, free):
 
 
 def data_type(image, node, free):
-    """A node's code, parameters and zone, and its fields; of a Dictionary the values' type, which is no field. Where `free`, of
-    a Map what is taken of one at the root."""
+    """A node's code and parameters, and its fields; of a Dictionary the values' type, which is no field. Where `free`, of a Map
+    what is taken of one at the root."""
     record, children = image.nodes[node], image.children(node)
     if record.code == MAP and free:
         return map_type(image, node, free)
     below = [(data_type if record.code == DICTIONARY else field)(image, child, free) for child in children]
-    return (record.code, record.p1, record.p2, image.zone(node), below)
+    return (record.code, record.p1, record.p2, below)
 
 
 def table_type(image, free=False):

@@ -6,17 +6,16 @@ The left image is the refused one. After tests/rust/run has built the programs.
 
 from cases import Case
 from compare import answers
-from image import DEEPEST, LONGEST_ZONE, number, view, with_fields
+from image import DEEPEST, number, view
 from nodes import INT8, INT16, INT32, LARGE_LIST_VIEW, LARGE_UTF8, MAP, RUNS, UTF8
 from nodes import column, dense, dictionary, image, item, list_views, lists, numbers, runs, sparse, structs, texts, views, wide
-from suspects import LONG, as_image
-from zones import stamps
+from suspects import LONG
 
 REFUSED = []
 
 
 def refused(about, left, right=None):
-    REFUSED.append((about, Case(as_image(left), as_image(right or left))))
+    REFUSED.append((about, Case(image(left), image(right or left))))
 
 
 def deep(levels):
@@ -33,8 +32,6 @@ def offsets(values, data, code=UTF8):
 WRONG_PREFIX = number(4, 13) + b"----" + number(4, 0) + number(4, 0)
 
 refused("FixedSizeBinary of width -1", wide([], -1))
-refused("a zone of %d bytes" % (LONGEST_ZONE + 1), stamps([7], b"z" * (LONGEST_ZONE + 1)))
-refused("a zone's place without a zone, beside place 0", with_fields(image(stamps([7])), 0, zone_place=4), stamps([7]))
 refused("depth %d" % (DEEPEST + 1), deep(DEEPEST + 1))
 refused("union ids 3 and 3", sparse([3], item([1], id=3), item([2], id=3)), sparse([3], item([1], id=3), item([9], id=3)))
 refused("a Map's Struct of one", lists([0, 1], structs(1, item([1])), MAP))

@@ -5,12 +5,11 @@ Each entry of SUSPECTS: the Rust's file, what the pair is about, the case, the a
 answer and ours.
 """
 
-from cases import Case, depth_of
-from image import DEEPEST, LONGEST_ZONE, VIEW, header, number, view
+from cases import Case
 from image import MOST_ELEMENTS as MOST
+from image import VIEW, number, view
 from nodes import BINARY, BINARY_VIEW, FIXED_SIZE_BINARY, FLOAT32, FLOAT64, INT16, INT32, INT64, LARGE_LIST, LARGE_LIST_VIEW, LARGE_UTF8, NULL, RUNS, UINT8
 from nodes import booleans, column, dense, dictionary, fixed_lists, image, item, list_views, lists, maps, numbers, runs, sparse, structs, texts, views, wide
-from zones import elsewhere, stamps, zoned
 
 YES, NO = 1, 0
 
@@ -29,13 +28,9 @@ LONG, LONGER = b"thirteen long", b"thirteen longs, and more"
 SUSPECTS, GAPS = [], []
 
 
-def as_image(column):
-    """The image of a column; an image as it is."""
-    return column if isinstance(column, bytes) else image(column)
-
-
 def suspect(file, about, left, right, answer, range=None):
-    SUSPECTS.append((file, about, Case(as_image(left), as_image(right), range), answer))
+    case = Case(image(left), image(right), range)
+    SUSPECTS.append((file, about, case, answer))
 
 
 def gap(file, about, left, right, rust, ours):
@@ -102,81 +97,6 @@ gap(f, "Map under a Dictionary: the key's name", dictionary([0], a_map()), dicti
 gap(f, "Map under a Dictionary: the entries' flag", dictionary([0], a_map()), dictionary([0], a_map(flag=True)), NO, YES)
 gap(f, "Map as a Map's value: the key's name", maps([0, 1], item([1]), a_map(name=b"m")), maps([0, 1], item([1]), a_map(b"k", name=b"m")), NO, YES)
 gap(f, "Map as a Map's key: the value's name", maps([0, 1], a_map(), item([1])), maps([0, 1], a_map(value=b"v"), item([1])), NO, YES)
-
-# zones, which are a part of the type byte for byte
-UTC, PARIS = b"UTC", b"Europe/Paris"
-suspect(f, "no zones", stamps([7, 8]), stamps([9, 7, 8], offset=1), YES)
-suspect(f, "a zone, at an offset", stamps([7, 8], UTC), stamps([9, 7, 8], UTC, offset=1), YES)
-suspect(f, "a zone, another value", stamps([7, 8], UTC), stamps([7, 9], UTC), NO)
-suspect(f, "a zone, another unit", stamps([7], UTC, p1=2), stamps([7], UTC, p1=3), NO)
-suspect(f, "a zone, the root's name and flag", stamps([7], UTC, name=b"a", nullable=True), stamps([7], UTC, name=b"b"), YES)
-suspect(f, "the root's name and its zone exchanged", stamps([7], UTC, name=PARIS), stamps([7], PARIS, name=UTC), NO)
-suspect(f, "no zone and a zone", stamps([7]), stamps([7], UTC), NO)
-suspect(f, "a zone of one zero byte and none", stamps([7], b"\0"), stamps([7]), NO)
-suspect(f, "zones of one zero byte and of two", stamps([7], b"\0"), stamps([7], b"\0\0"), NO)
-suspect(f, "a zone and its beginning", stamps([7], PARIS), stamps([7], PARIS[:-1]), NO)
-suspect(f, "a zone and its end", stamps([7], PARIS), stamps([7], PARIS[-5:]), NO)
-suspect(f, "a zone and a longer one", stamps([7], UTC), stamps([7], b"UTC+1"), NO)
-suspect(f, "zones of another first byte", stamps([7], UTC), stamps([7], b"VTC"), NO)
-suspect(f, "zones of one time, UTC and +00:00", stamps([7], UTC), stamps([7], b"+00:00"), NO)
-suspect(f, "a zone and its hexadecimal text", stamps([7], UTC), stamps([7], b"555443"), NO)
-suspect(f, "zones that differ in the highest bit", stamps([7], b"UTC"), stamps([7], b"UT\xc3"), NO)
-suspect(f, "zones that are no text", stamps([7], b"\xff\xfe\0"), stamps([7], b"\xff\xfe\0"), YES)
-suspect(f, "the longest zones", stamps([7], b"z" * LONGEST_ZONE), stamps([7], b"z" * LONGEST_ZONE), YES)
-suspect(f, "the longest zones, the last byte", stamps([7], b"z" * LONGEST_ZONE), stamps([7], b"z" * (LONGEST_ZONE - 1) + b"Z"), NO)
-suspect(f, "no rows, the same zone", stamps([], UTC), stamps([9], UTC, offset=1), YES)
-suspect(f, "no rows, zones of another case", stamps([], UTC), stamps([], b"utc"), NO)
-suspect(f, "no rows, a zone and none", stamps([], UTC), stamps([]), NO)
-suspect(f, "nulls alone, zones of another case", stamps([7], UTC, bits="0"), stamps([8], b"utc", bits="0"), NO)
-suspect(f, "a range, the same zone", stamps([6, 7, 8], UTC), stamps([7, 8], UTC), YES, (1, 0, 2))
-suspect(f, "a range, the same zone, another value", stamps([6, 7, 8], UTC), stamps([7, 9], UTC), NO, (1, 0, 2))
-
-# the same bytes at other places
-ONE = image(stamps([0x435455], UTC))
-suspect(f, "a zone behind other bytes", ONE, elsewhere(stamps([0x435455], UTC), UTC), YES)
-suspect(f, "a zone at place 0", zoned(ONE, 0, len(header(1, 1))), stamps([0x435455], header(1, 1)), YES)
-suspect(f, "zones at place 0, of other lengths", zoned(ONE, 0, 3), zoned(ONE, 0, 4), NO)
-suspect(f, "a zone over its value", zoned(ONE, ONE.index(number(8, 0x435455)), 3), ONE, YES)
-suspect(f, "zones at one place, of other bytes", ONE, stamps([0x435455], b"CET"), NO)
-TWO = structs(1, stamps([7], UTC, name=b"a"), stamps([8], b"TC", name=b"b"))
-suspect(f, "two zones", TWO, TWO, YES)
-suspect(f, "two zones, the second in the first", TWO, zoned(image(TWO), image(TWO).index(UTC) + 1, 2, 2), YES)
-suspect(f, "two zones at one place, of which one is longer", TWO, zoned(image(TWO), image(TWO).index(UTC), 2, 2), NO)
-suspect(f, "two zones exchanged", TWO, structs(1, stamps([7], b"TC", name=b"a"), stamps([8], UTC, name=b"b")), NO)
-
-
-def deep(stamp):
-    """As deep as a node may stand."""
-    return stamp if depth_of(stamp.type) == DEEPEST else deep(structs(2, stamp))
-
-
-STAMPED = [
-    ("in a List", under_list),
-    ("in a List without rows", lambda stamp: lists([0, 0], stamp)),
-    ("in list views", lambda stamp: list_views([(1, 1), (0, 1)], stamp)),
-    ("in fixed lists", lambda stamp: fixed_lists(1, 2, stamp)),
-    ("in a Struct", lambda stamp: structs(2, item([1, 2]), stamp)),
-    ("in Structs", deep),
-    ("in a sparse union", lambda stamp: sparse([3, 0], stamp, item([1, 2], id=3))),
-    ("in a sparse union, named by no id", lambda stamp: sparse([3], stamp, item([1], id=3))),
-    ("in a dense union", lambda stamp: dense([0, 3], [1, 0], stamp, item([1], id=3))),
-    ("under a Dictionary", lambda stamp: dictionary([1, 0], stamp)),
-    ("under a Dictionary of a Dictionary", lambda stamp: dictionary([0], dictionary([1], stamp))),
-    ("under a Dictionary in a Struct", lambda stamp: structs(1, dictionary([1], stamp))),
-    ("in runs", lambda stamp: runs(3, [2, 3], stamp)),
-    ("as a Map's key", lambda stamp: maps([0, 2], stamp, item([1, 2]))),
-    ("as a Map's value", lambda stamp: maps([0, 2], item([1, 2]), stamp)),
-    ("as a key of a Map in a List", lambda stamp: under_list(maps([0, 2], stamp, item([1, 2])))),
-    ("as a value of a Map in a Struct", lambda stamp: structs(1, maps([0, 2], item([1, 2]), stamp))),
-    ("as a value of a Map under a Dictionary", lambda stamp: dictionary([0], maps([0, 2], item([1, 2]), stamp))),
-    ("as a value of a Map that is a Map's value", lambda stamp: maps([0, 1], item([1]), maps([0, 2], item([1, 2]), stamp))),
-]
-for place, put in STAMPED:
-    suspect(f, "the same zone " + place, put(stamps([7, 8], UTC)), put(stamps([7, 8], UTC)), YES)
-    suspect(f, "zones of another case " + place, put(stamps([7, 8], UTC)), put(stamps([7, 8], b"utc")), NO)
-    suspect(f, "no zone and a zone " + place, put(stamps([7, 8])), put(stamps([7, 8], UTC)), NO)
-suspect(f, "Map at the root: other names, the same zones", maps([0, 1], stamps([7], UTC, name=b"key"), stamps([8], PARIS)), maps([0, 1], stamps([7], UTC, name=b"k"), stamps([8], PARIS), entries=b"e"), YES)
-suspect(f, "Map at the root: other names, the zones exchanged", maps([0, 1], stamps([7], UTC, name=b"key"), stamps([8], PARIS)), maps([0, 1], stamps([7], PARIS, name=b"k"), stamps([8], UTC), entries=b"e"), NO)
 
 f = "null.rs"
 suspect(f, "rows of Null", column(NULL, 3), column(NULL, 3, offset=7), YES)

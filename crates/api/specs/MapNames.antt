@@ -4,7 +4,7 @@ use Rattle.image.specs.declared.answer.Checked.TheVariants.{Accepted}
 use Rattle.image.specs.Bytes.{ascii}
 use Rattle.image.specs.Record.{node_count, code_of, first_child}
 use Rattle.image.specs.Faults.{check_image}
-use Rattle.image.specs.Names.{name_of}
+use Rattle.image.specs.Types.{name_of}
 
 -- node k is a Map whose "entries are named `entries` and its fields `key` and `value`"
 pub record MapNamed (s : List ℕ) (k : ℕ) : Type 0 where

@@ -35,7 +35,7 @@ use Rattle.built.proofs.Accepts.{sum_kept}
 use Rattle.rows.specs.Output.{Fits}
 use Rattle.builder.specs.declared.plan.Planned.TheVariants.{Bytes, TooLong}
 use Rattle.builder.specs.Plan.{child_rows, Lengths, bitmap_size, first_size, second_size, size_of, part_size, place_of, Places, too_many, plan_answer, built_of}
-use Rattle.builder.specs.Front.{length_from, built_flags, built_place, bitmap_from, type_fields, row_fields, table_fields, record_from, entry_from, entries_from, front_from}
+use Rattle.builder.specs.Front.{length_from, built_flags, built_name, bitmap_from, type_fields, row_fields, table_fields, record_from, entry_from, entries_from, front_from}
 use Rattle.builder.proofs.Fronts.{few-buffers}
 
 -- Rows of the type of an accepted image, and the spans of each node's rows.
@@ -197,7 +197,7 @@ module _ {s : List ℕ} {n : ℕ} {rs : Rows} {spans : List ℕ} (scan : Scanned
       length-is q lt = omega (arith, places_are q (omega arith), places_are (suc q) lt)
 
       record_is : (k : ℕ) → k < node_count s → record_from s lengths places k ≡ record_of s rs k
-      unfolding record_from record_of type_fields row_fields table_fields built_flags built_place bitmap_from
+      unfolding record_from record_of type_fields row_fields table_fields built_flags built_name bitmap_from
       record_is k node =
           rw (lengths_are k node, places_are (3 * k) (omega arith), length-is (3 * k) (omega arith)) (simp append_assoc)
 

@@ -1,5 +1,5 @@
 -- What stands before the parts, put field by field and piece by piece.
--- Each list of fields is as long as its widths add up to; header, records, entries, names and zones follow each other.
+-- Each list of fields is as long as its widths add up to; header, records, entries and names follow each other.
 use mathlib.Core.Path.{◌≡◌, refl}
 use mathlib.Core.Bool.{true}
 use mathlib.Core.List.{List, [], ◌++◌}
@@ -8,19 +8,18 @@ use native.Mathlib.Omega.{arith}
 use lib.ListN.{length, length-append}
 use Rattle.image.specs.Ranges.{pieces}
 use Rattle.image.specs.Bytes.{number_bytes, bytes_at}
-use Rattle.image.specs.Record.{node_count, buffer_total, code_of, name_length, name_place, buffer_count, zone_place}
+use Rattle.image.specs.Record.{node_count, buffer_total, code_of, name_length, name_place, buffer_count}
 use Rattle.image.specs.TypeCode.{layout_of}
-use Rattle.image.specs.Names.{name_of, zone_length, zone_of}
+use Rattle.image.specs.Types.{name_of}
 use Rattle.image.specs.Row.{none}
 use Rattle.image.specs.Parse.{readable_code, readable}
-use Rattle.image.specs.Built.{name_and_zone}
 use Rattle.laws.specs.Accepted.{AcceptedImage}
 use Rattle.laws.proofs.Lengths.{number-length, bytes-length}
 use Rattle.built.proofs.TypedColumns.{coded_at}
 use Rattle.built.proofs.Accepts.{two-buffers}
 use Rattle.rows.specs.Output.{over, Fits}
 use Rattle.rows.proofs.Over.{ToPut, put-start, put_as, put-fits, put-more, put_last, put-place, put-done}
-use Rattle.builder.specs.Front.{built_place, type_fields, row_fields, table_fields, record_from, entry_from, entries_from, front_from}
+use Rattle.builder.specs.Front.{type_fields, row_fields, table_fields, record_from, entry_from, entries_from, front_from}
 use Rattle.builder.proofs.Fields.{number_put}
 
 -- Fields.
@@ -33,17 +32,13 @@ pub row-length : (s lengths places : List ℕ) (k : ℕ) → length (row_fields 
 unfolding row_fields
 row-length s lengths places k = simp (length-append, number-length)
 
-pub table-length : (s : List ℕ) (k : ℕ) → length (table_fields s k) ≡ 12
+pub table-length : (s : List ℕ) (k : ℕ) → length (table_fields s k) ≡ 8
 unfolding table_fields
 table-length s k = simp (length-append, number-length)
 
 pub entry_length : (places : List ℕ) (q : ℕ) → length (entry_from places q) ≡ 8
 unfolding entry_from
 entry_length places q = simp (length-append, number-length)
-
--- a place that was found from what was read
-pub place_read : {r len start m p : ℕ} → r ≡ built_place m p → m ≡ len → p ≡ start → r ≡ built_place len start
-place_read e f g = rw (← f, ← g) e
 
 -- A record: its three parts.
 module _ (s lengths places : List ℕ) (k : ℕ) {out : List ℕ} {at : ℕ} (fits : Fits out at (record_from s lengths places k)) where
@@ -77,43 +72,25 @@ unfolding readable_code
 few-buffers s image coded k node =
     two-buffers (layout_of (code_of s k)) (buffer_count s k) (code_of s k) refl (coded_at s image coded none k node) (image.node k node).buffers.exactly
 
--- Names and zones.
+-- Names.
 
--- n bytes of s from a place on
-module _ (s : List ℕ) (place n : ℕ) {out : List ℕ} {at : ℕ} (fits : Fits out at (bytes_at s place n)) where
-  pub copy_none : n ≡ 0 → (at ≡ at + length (bytes_at s place n)) × (out ≡ over out at (bytes_at s place n))
-  unfolding bytes_at
-  copy_none empty =
-      let t : ToPut out at (bytes_at s place n) out at [] = put_as (put-start fits) (rw empty) in
+module _ (s : List ℕ) (k : ℕ) {out : List ℕ} {at : ℕ} (fits : Fits out at (name_of s k)) where
+  pub name-none : {n : ℕ} → n ≡ name_length s k → n ≡ 0 → (at ≡ at + length (name_of s k)) × (out ≡ over out at (name_of s k))
+  unfolding name_of bytes_at
+  name-none e empty =
+      let zero-long : name_length s k ≡ 0 = omega arith in
+      let t : ToPut out at (name_of s k) out at [] = put_as (put-start fits) (rw zero-long) in
       (put-place t, put-done t)
 
-  pub copy_fits : at + n ≤ length out
-  copy_fits = omega (arith, fits.within, bytes-length s place n)
+  pub name-fits : {n : ℕ} → n ≡ name_length s k → at + n ≤ length out
+  unfolding name_of
+  name-fits e = omega (arith, e, fits.within, bytes-length s (name_place s k) (name_length s k))
 
-  pub copy_put : {end : ℕ} {after : List ℕ} → (end ≡ at + n) × (after ≡ over out at (bytes_at s place n)) → (end ≡ at + length (bytes_at s place n)) × (after ≡ over out at (bytes_at s place n))
-  copy_put put = (omega (arith, put.0, bytes-length s place n), put.1)
+  pub name-put : {n place end : ℕ} {after : List ℕ} → n ≡ name_length s k → place ≡ name_place s k → (end ≡ at + n) × (after ≡ over out at (bytes_at s place n)) → (end ≡ at + length (name_of s k)) × (after ≡ over out at (name_of s k))
+  unfolding name_of
+  name-put e f put = (omega (arith, put.0, e, bytes-length s (name_place s k) (name_length s k)), rw (← e, ← f) put.1)
 
--- a name and its zone
-module _ (s : List ℕ) (k : ℕ) {out : List ℕ} {at p n : ℕ} (fits : Fits out at (name_and_zone s k)) (place : p ≡ name_place s k) (size : n ≡ name_length s k) where
-  name-start : ToPut out at (name_and_zone s k) out at (bytes_at s p n ++ zone_of s k)
-  unfolding name_and_zone name_of
-  name-start = put_as (put-start fits) (rw (place, size))
-
-  pub name-fits : Fits out at (bytes_at s p n)
-  name-fits = put-fits _ _ name-start
-
-  module _ {a q m : ℕ} {o : List ℕ} (first : (a ≡ at + length (bytes_at s p n)) × (o ≡ over out at (bytes_at s p n))) (there : q ≡ zone_place s k) (long : m ≡ zone_length s k) where
-    name-put : ToPut out at (name_and_zone s k) o a (bytes_at s q m)
-    unfolding zone_of
-    name-put = rw (there, long) (put-more _ _ name-start first.1 first.0)
-
-    pub zone-fits : Fits o a (bytes_at s q m)
-    zone-fits = record { within = name-put.fits }
-
-    pub zone-put : {b : ℕ} {r : List ℕ} → (b ≡ a + length (bytes_at s q m)) × (r ≡ over o a (bytes_at s q m)) → (b ≡ at + length (name_and_zone s k)) × (r ≡ over out at (name_and_zone s k))
-    zone-put second = put_last name-put second.1 second.0
-
--- Header, records, entries and names with zones.
+-- Header, records, entries and names.
 module _ (s lengths places : List ℕ) where
   abbrev records : List ℕ
   records = pieces (record_from s lengths places) 0 (node_count s)
@@ -122,7 +99,7 @@ module _ (s lengths places : List ℕ) where
   tables = pieces (entries_from s places) 0 (node_count s)
 
   abbrev names : List ℕ
-  names = pieces (name_and_zone s) 0 (node_count s)
+  names = pieces (name_of s) 0 (node_count s)
 
   abbrev Rest : List ℕ → List ℕ → ℕ → List ℕ → Type 0
   Rest out o next rest = ToPut out 0 (front_from s lengths places) o next rest

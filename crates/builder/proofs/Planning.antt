@@ -12,37 +12,33 @@ use lib.Seq.{get_or-set_same, get_or-set_other}
 use lib.Dec.{ltb}
 use borrow.Author.Tests.{lt-ltb, le-ltb, ltb-false}
 use Rattle.image.specs.Ranges.{any, sum_to}
-use Rattle.image.specs.Record.{header_size, record_size, entry_size, longest_image, most_elements, node_count, entry_place, record_place, tables_end}
+use Rattle.image.specs.Record.{longest_image, most_elements, node_count, name_length, entry_place, record_place, tables_end}
 use Rattle.image.specs.Reads.{Read}
-use Rattle.image.specs.Built.{name_and_zone_length, name_start}
+use Rattle.image.specs.Built.{name_start}
 use Rattle.image.proofs.Ranges.{any_below, sum_grows}
 use Rattle.laws.specs.Accepted.{Tables}
 use Rattle.builder.specs.declared.plan.Planned.TheVariants.{Bytes, TooLong}
 use Rattle.builder.specs.Plan.{part_size, place_of, PlacesTo, Places, too_many, plan_answer, PlanOf}
 use Rattle.builder.specs.Front.{Rise}
 
--- The names, each with its zone, one after the other.
-
--- header and tables at their longest
-abbrev longest_tables : ℕ
-longest_tables = header_size + 256 * record_size + 1024 * entry_size
+-- The names, one after the other.
 
 -- of the names before node k's: where the next stands, and that it is near
 pub record Names (s : List ℕ) (end k : ℕ) : Type 0 where
   pub start : end ≡ name_start s k
-  pub near : end ≤ longest_tables + 512 * k
+  pub near : end ≤ 19460 + 256 * k
 
 pub names_start : (s : List ℕ) {end : ℕ} → Tables s → end ≡ tables_end s → Names s end 0
 unfolding name_start sum_to tables_end entry_place record_place
 names_start s t e = record { start = e ∙ sym (add-zero (tables_end s)); near = omega (arith, e, t.few-nodes, t.few-buffers) }
 
-pub names_more : {s : List ℕ} {end k n : ℕ} → Names s end k → Read (name_and_zone_length s k) 9 n → Names s (end + n) (k + 1)
+pub names_more : {s : List ℕ} {end k n : ℕ} → Names s end k → Read (name_length s k) 8 n → Names s (end + n) (k + 1)
 unfolding name_start sum_to
 names_more {s} {end} {k} {n} t r =
     let e : k + 1 ≡ suc k = omega arith in
     record { start = rw e (omega (arith, t.start, r.value)); near = omega (arith, t.near, r.small) }
 
-pub names_done : {s : List ℕ} {end k n : ℕ} → Names s end k → Tables s → n ≡ node_count s → k ≤ n → n ≤ k → Read (name_start s (node_count s)) 18 end
+pub names_done : {s : List ℕ} {end k n : ℕ} → Names s end k → Tables s → n ≡ node_count s → k ≤ n → n ≤ k → Read (name_start s (node_count s)) 17 end
 names_done {s} {end} {k} t tables e le ge =
     let same : k ≡ node_count s = omega arith in
     record { value = rw (← same) t.start; small = omega (arith, t.near, tables.few-nodes) }
@@ -128,7 +124,7 @@ pub record Planning (s lengths spans places : List ℕ) (place q : ℕ) : Type 0
   pub here : place ≡ place_of s lengths spans q
   pub short : place ≤ longest_image
 
-pub planning_start : (s lengths spans places : List ℕ) (place : ℕ) → length places ≡ 769 → Read (name_start s (node_count s)) 18 place → Planning s lengths spans (set places 0 place) place 0
+pub planning_start : (s lengths spans places : List ℕ) (place : ℕ) → length places ≡ 769 → Read (name_start s (node_count s)) 17 place → Planning s lengths spans (set places 0 place) place 0
 unfolding place_of sum_to
 planning_start s lengths spans places place sized r =
     let here : place ≡ name_start s (node_count s) + 0 = omega (arith, r.value) in

@@ -1,11 +1,11 @@
--- What stands before the parts of a built image: header, records, entries, names and zones, from the lengths of its nodes and
--- the places of its parts.
+-- What stands before the parts of a built image: header, records, entries and names, from the lengths of its nodes and the
+-- places of its parts.
 use Rattle.std.specs.Prelude.{cond, List, ◌++◌, ℕ, suc, ◌+◌, ◌*◌, ◌-◌, ◌%◌, ◌<◌, ◌≤◌, ◌≡◌, length, get_or, eqb}
 use Rattle.image.specs.Ranges.{pieces}
 use Rattle.image.specs.Record.{node_count, buffer_total, code_of, flags_of, name_length, p1_of, p2_of, first_child, child_count, first_buffer, buffer_count}
 use Rattle.image.specs.TypeCode.{layout_of, takes_bitmap}
-use Rattle.image.specs.Names.{zone_length}
-use Rattle.image.specs.Built.{name_and_zone, name_start, zone_start, u8, u16, u32}
+use Rattle.image.specs.Types.{name_of}
+use Rattle.image.specs.Built.{name_start, u8, u16, u32}
 
 -- there is a place for each part and for the end, and none lies before the one before it
 pub record Rise (s places : List ℕ) : Type 0 where
@@ -27,15 +27,15 @@ length_from places q = get_or places (suc q) 0 - get_or places q 0
 unfoldable pub built_flags : List ℕ → ℕ → ℕ
 built_flags s k = flags_of s k % 2 + cond (takes_bitmap (layout_of (code_of s k))) 2 0
 
--- where a name or a zone of so many bytes stands, 0 where it has none
-unfoldable pub built_place : ℕ → ℕ → ℕ
-built_place len start = cond (eqb len 0) 0 start
+-- where node k's name stands, 0 where it has none
+unfoldable pub built_name : List ℕ → ℕ → ℕ
+built_name s k = cond (eqb (name_length s k) 0) 0 (name_start s k)
 
 -- where node k's bitmap stands, 0 where the code may have none
 unfoldable pub bitmap_from : List ℕ → List ℕ → ℕ → ℕ
 bitmap_from s places k = cond (takes_bitmap (layout_of (code_of s k))) (get_or places (3 * k) 0) 0
 
--- A record, in three parts: the node's type, its rows with name and bitmap, and its children, buffers and zone.
+-- A record, in three parts: the node's type, its rows with name and bitmap, and its children and buffers.
 unfoldable pub type_fields : List ℕ → ℕ → List ℕ
 type_fields s k =
     u8 (code_of s k)
@@ -49,7 +49,7 @@ unfoldable pub row_fields : List ℕ → List ℕ → List ℕ → ℕ → List 
 row_fields s lengths places k =
     u32 (get_or lengths k 0)
     ++ (u32 0
-    ++ (u32 (built_place (name_length s k) (name_start s k))
+    ++ (u32 (built_name s k)
     ++ (u32 (bitmap_from s places k)
     ++ (u32 (length_from places (3 * k))
     ++ u32 0))))
@@ -59,8 +59,7 @@ table_fields s k =
     u16 (first_child s k)
     ++ (u16 (child_count s k)
     ++ (u16 (first_buffer s k)
-    ++ (u16 (buffer_count s k)
-    ++ u32 (built_place (zone_length s k) (zone_start s k)))))
+    ++ u16 (buffer_count s k)))
 
 unfoldable pub record_from : List ℕ → List ℕ → List ℕ → ℕ → List ℕ
 record_from s lengths places k = type_fields s k ++ (row_fields s lengths places k ++ table_fields s k)
@@ -73,11 +72,11 @@ entry_from places q = u32 (get_or places q 0) ++ u32 (length_from places q)
 unfoldable pub entries_from : List ℕ → List ℕ → ℕ → List ℕ
 entries_from s places k = pieces (entry_from places) (3 * k + 1) (buffer_count s k)
 
--- header, records, entries, names with zones
+-- header, records, entries, names
 unfoldable pub front_from : List ℕ → List ℕ → List ℕ → List ℕ
 front_from s lengths places =
     u16 (node_count s)
     ++ (u16 (buffer_total s)
     ++ (pieces (record_from s lengths places) 0 (node_count s)
     ++ (pieces (entries_from s places) 0 (node_count s)
-    ++ pieces (name_and_zone s) 0 (node_count s))))
+    ++ pieces (name_of s) 0 (node_count s))))

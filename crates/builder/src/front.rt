@@ -1,23 +1,21 @@
-// What stands before the parts of a built image: header, records, entries, names and zones. Each function answers the place
-// after what it put.
-ghost use Rattle.std.specs.Prelude.{◌≡◌, true, ◌+◌, ◌*◌, ◌-◌, ◌<◌, ◌≤◌, ◌^◌, length};
+// What stands before the parts of a built image: header, records, entries and names. Each function answers the place after what
+// it put.
+ghost use Rattle.std.specs.Prelude.{◌≡◌, true, ◌+◌, ◌*◌, ◌-◌, ◌<◌, ◌≤◌, length};
 ghost use Rattle.image.specs.declared.answer.Checked.TheVariants.{Accepted};
 ghost use Rattle.image.specs.Ranges.{pieces};
-ghost use Rattle.image.specs.Bytes.{bytes_at};
 ghost use Rattle.image.specs.Record.{node_count, buffer_count};
 ghost use Rattle.image.specs.Faults.{check_image};
+ghost use Rattle.image.specs.Types.{name_of};
 ghost use Rattle.image.specs.Parse.{readable};
-ghost use Rattle.image.specs.Built.{name_and_zone, name_start};
-ghost use Rattle.laws.specs.Accepted.{AcceptedImage, Named};
+ghost use Rattle.image.specs.Built.{name_start};
+ghost use Rattle.laws.specs.Accepted.{Tables, Named};
 ghost use Rattle.rows.specs.Output.{over, Fits};
-ghost use Rattle.builder.specs.Front.{Rise, NodeFrom, length_from, built_flags, built_place, bitmap_from, type_fields, row_fields, table_fields, record_from, entry_from, entries_from, front_from};
+ghost use Rattle.builder.specs.Front.{Rise, NodeFrom, length_from, built_flags, built_name, bitmap_from, type_fields, row_fields, table_fields, record_from, entry_from, entries_from, front_from};
 
-use crate::plan::name_and_zone;
 use image::bytes::wide;
-use image::names::zone_length;
 use image::record::{
     buffer_count, buffer_total, child_count, code, first_buffer, first_child, flags, name_length,
-    name_place, node_count, p1, p2, tables_end, zone_place,
+    name_place, node_count, p1, p2, tables_end,
 };
 use image::type_code::TypeCode;
 use rows::output::{put_bytes, put_number};
@@ -33,14 +31,15 @@ fn built_flags(image: &[u8], node: u32) -> usize
     nullable
 }
 
-// Where a name or a zone of so many bytes stands, 0 where it has none; `start` is where it would stand.
-fn built_place(len: usize, start: usize) -> usize
-    ensures { result ≡ built_place len start }
+// Where the name of a node stands, 0 where it has none; `name` is where it would stand.
+fn built_name(image: &[u8], node: u32, name: usize) -> usize
+    requires { name ≡ name_start image.now node }
+    ensures { result ≡ built_name image.now node }
 {
-    if len == 0 {
+    if name_length(image, node) == 0 {
         return 0;
     }
-    start
+    name
 }
 
 // Where the bitmap of a node stands, 0 where its code may have none.
@@ -95,25 +94,22 @@ fn put_rows(
     let k = node as usize;
     let a = put_number(out, at, lengths[k], 4);
     let b = put_number(out, a, 0, 4);
-    let c = put_number(out, b, built_place(name_length(image, node), name), 4);
+    let c = put_number(out, b, built_name(image, node, name), 4);
     let d = put_number(out, c, bitmap_from(image, node, places), 4);
     let e = put_number(out, d, length_from(image, places, 3 * k), 4);
     put_number(out, e, 0, 4)
 }
 
-// The last fields: the children, the buffers and the zone's place; `name` is where the name would stand, and the zone behind it.
-fn put_tables(image: &[u8], node: u32, name: usize, out: &mut [u8], at: usize) -> usize
-    requires name_value { (name ≡ name_start image.now node) × (name < 2 ^ 32) }
-    requires fits { Fits out.old at (table_fields image.now node) }
+// The last fields: the children and the buffers.
+fn put_tables(image: &[u8], node: u32, out: &mut [u8], at: usize) -> usize
+    requires { Fits out.old at (table_fields image.now node) }
     ensures value { result ≡ at + length (table_fields image.now node) }
     ensures out_after { out.new ≡ over out.old at (table_fields image.now node) }
 {
     let a = put_number(out, at, first_child(image, node) as usize, 2);
     let b = put_number(out, a, child_count(image, node) as usize, 2);
     let c = put_number(out, b, first_buffer(image, node) as usize, 2);
-    let d = put_number(out, c, buffer_count(image, node) as usize, 2);
-    let zone = name + name_length(image, node);
-    put_number(out, d, built_place(zone_length(image, node), zone), 4)
+    put_number(out, c, buffer_count(image, node) as usize, 2)
 }
 
 // The record of a node; `name` is where its name would stand.
@@ -127,14 +123,14 @@ fn put_record(
     at: usize,
 ) -> usize
     requires node_from { NodeFrom image.now node lengths.now places.now }
-    requires name_value { (name ≡ name_start image.now node) × (name < 2 ^ 32) }
+    requires name_value { name ≡ name_start image.now node }
     requires fits { Fits out.old at (record_from image.now lengths.now places.now node) }
     ensures value { result ≡ at + length (record_from image.now lengths.now places.now node) }
     ensures out_after { out.new ≡ over out.old at (record_from image.now lengths.now places.now node) }
 {
     let rows = put_type(image, node, out, at);
     let tables = put_rows(image, node, lengths, places, name, out, rows);
-    put_tables(image, node, name, out, tables)
+    put_tables(image, node, out, tables)
 }
 
 // The records of all nodes.
@@ -145,7 +141,7 @@ fn put_records(
     out: &mut [u8],
     at: usize,
 ) -> usize
-    requires accepted_image { AcceptedImage image.now }
+    requires tables { Tables image.now }
     requires rise { Rise image.now places.now × (length lengths.now ≡ 256) }
     requires fits { Fits out.old at (pieces (record_from image.now lengths.now places.now) 0 (node_count image.now)) }
     ensures value { result ≡ at + length (pieces (record_from image.now lengths.now places.now) 0 (node_count image.now)) }
@@ -157,7 +153,7 @@ fn put_records(
     let mut k: u32 = 0;
     while k < n {
         next = put_record(image, k, lengths, places, name, out, next);
-        name += name_and_zone(image, k);
+        name += name_length(image, k);
         k += 1;
     }
     next
@@ -211,48 +207,26 @@ fn put_all_entries(image: &[u8], places: &[usize], out: &mut [u8], at: usize) ->
     next
 }
 
-// n bytes of the image, from a place on. Where there are none, the place may be any and is not read.
-fn put_copy(image: &[u8], place: usize, n: usize, out: &mut [u8], at: usize) -> usize
-    requires n_in_bounds { 0 < n → place + n ≤ length image.now }
-    requires fits { Fits out.old at (bytes_at image.now place n) }
-    ensures value { result ≡ at + length (bytes_at image.now place n) }
-    ensures out_after { out.new ≡ over out.old at (bytes_at image.now place n) }
+// The name of a node. A name without bytes may be said to stand anywhere, and is not read.
+fn put_name(image: &[u8], node: u32, out: &mut [u8], at: usize) -> usize
+    requires named { Named image.now node }
+    requires fits { Fits out.old at (name_of image.now node) }
+    ensures value { result ≡ at + length (name_of image.now node) }
+    ensures out_after { out.new ≡ over out.old at (name_of image.now node) }
 {
+    let n = name_length(image, node);
     if n == 0 {
         return at;
     }
-    put_bytes(out, at, image, place, n)
+    put_bytes(out, at, image, name_place(image, node), n)
 }
 
-// The name of a node, and its zone directly after it.
-fn put_name(image: &[u8], node: u32, out: &mut [u8], at: usize) -> usize
-    requires named { Named image.now node }
-    requires fits { Fits out.old at (name_and_zone image.now node) }
-    ensures value { result ≡ at + length (name_and_zone image.now node) }
-    ensures out_after { out.new ≡ over out.old at (name_and_zone image.now node) }
-{
-    let zone = put_copy(
-        image,
-        name_place(image, node),
-        name_length(image, node),
-        out,
-        at,
-    );
-    put_copy(
-        image,
-        zone_place(image, node),
-        zone_length(image, node),
-        out,
-        zone,
-    )
-}
-
-// The names of all nodes, each with its zone.
+// The names of all nodes.
 fn put_names(image: &[u8], out: &mut [u8], at: usize) -> usize
     requires image_value { check_image image.now ≡ Accepted }
-    requires fits { Fits out.old at (pieces (name_and_zone image.now) 0 (node_count image.now)) }
-    ensures value { result ≡ at + length (pieces (name_and_zone image.now) 0 (node_count image.now)) }
-    ensures out_after { out.new ≡ over out.old at (pieces (name_and_zone image.now) 0 (node_count image.now)) }
+    requires fits { Fits out.old at (pieces (name_of image.now) 0 (node_count image.now)) }
+    ensures value { result ≡ at + length (pieces (name_of image.now) 0 (node_count image.now)) }
+    ensures out_after { out.new ≡ over out.old at (pieces (name_of image.now) 0 (node_count image.now)) }
 {
     let n = node_count(image);
     let mut next = at;
@@ -264,7 +238,7 @@ fn put_names(image: &[u8], out: &mut [u8], at: usize) -> usize
     next
 }
 
-// Header, records, entries, names and zones, from the buffer's start on.
+// Header, records, entries and names, from the buffer's start on.
 pub fn put_front(image: &[u8], lengths: &[usize], places: &[usize], out: &mut [u8]) -> usize
     requires image_value { (check_image image.now ≡ Accepted) × (readable image.now ≡ true) }
     requires rise { Rise image.now places.now × (length lengths.now ≡ 256) }

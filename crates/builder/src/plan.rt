@@ -7,12 +7,11 @@ ghost use Rattle.image.specs.Reads.{Read};
 ghost use Rattle.image.specs.Record.{longest_image, most_elements, node_count};
 ghost use Rattle.image.specs.TypeCode.{layout_of};
 ghost use Rattle.image.specs.Faults.{check_image};
-ghost use Rattle.image.specs.Built.{name_and_zone_length, name_start};
-ghost use Rattle.laws.specs.Accepted.{Known, AcceptedImage};
+ghost use Rattle.image.specs.Built.{name_start};
+ghost use Rattle.laws.specs.Accepted.{Tables, AcceptedImage};
 ghost use Rattle.builder.specs.Plan.{Lengths, Filled, child_rows, bit_bytes, bitmap_size, first_size, second_size, part_size, too_many, PlanOf};
 
 use image::element::element_width;
-use image::names::zone_length;
 use image::record::{
     LONGEST_IMAGE, MOST_ELEMENTS, child_count, code, first_child, name_length, node_count,
     tables_end,
@@ -157,24 +156,16 @@ fn too_many(image: &[u8], lengths: &[usize]) -> bool
     false
 }
 
-// How many bytes the name and the zone of a node have.
-pub fn name_and_zone(image: &[u8], node: u32) -> usize
-    requires { Known image.now node }
-    ensures { Read (name_and_zone_length image.now node) 9 result }
-{
-    name_length(image, node) + zone_length(image, node)
-}
-
-// Where names and zones end, which stand one after the other behind the tables.
+// Where the names end, which stand one after the other behind the tables.
 fn names_end(image: &[u8]) -> usize
-    requires { AcceptedImage image.now }
-    ensures { Read (name_start image.now (node_count image.now)) 18 result }
+    requires { Tables image.now }
+    ensures { Read (name_start image.now (node_count image.now)) 17 result }
 {
     let n = node_count(image);
     let mut end = tables_end(image);
     let mut k: u32 = 0;
     while k < n {
-        end += name_and_zone(image, k);
+        end += name_length(image, k);
         k += 1;
     }
     end

@@ -11,29 +11,28 @@ use native.Mathlib.Numerals.{add-one}
 use native.Mathlib.Omega.{arith}
 use lib.ListN.{length}
 use lib.Dec.{eqb, leb, ltb}
-use borrow.Author.Tests.{eq-eqb, ne_eqb, le-leb, lt-leb, le-ltb, ltb-true, eqb-true}
+use borrow.Author.Tests.{eq-eqb, ne_eqb, le-leb, lt-leb, le-ltb, ltb-true}
 use Rattle.image.specs.declared.answer.Checked.TheVariants.{Accepted}
 use Rattle.image.specs.declared.type_code.Layout.{Layout}
 use Rattle.image.specs.declared.type_code.Layout.TheVariants.{Null, Boolean, FixedWidth, VariableSize, View, List as Lists, ListView, FixedList, Struct, DenseUnion, SparseUnion, Dictionary, Runs}
 use Rattle.image.specs.declared.type_code.Count.TheVariants.{Exactly, AtLeast}
 use Rattle.image.specs.Ranges.{first, rises, sum_to}
-use Rattle.image.specs.Record.{node_count, buffer_total, tables_end, record_place, entry_place, code_of, flags_of, name_length, length_of, name_place, bitmap_place, bitmap_length, first_bit, first_child, child_count, buffer_count, zone_place, has_bitmap, elements_of, child_start, buffer_start, buffer_length}
+use Rattle.image.specs.Record.{node_count, buffer_total, tables_end, record_place, entry_place, code_of, flags_of, name_length, length_of, name_place, bitmap_place, bitmap_length, first_bit, first_child, child_count, buffer_count, has_bitmap, elements_of, child_start, buffer_start, buffer_length}
 use Rattle.image.specs.TypeCode.{layout_of, is_text, is_union, takes_bitmap, child_rule, buffer_rule, counts}
-use Rattle.image.specs.Names.{zone_length}
 use Rattle.image.specs.Element.{valid, element_width, element_at, child_end}
-use Rattle.image.specs.Faults.{fault10, stray_place, fault11, level_end, fault12, outside, buffer_outside, misplaced, fault13, whole, not_whole, fault14, under, too_few_elements, fault15, rows_under, child_under, too_few_child_rows, fault16, offsets_rise, offset_fault, fault17, row_fault, fault18, text_row_fault, fault19, fault, first_faulty, numbers_end, check_from, check_image}
+use Rattle.image.specs.Faults.{fault10, fault11, level_end, fault12, outside, buffer_outside, fault13, whole, not_whole, fault14, under, too_few_elements, fault15, rows_under, child_under, too_few_child_rows, fault16, offsets_rise, offset_fault, fault17, row_fault, fault18, text_row_fault, fault19, fault, first_faulty, numbers_end, check_from, check_image}
 use Rattle.image.specs.Row.{Rows}
 use Rattle.image.specs.RowBytes.{count}
 use Rattle.image.proofs.Bools.{and_true, fails_and}
 use Rattle.image.proofs.Ranges.{any_none, first_passes}
 use Rattle.laws.specs.Accepted.{Node}
 use Rattle.image.specs.Parse.{readable_code}
-use Rattle.image.specs.Built.{column, span, part_at, part_length, name_start, zone_start, built_image}
+use Rattle.image.specs.Built.{column, span, part_at, part_length, name_start, built_image}
 use Rattle.built.proofs.Regions.{part-inside}
 use Rattle.built.proofs.Offsets.{sum_over}
 use Rattle.built.specs.Typed.{all_rows, is_row}
 use Rattle.built.specs.Walk.{total}
-use Rattle.built.proofs.Fields.{tables-inside, name-part, zone-part, name-length, zone-length, part-part, nodes-kept, buffers-kept, code-kept, flags-built, id_zero, name_length_kept, p1-kept, p2-kept, offset_zero, first_bit_zero, first_child_kept, child_count_kept, first_buffer_kept, buffer_count_kept, has_bitmap_built, name_place_built, zone_length_kept, zone_place_built, zone_place_none, bitmap_place_built, bitmap_length_built, buffer_place_built, buffer_length_built}
+use Rattle.built.proofs.Fields.{tables-inside, name-part, name-length, part-part, nodes-kept, buffers-kept, code-kept, flags-built, id_zero, name_length_kept, p1-kept, p2-kept, offset_zero, first_bit_zero, first_child_kept, child_count_kept, first_buffer_kept, buffer_count_kept, has_bitmap_built, name_place_built, bitmap_place_built, bitmap_length_built, buffer_place_built, buffer_length_built}
 use Rattle.built.proofs.Columns.{sum_step}
 use Rattle.built.proofs.TypedColumns.{unreadable, not-view, not-list_view, not-fixed_list, not-dense, not-sparse, not-dictionary, not-runs, coded_at}
 use Rattle.built.proofs.Lengths.{total_sum, bitmap-length, list-child, struct-child}
@@ -167,12 +166,11 @@ module _ (s : List ℕ) (rs : Rows) (fit : Fitting s rs) (root : all_rows (is_ro
     coded_here = coded_at s fit.image fit.coded rs k lt
 
     no_11 : fault11 t k ≡ false
-    unfolding fault11 stray_place
+    unfolding fault11
     no_11 =
-        rw (zone_length_kept s rs fit.image fit.bytes fit.short k lt, has_bitmap_built s rs fit.image fit.bytes fit.short k lt, code-kept s rs fit.image fit.bytes fit.short k lt, p1-kept s rs fit.image fit.bytes fit.short k lt, p2-kept s rs fit.image fit.bytes fit.short k lt, flags-built s rs fit.image fit.bytes fit.short k lt)
-        (neither _ _ (neither _ _ (neither _ _ (neither _ _ (neither _ _
+        rw (has_bitmap_built s rs fit.image fit.bytes fit.short k lt, code-kept s rs fit.image fit.bytes fit.short k lt, p1-kept s rs fit.image fit.bytes fit.short k lt, p2-kept s rs fit.image fit.bytes fit.short k lt, flags-built s rs fit.image fit.bytes fit.short k lt)
+        (neither _ _ (neither _ _ (neither _ _ (neither _ _
         (le-ltb 43 (code_of s k) here.known.code) (flags (takes_bitmap (layout_of (code_of s k))))) (not_it _ here.known.p1)) (not_it _ here.known.p2))
-        (fails_and (eqb (zone_length s k) 0) _ (λ none. not_it _ (eq-eqb _ _ (zone_place_none s rs fit.image fit.bytes fit.short k lt (eqb-true _ _ none))))))
         (fails_and (takes_bitmap (layout_of (code_of s k))) _ (λ takes. not_it _ takes)))
       where
         flags : (b : Bool) → ltb 3 (flags_of s k % 2 + cond b 2 0) ≡ false
@@ -195,24 +193,18 @@ module _ (s : List ℕ) (rs : Rows) (fit : Fitting s rs) (root : all_rows (is_ro
         (fails_and (eqb (code_of s k) 42) _ (λ is. absurd (false≢true (sym (no_map s image fit.coded k lt) ∙ is)))))
         (fails_and (eqb (code_of s k) 43) _ (λ is. absurd (false≢true (sym (no_run s image fit.coded k lt) ∙ is)))))
 
-    -- a name or a zone that stands inside, where it has bytes
-    placed : (place len start : ℕ) → (0 < len → place ≡ start) → start + len ≤ length (built_image s rs) → misplaced t place len ≡ false
-    unfolding misplaced outside
-    placed place len start there inside = cases (eq-zero-or-pos len)
-      where
-        cases : (len ≡ 0) ⊎ (0 < len) → not (eqb len 0) && ltb (length t) (place + len) ≡ false
-        cases (inl none) = rw none
-        cases (inr some) = fails_and (not (eqb len 0)) (ltb (length t) (place + len)) (λ is. rw (there some) (le-ltb (length (built_image s rs)) (start + len) inside))
-
     no_13 : fault13 t k ≡ false
-    unfolding fault13
+    unfolding fault13 outside
     no_13 =
-        rw (name_length_kept s rs fit.image fit.bytes fit.short k lt, zone_length_kept s rs fit.image fit.bytes fit.short k lt)
-        (neither _ _ (neither _ _ (le-ltb 64 (name_length s k) here.named.short)
-        (placed (name_place t k) (name_length s k) (name_start s k) (name_place_built s rs fit.image fit.bytes fit.short k lt)
-        (omega (arith, part-inside (name-part s rs fit.image k lt), name-length s k))))
-        (placed (zone_place t k) (zone_length s k) (zone_start s k) (zone_place_built s rs fit.image fit.bytes fit.short k lt)
-        (omega (arith, part-inside (zone-part s rs fit.image k lt), zone-length s k))))
+        rw (name_length_kept s rs fit.image fit.bytes fit.short k lt)
+        (neither _ _ (le-ltb 64 (name_length s k) here.named.short) (cases (eq-zero-or-pos (name_length s k))))
+      where
+        cases : (name_length s k ≡ 0) ⊎ (0 < name_length s k) → not (eqb (name_length s k) 0) && ltb (length t) (name_place t k + name_length s k) ≡ false
+        cases (inl none) = rw none
+        cases (inr some) =
+            fails_and (not (eqb (name_length s k) 0)) (ltb (length t) (name_place t k + name_length s k)) (λ is.
+            rw (name_place_built s rs fit.image fit.bytes fit.short k lt some)
+            (le-ltb (length (built_image s rs)) (name_start s k + name_length s k) (omega (arith, part-inside (name-part s rs fit.image k lt), name-length s k))))
 
     -- a layout that no readable code has
     other : (l : Layout) → unreadable l → layout_of (code_of s k) ≡ l → (P : Type 0) → P

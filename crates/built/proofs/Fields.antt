@@ -12,15 +12,15 @@ use borrow.Author.Tests.{ne_eqb}
 use Rattle.image.specs.Ranges.{sum_to, pieces}
 use Rattle.image.specs.Bytes.{byte_at, AllBytes, number_at, number_bytes}
 use Rattle.image.specs.Record
-use Rattle.image.specs.Record.{record_size, node_count, buffer_total, record_place, entry_place, tables_end, code_of, flags_of, id_of, name_length, p1_of, p2_of, length_of, offset_of, name_place, bitmap_place, bitmap_length, first_bit, first_child, child_count, first_buffer, buffer_count, zone_place, buffer_start, buffer_place, buffer_length, has_bitmap}
+use Rattle.image.specs.Record.{node_count, buffer_total, record_place, entry_place, tables_end, code_of, flags_of, id_of, name_length, p1_of, p2_of, length_of, offset_of, name_place, bitmap_place, bitmap_length, first_bit, first_child, child_count, first_buffer, buffer_count, buffer_start, buffer_place, buffer_length, has_bitmap}
 use Rattle.image.specs.TypeCode.{layout_of, takes_bitmap}
-use Rattle.image.specs.Names.{name_of, zone_length, zone_of}
+use Rattle.image.specs.Types.{name_of}
 use Rattle.image.specs.Row.{Rows}
 use Rattle.image.specs.RowBytes.{count}
 use Rattle.image.proofs.Numbers.{number-two, number_four}
 use Rattle.laws.specs.Accepted.{AcceptedImage}
 use Rattle.laws.proofs.Lengths.{bytes-length}
-use Rattle.image.specs.Built.{column, part_at, part_length, part_start, name_and_zone, name_and_zone_length, name_start, zone_start, record_of, buffer_entry, entries_of, built_image, u16}
+use Rattle.image.specs.Built.{column, part_at, part_length, part_start, name_start, record_of, buffer_entry, entries_of, built_image, u16}
 use Rattle.built.proofs.Regions.{PartOf, part-byte, part-number, part-inside, part_in, part-front, left-part, right-part, pieces-length, pieces-part}
 
 -- a part that stands at the same place, differently said
@@ -45,7 +45,7 @@ module _ (p : ℕ → List ℕ) (w : ℕ) (each : (i : ℕ) → length (p i) ≡
       let j : suc i + k ≡ i + suc k = omega arith in
       rw (← j) (part_at_lem e (part_in (right-part (p i) (pieces p (suc i) n)) (even-part (suc i) n k (omega arith))))
 
-record_length : (s : List ℕ) (rs : Rows) (k : ℕ) → length (record_of s rs k) ≡ record_size
+record_length : (s : List ℕ) (rs : Rows) (k : ℕ) → length (record_of s rs k) ≡ 44
 unfolding record_of number_bytes
 record_length s rs k = refl
 
@@ -60,14 +60,6 @@ entries-length s rs k = even-length (buffer_entry s rs) 8 (entry_length s rs) (3
 pub name-length : (s : List ℕ) (k : ℕ) → length (name_of s k) ≡ name_length s k
 unfolding name_of
 name-length s k = bytes-length s _ _
-
-pub zone-length : (s : List ℕ) (k : ℕ) → length (zone_of s k) ≡ zone_length s k
-unfolding zone_of
-zone-length s k = bytes-length s _ _
-
-both_length : (s : List ℕ) (k : ℕ) → length (name_and_zone s k) ≡ name_and_zone_length s k
-unfolding name_and_zone
-both_length s k = length-append (name_of s k) (zone_of s k) ∙ omega (arith, name-length s k, zone-length s k)
 
 -- eight times a sum
 eightfold : (f : ℕ → ℕ) (n : ℕ) → sum_to (λ i. f i * 8) n ≡ sum_to f n * 8
@@ -88,7 +80,7 @@ module _ (s : List ℕ) (rs : Rows) (image : AcceptedImage s) where
   entries = pieces (entries_of s rs) 0 (node_count s)
 
   names : List ℕ
-  names = pieces (name_and_zone s) 0 (node_count s)
+  names = pieces (name_of s) 0 (node_count s)
 
   parts : List ℕ
   parts = pieces (part_at s rs) 0 (3 * node_count s)
@@ -97,9 +89,9 @@ module _ (s : List ℕ) (rs : Rows) (image : AcceptedImage s) where
   unfolding header number_bytes
   header-length = refl
 
-  records-length : length records ≡ node_count s * record_size
+  records-length : length records ≡ node_count s * 44
   unfolding records
-  records-length = even-length (record_of s rs) record_size (record_length s rs) 0 (node_count s)
+  records-length = even-length (record_of s rs) 44 (record_length s rs) 0 (node_count s)
 
   all_entries_length : length entries ≡ buffer_total s * 8
   unfolding entries buffer_start
@@ -107,9 +99,9 @@ module _ (s : List ℕ) (rs : Rows) (image : AcceptedImage s) where
       pieces-length (entries_of s rs) (λ k. buffer_count s k * 8) (entries-length s rs) (node_count s)
       ∙ eightfold (buffer_count s) (node_count s) ∙ ap (λ (n : ℕ). n * 8) image.buffer-total
 
-  names_length : length names ≡ sum_to (name_and_zone_length s) (node_count s)
+  names_length : length names ≡ sum_to (name_length s) (node_count s)
   unfolding names
-  names_length = pieces-length (name_and_zone s) (name_and_zone_length s) (both_length s) (node_count s)
+  names_length = pieces-length (name_of s) (name_length s) (name-length s) (node_count s)
 
   parts-length : length parts ≡ sum_to (part_length s rs) (3 * node_count s)
   unfolding parts part_length
@@ -155,21 +147,14 @@ module _ (s : List ℕ) (rs : Rows) (image : AcceptedImage s) where
   pub tables-inside : tables_end s ≤ length (built_image s rs)
   tables-inside = omega (arith, part-inside names_part)
 
-  -- each record, name, zone and part
+  -- each record, name and part
   pub record_part : (k : ℕ) → k < node_count s → PartOf (built_image s rs) (record_place k) (record_of s rs k)
   unfolding records record_place
-  record_part k lt = rw (zero-add k) at (part_in records-part (even-part (record_of s rs) record_size (record_length s rs) 0 (node_count s) k lt))
-
-  both_part : (k : ℕ) → k < node_count s → PartOf (built_image s rs) (name_start s k) (name_of s k ++ zone_of s k)
-  unfolding names name_start name_and_zone
-  both_part k lt = part_in names_part (pieces-part (name_and_zone s) (name_and_zone_length s) (both_length s) (node_count s) k lt)
+  record_part k lt = rw (zero-add k) at (part_in records-part (even-part (record_of s rs) 44 (record_length s rs) 0 (node_count s) k lt))
 
   pub name-part : (k : ℕ) → k < node_count s → PartOf (built_image s rs) (name_start s k) (name_of s k)
-  name-part k lt = part_at_lem (add-zero (name_start s k)) (part_in (both_part k lt) (left-part (name_of s k) (zone_of s k)))
-
-  pub zone-part : (k : ℕ) → k < node_count s → PartOf (built_image s rs) (zone_start s k) (zone_of s k)
-  zone-part k lt =
-      part_at_lem (ap (λ (n : ℕ). name_start s k + n) (name-length s k)) (part_in (both_part k lt) (right-part (name_of s k) (zone_of s k)))
+  unfolding names name_start
+  name-part k lt = part_in names_part (pieces-part (name_of s) (name_length s) (name-length s) (node_count s) k lt)
 
   pub part-part : (q : ℕ) → q < 3 * node_count s → PartOf (built_image s rs) (part_start s rs q) (part_at s rs q)
   unfolding parts part_start part_length
@@ -215,10 +200,10 @@ module _ (s : List ℕ) (rs : Rows) (image : AcceptedImage s) (bytes : AllBytes 
   start_small q lt = omega (arith, part-inside (part-part s rs image q lt))
 
   module _ (k : ℕ) (lt : k < node_count s) where
-    field-one : (o : ℕ) → o + 1 ≤ record_size → byte_at (built_image s rs) (record_place k + o) ≡ byte_at (record_of s rs k) o
+    field-one : (o : ℕ) → o + 1 ≤ 44 → byte_at (built_image s rs) (record_place k + o) ≡ byte_at (record_of s rs k) o
     field-one o le = part-byte (record_part s rs image k lt) o (omega (arith, record_length s rs k))
 
-    field : (w o : ℕ) → o + w ≤ record_size → number_at w (built_image s rs) (record_place k + o) ≡ number_at w (record_of s rs k) o
+    field : (w o : ℕ) → o + w ≤ 44 → number_at w (built_image s rs) (record_place k + o) ≡ number_at w (record_of s rs k) o
     field w o le = part-number (record_part s rs image k lt) w o (omega (arith, record_length s rs k))
 
     pub code-kept : code_of (built_image s rs) k ≡ code_of s k
@@ -294,20 +279,6 @@ module _ (s : List ℕ) (rs : Rows) (image : AcceptedImage s) (bytes : AllBytes 
     name_place_built some =
         let named : eqb (name_length s k) 0 ≡ false = ne_eqb (name_length s k) 0 (λ e. omega arith) in
         field 4 20 (omega arith) ∙ rw named (four_bytes (name_start s k) (omega (arith, part-inside (name-part s rs image k lt))))
-
-    pub zone_length_kept : zone_length (built_image s rs) k ≡ zone_length s k
-    unfolding zone_length
-    zone_length_kept = rw (code-kept, p2-kept)
-
-    pub zone_place_built : 0 < zone_length s k → zone_place (built_image s rs) k ≡ zone_start s k
-    unfolding record_of number_bytes number_at
-    zone_place_built some =
-        let zoned : eqb (zone_length s k) 0 ≡ false = ne_eqb (zone_length s k) 0 (λ e. omega arith) in
-        field 4 44 (omega arith) ∙ rw zoned (four_bytes (zone_start s k) (omega (arith, part-inside (zone-part s rs image k lt))))
-
-    pub zone_place_none : zone_length s k ≡ 0 → zone_place (built_image s rs) k ≡ 0
-    unfolding record_of number_bytes number_at
-    zone_place_none none = field 4 44 (omega arith) ∙ rw none
 
     pub bitmap_place_built : takes_bitmap (layout_of (code_of s k)) ≡ true → bitmap_place (built_image s rs) k ≡ part_start s rs (3 * k)
     unfolding record_of number_bytes number_at

@@ -1,4 +1,4 @@
--- "Its types, p1, p2, names and nullable flags are those of the given image", and its zones.
+-- "Its types, p1, p2, names and nullable flags are those of the given image."
 -- Field by field from the records; the types agree by induction over the depth, node for node.
 use mathlib.Core.Path.{◌≡◌, refl, sym, ◌∙◌}
 use mathlib.Core.Bool.{Bool, true, false, cond, not, ◌&&◌, ◌||◌}
@@ -7,17 +7,15 @@ use mathlib.Core.Logic.{◌⊎◌, inl, inr}
 use Prim.Native.Nat.{ℕ, zero, suc, ◌+◌, ◌-◌, ◌%◌, ◌<◌}
 use native.Mathlib.Nat.{eq-zero-or-pos}
 use native.Mathlib.Omega.{arith}
-use lib.ListN.{length}
 use lib.Dec.{eqb}
 use borrow.Author.Tests.{not-true}
 use Rattle.image.specs.Ranges.{every}
 use Rattle.image.specs.Bytes.{bytes_at}
-use Rattle.image.specs.Record.{node_count, code_of, flags_of, id_of, first_child, child_count, nullable}
+use Rattle.image.specs.Record.{node_count, code_of, flags_of, id_of, name_length, name_place, first_child, child_count, nullable}
 use Rattle.image.specs.TypeCode.{layout_of, takes_bitmap, is_union, is_map}
 use Rattle.image.specs.Element.{child_end}
 use Rattle.image.specs.Faults.{union_over, under_union}
-use Rattle.image.specs.Names.{name_of, zone_of}
-use Rattle.image.specs.Types.{types_agree_at, types_agree}
+use Rattle.image.specs.Types.{name_of, types_agree_at, types_agree}
 use Rattle.image.specs.Row.{Rows}
 use Rattle.image.proofs.Bools.{and_left, and_right, when_true}
 use Rattle.image.proofs.Ranges.{every-below, any_none}
@@ -26,8 +24,8 @@ use Rattle.laws.proofs.TypeLaws.{of_level}
 use Rattle.image.specs.Parse.{readable_code, readable}
 use Rattle.image.specs.Built.{built_image}
 use Rattle.built.specs.Theorems.{NodeKept}
-use Rattle.built.proofs.Regions.{PartOf, part-whole}
-use Rattle.built.proofs.Fields.{name-part, zone-part, name-length, zone-length, code-kept, flags-built, id_zero, name_length_kept, p1-kept, p2-kept, first_child_kept, child_count_kept, name_place_built, zone_length_kept, zone_place_built}
+use Rattle.built.proofs.Regions.{part-whole}
+use Rattle.built.proofs.Fields.{name-part, name-length, code-kept, flags-built, id_zero, name_length_kept, p1-kept, p2-kept, first_child_kept, child_count_kept, name_place_built}
 use Rattle.built.proofs.TypedColumns.{code_readable}
 use Rattle.built.proofs.Back.{Fitting}
 
@@ -61,29 +59,15 @@ module _ (s : List ℕ) (image : AcceptedImage s) (coded : readable s ≡ true) 
   without_id k lt = (image.node k lt).tree.without_id (any_none (union_over s k) 0 k (λ j from end. rw (no_union j (omega arith))))
 
 module _ (s : List ℕ) (rs : Rows) (fit : Fitting s rs) where
-  -- n bytes y that stand in the built image, where there are any, and are read at their place
-  copied : {y : List ℕ} {n start place : ℕ} → length y ≡ n → PartOf (built_image s rs) start y → (0 < n → place ≡ start) → bytes_at (built_image s rs) place n ≡ y
-  unfolding bytes_at
-  copied {y} {n} {start} {place} size part there = cases (eq-zero-or-pos n)
-    where
-      whole : bytes_at (built_image s rs) start n ≡ y
-      whole = rw size at (part-whole part)
-
-      cases : (n ≡ 0) ⊎ (0 < n) → bytes_at (built_image s rs) place n ≡ y
-      cases (inl none) = rw none (rw none at whole)
-      cases (inr some) = rw (there some) whole
-
   name-kept : (k : ℕ) → k < node_count s → name_of (built_image s rs) k ≡ name_of s k
-  unfolding name_of
-  name-kept k lt =
-      rw (name_length_kept s rs fit.image fit.bytes fit.short k lt)
-      (copied (name-length s k) (name-part s rs fit.image k lt) (name_place_built s rs fit.image fit.bytes fit.short k lt))
-
-  zone-kept : (k : ℕ) → k < node_count s → zone_of (built_image s rs) k ≡ zone_of s k
-  unfolding zone_of
-  zone-kept k lt =
-      rw (zone_length_kept s rs fit.image fit.bytes fit.short k lt)
-      (copied (zone-length s k) (zone-part s rs fit.image k lt) (zone_place_built s rs fit.image fit.bytes fit.short k lt))
+  unfolding name_of bytes_at
+  name-kept k lt = rw (name_length_kept s rs fit.image fit.bytes fit.short k lt) (cases (eq-zero-or-pos (name_length s k)))
+    where
+      cases : (name_length s k ≡ 0) ⊎ (0 < name_length s k) → bytes_at (built_image s rs) (name_place (built_image s rs) k) (name_length s k) ≡ bytes_at s (name_place s k) (name_length s k)
+      cases (inl none) = rw none
+      cases (inr some) =
+          let there = part-whole (name-part s rs fit.image k lt) in
+          rw (name_place_built s rs fit.image fit.bytes fit.short k lt some) (rw (name-length s k) at there)
 
   flag-kept : (k : ℕ) → k < node_count s → nullable (built_image s rs) k ≡ nullable s k
   unfolding nullable
@@ -104,7 +88,6 @@ module _ (s : List ℕ) (rs : Rows) (fit : Fitting s rs) where
         p1 = p1-kept s rs fit.image fit.bytes fit.short k lt;
         p2 = p2-kept s rs fit.image fit.bytes fit.short k lt;
         name = name-kept k lt;
-        zone = zone-kept k lt;
         flag = flag-kept k lt;
         id = id_zero s rs fit.image fit.bytes fit.short k lt ∙ sym (without_id s fit.image fit.coded k lt);
         first = first_child_kept s rs fit.image fit.bytes fit.short k lt;
@@ -118,7 +101,7 @@ module _ (s : List ℕ) (rs : Rows) (fit : Fitting s rs) where
       let here = node_kept k lt in
       let child : (c : ℕ) → c < child_count s k → first_child s k + c < node_count s = λ c few. omega (arith, (fit.image.node k lt).tree.ends) in
       of_level d p s (built_image s rs) k k (record {
-        heads = record { code = sym here.code; p1 = sym here.p1; p2 = sym here.p2; children = sym here.children; zone = sym here.zone };
+        heads = record { code = sym here.code; p1 = sym here.p1; p2 = sym here.p2; children = sym here.children };
         labels = λ c few.
             let below = node_kept (first_child s k + c) (child c few) in
             rw here.first (record { name = λ on. sym below.name; flag = λ on. sym below.flag; id = λ on. sym below.id });

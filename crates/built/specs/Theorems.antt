@@ -3,8 +3,7 @@
 use Rattle.std.specs.Prelude.{◌≡◌, true, List, [], ◌++◌, ℕ, ◌+◌, ◌≤◌, ◌<◌, length, take, drop}
 use Rattle.image.specs.declared.answer.Checked.TheVariants.{Accepted}
 use Rattle.image.specs.Record.{max_depth, node_count, code_of, id_of, p1_of, p2_of, length_of, first_child, child_count, nullable}
-use Rattle.image.specs.Names.{name_of, zone_of}
-use Rattle.image.specs.Types.{types_agree}
+use Rattle.image.specs.Types.{name_of, types_agree}
 use Rattle.image.specs.Row.{Rows, table_rows}
 use Rattle.image.specs.RowBytes.{count, rows_bytes, range_bytes}
 use Rattle.image.specs.Faults.{check_image}
@@ -19,13 +18,12 @@ pub record BytesOf (s : List ℕ) (n : ℕ) (b : List ℕ) (rs : Rows) : Type 0 
   pub many : count rs ≡ n
   pub bytes : rows_bytes rs ≡ b
 
--- "Its types, p1, p2, names and nullable flags are those of the given image", its zones too: node k of t, and of the given image s
+-- "Its types, p1, p2, names and nullable flags are those of the given image": node k of t, and of the given image s
 pub record NodeKept (s t : List ℕ) (k : ℕ) : Type 0 where
   pub code : code_of t k ≡ code_of s k
   pub p1 : p1_of t k ≡ p1_of s k
   pub p2 : p2_of t k ≡ p2_of s k
   pub name : name_of t k ≡ name_of s k
-  pub zone : zone_of t k ≡ zone_of s k
   pub flag : nullable t k ≡ nullable s k
   pub id : id_of t k ≡ id_of s k
   pub first : first_child t k ≡ first_child s k

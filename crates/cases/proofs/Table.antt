@@ -1,5 +1,4 @@
--- Cases P1 to P10 and those of the first unequal row, of text, of fewer digits, of Map names and of zones hold: each call of the table has the answer that
--- stands beside it.
+-- Cases P1 to P10 and those of the first unequal row, of text, of fewer digits and of Map names hold: each call of the table has the answer that stands beside it.
 -- One test over the whole table is computed; the test of two lists is their equality, which gives each case.
 use mathlib.Core.Path.{◌≡◌, refl, sym, subst}
 use mathlib.Core.Bool.{Bool, true, ◌&&◌, false≢true}
@@ -12,7 +11,6 @@ use Rattle.image.specs.Ranges
 use Rattle.image.specs.Bytes
 use Rattle.image.specs.Record
 use Rattle.image.specs.TypeCode
-use Rattle.image.specs.Names
 use Rattle.image.specs.Element
 use Rattle.image.specs.Utf8
 use Rattle.image.specs.Faults
@@ -57,8 +55,8 @@ each_holds (x ∷ xs) e c (Memᴰ.tail m) =
 -- The test over the table. The line names all that it computes with.
 pub all_pass : passes cases ≡ true
 unfolding passes
-    Build.beside Build.all_beside Build.column Build.named Build.placed Build.record_bytes Build.records Build.buffer_entries
-    Build.entries Build.buffers_of Build.image_of Build.image Build.field Build.nullable Build.timestamp_with Build.timestamp Build.stored
+    Build.beside Build.all_beside Build.column Build.placed Build.record_bytes Build.records Build.buffer_entries
+    Build.entries Build.buffers_of Build.image_of Build.image Build.field Build.nullable Build.stored
     Build.numbers Build.text_offsets Build.texts Build.lists Build.bits Build.masked
     Calls.told Calls.answer
     Cases.session Cases.session_left Cases.session_right Cases.list_of Cases.runs_of Cases.dictionary_of Cases.float_of
@@ -67,8 +65,7 @@ unfolding passes
     Cases.bytes_of Cases.text_of Cases.view_of Cases.unused_half Cases.half_and_key Cases.letter Cases.half Cases.text_cases
     Cases.decimal32_of Cases.decimal64_of Cases.frequencies Cases.other_frequencies Cases.struct_of_decimal Cases.digit_cases
     Cases.other_labels Cases.other_name Cases.other_flag Cases.other_key_flag Cases.other_value_flag Cases.struct_of Cases.label_cases
-    Cases.named Cases.name_cases
-    Cases.stamped Cases.zoned Cases.in_struct Cases.letters Cases.zone_cases Cases.cases
+    Cases.named Cases.name_cases Cases.cases
     Ranges.any Ranges.every Ranges.first Ranges.sum_to Ranges.rises
     Bytes.ascii Bytes.number_at Bytes.number_bytes Bytes.bit_at Bytes.bytes_at
     Record.record_place Record.entry_place Record.tables_end Record.nullable Record.has_bitmap Record.elements_of
@@ -78,12 +75,12 @@ unfolding passes
     Element.valid Element.element_width Element.element_place Element.element_at Element.run_end_width Element.run_end_at
     Element.view_length Element.view_data Element.text_at Element.ends_above Element.run_at
     Utf8.char Utf8.octets Utf8.well_formed
-    Faults.fault10 Faults.stray_place Faults.fault11 Faults.level_end Faults.map_entries Faults.run_ends Faults.fault12 Faults.outside
-    Faults.buffer_outside Faults.misplaced Faults.fault13 Faults.whole Faults.fault14 Faults.under Faults.fault15 Faults.rows_under
+    Faults.fault10 Faults.fault11 Faults.level_end Faults.map_entries Faults.run_ends Faults.fault12 Faults.outside
+    Faults.buffer_outside Faults.fault13 Faults.whole Faults.fault14 Faults.under Faults.fault15 Faults.rows_under
     Faults.child_under Faults.fault16 Faults.offsets_rise Faults.fault17 Faults.key_outside Faults.run_ends_rise
     Faults.last_end_below Faults.nonzero Faults.padding_nonzero Faults.view_fault Faults.view_row_fault Faults.key_row_fault Faults.fault18 Faults.text_row_fault Faults.fault19 Faults.fault Faults.first_faulty Faults.check_from
     Faults.check_image
-    Names.name_of Names.zone_length Names.zone_of Types.same_bytes Types.unlabelled Types.counted_for Types.labels_agree Types.heads_agree Types.types_agree_at Types.types_agree
+    Types.same_bytes Types.name_of Types.unlabelled Types.counted_for Types.labels_agree Types.heads_agree Types.types_agree_at Types.types_agree
     MapNames.named MapNames.map_named MapNames.maps_named
     Row.range Row.fixed_row Row.variable_row Row.list_row Row.struct_row Row.dictionary_row Row.run_row Row.row_at
     Row.table_rows

@@ -6,7 +6,7 @@ use Prim.Native.String.{String}
 use Rattle.image.specs.Bytes.{number_bytes, ascii}
 use Rattle.image.specs.Record.{record_place}
 
--- A column's type, name, nullable flag (1 or 0), id under a union, and zone. A negative p1 or p2 is written as 2 ^ 32 more.
+-- A column's type, name, nullable flag (1 or 0) and id under a union. A negative p1 or p2 is written as 2 ^ 32 more.
 pub record Field : Type 0 where
   pub code : ℕ
   pub p1 : ℕ
@@ -14,7 +14,6 @@ pub record Field : Type 0 where
   pub name : List ℕ
   pub flag : ℕ
   pub id : ℕ
-  pub zone : List ℕ
 
 -- What a column stores: its rows' number, its offset, the bytes of its bitmap (none: no bitmap) and its buffers.
 pub record Stored : Type 0 where
@@ -63,13 +62,9 @@ abbrev pub if_any : List ℕ → ℕ → ℕ
 if_any [] x = 0
 if_any (b ∷ bs) x = x
 
--- a node's name, and its zone directly after it
-unfoldable pub named : Node → List ℕ
-named x = x.field.name ++ x.field.zone
-
--- what a node places after the tables: its buffers, its bitmap, its name and its zone
+-- what a node places after the tables: its buffers, its bitmap and its name
 unfoldable pub placed : Node → List ℕ
-placed x = flatten x.stored.buffers ++ x.stored.bitmap ++ named x
+placed x = flatten x.stored.buffers ++ x.stored.bitmap ++ x.field.name
 
 -- the bytes of a node's record, from its flags, its first child, its first buffer and the places of its bitmap and its name
 unfoldable pub record_bytes : Node → ℕ → ℕ → ℕ → ℕ → ℕ → List ℕ
@@ -90,7 +85,6 @@ record_bytes x flags child buffer bitmap_place name_place =
     ++ u16 x.children
     ++ u16 buffer
     ++ u16 (length x.stored.buffers)
-    ++ u32 (if_any x.field.zone (name_place + length x.field.name))
 
 -- the records of nodes in turn, from the first child, the first buffer and the place of the bytes of the first
 unfoldable pub records : ℕ → ℕ → ℕ → List Node → List ℕ
@@ -125,8 +119,8 @@ image_of xs =
 unfoldable pub image : Column → List ℕ
 image c = image_of (flatten c)
 
--- The image that written rows make: "Names come first in node order, then each node's bitmap and buffers, without gaps",
--- "each zone directly after its node's name", and "bitmaps stand wherever a code may have one", also one of no bytes.
+-- The image that written rows make: "Names come first in node order, then each node's bitmap and buffers, without gaps", and
+-- "bitmaps stand wherever a code may have one", also one of no bytes.
 
 -- 0 at code 0, which has no bitmap
 abbrev pub unless_null : Node → ℕ → ℕ
@@ -141,7 +135,7 @@ unfoldable pub built_records : ℕ → ℕ → ℕ → ℕ → List Node → Lis
 built_records child buffer name place [] = []
 built_records child buffer name place (x ∷ xs) =
     record_bytes x (x.field.flag + unless_null x 2) child buffer (unless_null x place) name
-    ++ built_records (child + x.children) (buffer + length x.stored.buffers) (name + length (named x)) (place + length (parts x)) xs
+    ++ built_records (child + x.children) (buffer + length x.stored.buffers) (name + length x.field.name) (place + length (parts x)) xs
 
 unfoldable pub built_entries : ℕ → List Node → List ℕ
 built_entries place [] = []
@@ -152,7 +146,7 @@ unfoldable pub built_of : List Node → List ℕ
 built_of xs =
     let n = length xs in
     let m = length (buffers_of xs) in
-    let names = flat_map named xs in
+    let names = flat_map (λ x. x.field.name) xs in
     let name = record_place n + m * 8 in
     let place = name + length names in
     u16 n ++ u16 m ++ built_records 1 0 name place xs ++ built_entries place xs ++ names ++ flat_map parts xs
@@ -163,18 +157,10 @@ built_image c = built_of (flatten c)
 -- Fields: a code, its p1 and a name.
 
 unfoldable pub field : ℕ → ℕ → String → Field
-field c p s = record { code = c; p1 = p; p2 = 0; name = ascii s; flag = 0; id = 0; zone = [] }
+field c p s = record { code = c; p1 = p; p2 = 0; name = ascii s; flag = 0; id = 0 }
 
 unfoldable pub nullable : Field → Field
-nullable f = record { code = f.code; p1 = f.p1; p2 = f.p2; name = f.name; flag = 1; id = f.id; zone = f.zone }
-
--- a Timestamp of unit ms and this name, whose p2 and zone are any
-unfoldable pub timestamp_with : String → ℕ → List ℕ → Field
-timestamp_with name len zone = record { code = 21; p1 = 1; p2 = len; name = ascii name; flag = 0; id = 0; zone = zone }
-
--- with this zone
-unfoldable pub timestamp : String → String → Field
-timestamp name zone = timestamp_with name (length (ascii zone)) (ascii zone)
+nullable f = record { code = f.code; p1 = f.p1; p2 = f.p2; name = f.name; flag = 1; id = f.id }
 
 -- What columns store.
 

@@ -1,10 +1,9 @@
--- Cases P1 to P10 of document 01 ("Pairs from the proof desk"), cases of the first unequal row, of text, of fewer digits, of Map
--- names and of zones: their images, their calls and the answers, one table. Each image is laid out from a description of its Arrow
--- columns.
+-- Cases P1 to P10 of document 01 ("Pairs from the proof desk"), cases of the first unequal row, of text, of fewer digits and of Map
+-- names: their images, their calls and the answers, one table. Each image is laid out from a description of its Arrow columns.
 use mathlib.Core.List.{List, [], ◌∷◌, ◌++◌, flat_map}
-use Rattle.std.specs.Prelude.{ℕ, zero, suc, ◌*◌, ◌-◌, ◌^◌, length, replicate}
+use Rattle.std.specs.Prelude.{ℕ, zero, suc, ◌*◌, ◌-◌, ◌^◌, length}
 use Prim.Native.String.{String}
-use Rattle.cases.specs.Build.{Column, Field, Stored, u32, column, image, field, nullable, stored, numbers, texts, lists, masked, timestamp_with, timestamp}
+use Rattle.cases.specs.Build.{Column, Field, Stored, u32, column, image, field, nullable, stored, numbers, texts, lists, masked}
 use Rattle.cases.specs.Calls.{check, compare, compare_range, difference, compare_digits, map_names, write, accepted, equal, unequal, have_names, other_names, nowhere, at_row, refused, written, too_long, Case, ◌answers◌}
 
 -- The type codes that the cases use.
@@ -67,8 +66,7 @@ session_left = session 0
 unfoldable pub session_right : List ℕ
 session_right = session 9
 
--- the bytes of the session's first line after its frame byte, its places moved "by four"; the second line differs in the last four
--- only
+-- the bytes of the session's first line after its frame byte; the second line differs in the last four only
 unfoldable pub session_line : List ℕ → List ℕ
 session_line end =
     (0x01 ∷ 0x00 ∷ 0x01 ∷ 0x00 ∷ [])
@@ -78,13 +76,12 @@ session_line end =
     ++ (0x03 ∷ 0x00 ∷ 0x00 ∷ 0x00 ∷ [])
     ++ (0x00 ∷ 0x00 ∷ 0x00 ∷ 0x00 ∷ [])
     ++ (0x00 ∷ 0x00 ∷ 0x00 ∷ 0x00 ∷ [])
-    ++ (0x3f ∷ 0x00 ∷ 0x00 ∷ 0x00 ∷ [])
+    ++ (0x3b ∷ 0x00 ∷ 0x00 ∷ 0x00 ∷ [])
     ++ (0x01 ∷ 0x00 ∷ 0x00 ∷ 0x00 ∷ [])
     ++ (0x00 ∷ 0x00 ∷ 0x00 ∷ 0x00 ∷ [])
     ++ (0x01 ∷ 0x00 ∷ 0x00 ∷ 0x00 ∷ [])
     ++ (0x00 ∷ 0x00 ∷ 0x01 ∷ 0x00 ∷ [])
-    ++ (0x00 ∷ 0x00 ∷ 0x00 ∷ 0x00 ∷ [])
-    ++ (0x3c ∷ 0x00 ∷ 0x00 ∷ 0x00 ∷ [])
+    ++ (0x38 ∷ 0x00 ∷ 0x00 ∷ 0x00 ∷ [])
     ++ (0x03 ∷ 0x00 ∷ 0x00 ∷ 0x00 ∷ [])
     ++ end
 
@@ -415,54 +412,6 @@ name_cases =
     ∷ map_names [] answers refused 10 0 0
     ∷ []
 
--- One Timestamp of that field: the root, the value of a Map, a field of a Struct.
-unfoldable pub stamped : Field → Column
-stamped f = leaf f (numbers 8 (5 ∷ []))
-
-unfoldable pub zoned : String → List ℕ
-zoned zone = image (stamped (timestamp "" zone))
-
-unfoldable pub in_struct : Column → List ℕ
-in_struct c = image (column (field struct 0 "") (stored 1 []) (c ∷ []))
-
--- so many bytes
-unfoldable pub letters : ℕ → List ℕ
-letters n = replicate n 65
-
--- "Zones are part of the type, byte for byte."
-unfoldable pub zone_cases : List Case
-zone_cases =
-    check (zoned "UTC") answers accepted
-    -- the same zone at another place, behind the root's name; then no zone, another case, more, fewer bytes
-    ∷ compare (zoned "UTC") (image (stamped (timestamp "at" "UTC"))) answers equal
-    ∷ compare (zoned "") (zoned "") answers equal
-    ∷ compare (zoned "UTC") (zoned "") answers unequal
-    ∷ compare (zoned "UTC") (zoned "utc") answers unequal
-    ∷ compare (zoned "UTC") (zoned "UTC+1") answers unequal
-    ∷ compare_range (zoned "UTC") (zoned "utc") 0 0 1 answers refused 20 0 0
-    ∷ difference (zoned "UTC") (zoned "UT") 0 0 1 answers refused 20 0 0
-    -- at every node, where names do not count too
-    ∷ compare (in_list (stamped (timestamp "item" "UTC"))) (in_list (stamped (timestamp "item" "UTC"))) answers equal
-    ∷ compare (in_list (stamped (timestamp "item" "UTC"))) (in_list (stamped (timestamp "item" "Utc"))) answers unequal
-    ∷ compare (in_struct (stamped (timestamp "a" "UTC"))) (in_struct (stamped (timestamp "a" ""))) answers unequal
-    ∷ compare (in_dictionary (stamped (timestamp "a" "UTC"))) (in_dictionary (stamped (timestamp "b" "UTC"))) answers equal
-    ∷ compare (in_dictionary (stamped (timestamp "" "UTC"))) (in_dictionary (stamped (timestamp "" "GMT"))) answers unequal
-    ∷ compare (image (in_map (stamped (timestamp "a" "UTC")))) (image (in_map (stamped (timestamp "b" "UTC")))) answers equal
-    ∷ compare (image (in_map (stamped (timestamp "" "UTC")))) (image (in_map (stamped (timestamp "" "GMT")))) answers unequal
-    -- 64 bytes; 65, and a negative length
-    ∷ check (image (stamped (timestamp_with "" 64 (letters 64)))) answers accepted
-    ∷ check (image (stamped (timestamp_with "" 65 (letters 65)))) answers refused 11 0 0
-    ∷ check (image (stamped (timestamp_with "" minus_one (letters 1)))) answers refused 11 0 0
-    -- a place where there is no zone: of a Timestamp, and of an Int8 below a List
-    ∷ check (image (stamped (timestamp_with "" 0 (letters 1)))) answers refused 11 0 0
-    ∷ check (in_list (leaf (record { code = int8; p1 = 0; p2 = 0; name = []; flag = 0; id = 0; zone = letters 1 }) (numbers 1 (5 ∷ [])))) answers refused 11 0 1
-    -- a zone at place 0; the image's last bytes, and one more
-    ∷ check (image (stamped (timestamp_with "" 4 []))) answers accepted
-    ∷ check (image (stamped (timestamp_with "" 3 (letters 3)))) answers accepted
-    ∷ check (image (stamped (timestamp_with "" 4 (letters 3)))) answers refused 13 0 0
-    ∷ check (in_list (stamped (timestamp_with "" 4 (letters 3)))) answers refused 13 0 1
-    ∷ []
-
 -- the table
 unfoldable pub cases : List Case
-cases = p1 ++ p2 ++ p3 ++ p4 ++ p5 ++ p6 ++ p7 ++ p8 ++ p9 ++ p10 ++ differences ++ text_cases ++ digit_cases ++ label_cases ++ name_cases ++ zone_cases
+cases = p1 ++ p2 ++ p3 ++ p4 ++ p5 ++ p6 ++ p7 ++ p8 ++ p9 ++ p10 ++ differences ++ text_cases ++ digit_cases ++ label_cases ++ name_cases

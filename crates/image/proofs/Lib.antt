@@ -4,8 +4,8 @@ pub mod CodeTable
 pub mod Compare
 pub mod Entries
 pub mod Loops
+pub mod NameBytes
 pub mod Numbers
 pub mod Ranges
 pub mod RunEnds
-pub mod SameBytes
 pub mod Widths

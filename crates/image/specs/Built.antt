@@ -7,8 +7,8 @@ use Rattle.image.specs.Ranges.{first, sum_to, pieces}
 use Rattle.image.specs.Bytes.{byte_at, number_bytes}
 use Rattle.image.specs.Record.{node_count, buffer_total, tables_end, code_of, flags_of, name_length, p1_of, p2_of, first_child, child_count, first_buffer, buffer_count}
 use Rattle.image.specs.TypeCode.{layout_of, takes_bitmap}
-use Rattle.image.specs.Names.{name_of, zone_length, zone_of}
 use Rattle.image.specs.Element.{element_width, child_end}
+use Rattle.image.specs.Types.{name_of}
 use Rattle.image.specs.Row.{Row, Rows, null, fixed, sized, joined, counted, tagged, none, more, one, rows_then}
 use Rattle.image.specs.RowBytes.{count}
 
@@ -169,21 +169,11 @@ node_part s k rows i = get_or (parts_of s k rows) i []
 unfoldable pub part_at : List ℕ → Rows → ℕ → List ℕ
 part_at s rs q = node_part s (q / 3) (column s rs (q / 3)) (q % 3)
 
--- Where names, zones and parts stand.
+-- Where names and parts stand.
 
--- "each zone directly after its node's name"
-unfoldable pub name_and_zone : List ℕ → ℕ → List ℕ
-name_and_zone s k = name_of s k ++ zone_of s k
-
-abbrev pub name_and_zone_length : List ℕ → ℕ → ℕ
-name_and_zone_length s k = name_length s k + zone_length s k
-
--- "Names come first in node order": where node k's name would stand, and where its zone would
+-- "Names come first in node order": where node k's name would stand
 unfoldable pub name_start : List ℕ → ℕ → ℕ
-name_start s k = tables_end s + sum_to (name_and_zone_length s) k
-
-abbrev pub zone_start : List ℕ → ℕ → ℕ
-zone_start s k = name_start s k + name_length s k
+name_start s k = tables_end s + sum_to (name_length s) k
 
 unfoldable pub part_length : List ℕ → Rows → ℕ → ℕ
 part_length s rs q = length (part_at s rs q)
@@ -203,7 +193,7 @@ u16 x = number_bytes 2 x
 abbrev pub u32 : ℕ → List ℕ
 u32 x = number_bytes 4 x
 
--- node k's record: "Node offsets are 0", "unread fields .. are 0"; and of the zone's place "zero for other codes and without a zone"
+-- the 44 bytes of node k's record: "Node offsets are 0", "unread fields .. are 0"
 unfoldable pub record_of : List ℕ → Rows → ℕ → List ℕ
 record_of s rs k =
     let bitmap = takes_bitmap (layout_of (code_of s k)) in
@@ -223,7 +213,6 @@ record_of s rs k =
     ++ u16 (child_count s k)
     ++ u16 (first_buffer s k)
     ++ u16 (buffer_count s k)
-    ++ u32 (cond (eqb (zone_length s k) 0) 0 (zone_start s k))
 
 -- the entry of a buffer that is part q
 unfoldable pub buffer_entry : List ℕ → Rows → ℕ → List ℕ
@@ -233,12 +222,12 @@ buffer_entry s rs q = u32 (part_start s rs q) ++ u32 (part_length s rs q)
 unfoldable pub entries_of : List ℕ → Rows → ℕ → List ℕ
 entries_of s rs k = pieces (buffer_entry s rs) (3 * k + 1) (buffer_count s k)
 
--- header, records, entries, names with zones, parts
+-- header, records, entries, names, parts
 unfoldable pub built_image : List ℕ → Rows → List ℕ
 built_image s rs =
     u16 (node_count s)
     ++ u16 (buffer_total s)
     ++ pieces (record_of s rs) 0 (node_count s)
     ++ pieces (entries_of s rs) 0 (node_count s)
-    ++ pieces (name_and_zone s) 0 (node_count s)
+    ++ pieces (name_of s) 0 (node_count s)
     ++ pieces (part_at s rs) 0 (3 * node_count s)

@@ -7,9 +7,8 @@ use Rattle.image.specs.declared.type_code.Layout.{Layout}
 use Rattle.image.specs.declared.type_code.Layout.TheVariants.{Null, Boolean, FixedWidth, VariableSize, View, List as Lists, ListView, FixedList, Struct, DenseUnion, SparseUnion, Dictionary, Runs}
 use Rattle.image.specs.Ranges.{any, first, rises}
 use Rattle.image.specs.Bytes.{byte_at, number_at}
-use Rattle.image.specs.Record.{longest_image, most_elements, header_size, max_depth, node_count, buffer_total, tables_end, code_of, flags_of, id_of, name_length, p1_of, p2_of, length_of, offset_of, name_place, bitmap_place, bitmap_length, first_bit, first_child, child_count, first_buffer, buffer_count, zone_place, has_bitmap, elements_of, child_start, buffer_start, buffer_place, buffer_length}
+use Rattle.image.specs.Record.{longest_image, most_elements, header_size, max_depth, node_count, buffer_total, tables_end, code_of, flags_of, id_of, name_length, p1_of, p2_of, length_of, offset_of, name_place, bitmap_place, bitmap_length, first_bit, first_child, child_count, first_buffer, buffer_count, has_bitmap, elements_of, child_start, buffer_start, buffer_place, buffer_length}
 use Rattle.image.specs.TypeCode.{layout_of, p1_fits, p2_fits, is_text, is_union, is_map, key_signed, sign_bit, takes_bitmap, child_rule, buffer_rule, counts}
-use Rattle.image.specs.Names.{zone_length}
 use Rattle.image.specs.Element.{valid, element_width, element_place, element_at, size_at, type_id_at, dense_offset_at, child_end, child_with_id, inline_length, view_length, view_buffer, view_offset, view_data, text_at, run_end_width, run_end_at}
 use Rattle.image.specs.Utf8.{well_formed}
 
@@ -23,18 +22,13 @@ fault10 s =
     || ltb 1024 (buffer_total s)
     || ltb (length s) (tables_end s)
 
--- of the zone: "A nonzero place where none belongs is 11"
-unfoldable pub stray_place : List ℕ → ℕ → Bool
-stray_place s k = eqb (zone_length s k) 0 && not (eqb (zone_place s k) 0)
-
--- 11: "unknown code or flag, p1 or p2 out of range, a bitmap on 0, 39, 40 or 43", and a stray place
+-- 11: "unknown code or flag, p1 or p2 out of range, a bitmap on 0, 39, 40 or 43"
 unfoldable pub fault11 : List ℕ → ℕ → Bool
 fault11 s k =
     ltb 43 (code_of s k)
     || ltb 3 (flags_of s k)
     || not (p1_fits (code_of s k) (p1_of s k))
     || not (p2_fits (code_of s k) (p2_of s k))
-    || stray_place s k
     || (has_bitmap s k && not (takes_bitmap (layout_of (code_of s k))))
 
 -- "Depth at most 16, the root being 1": of the n nodes those of depth d and less are numbered below level_end s d.
@@ -85,13 +79,9 @@ outside s place len = ltb (length s) (place + len)
 unfoldable pub buffer_outside : List ℕ → ℕ → ℕ → Bool
 buffer_outside s k j = outside s (buffer_place s k j) (buffer_length s k j)
 
--- a name or a zone does not lie inside the image; where it has no bytes its place is not read
-unfoldable pub misplaced : List ℕ → ℕ → ℕ → Bool
-misplaced s place len = not (eqb len 0) && outside s place len
-
--- 13: "name too long or outside the image", "a zone outside the image is 13"
+-- 13: "name too long or outside the image"; "Name place is not read at name length 0"
 unfoldable pub fault13 : List ℕ → ℕ → Bool
-fault13 s k = ltb 64 (name_length s k) || misplaced s (name_place s k) (name_length s k) || misplaced s (zone_place s k) (zone_length s k)
+fault13 s k = ltb 64 (name_length s k) || (not (eqb (name_length s k) 0) && outside s (name_place s k) (name_length s k))
 
 -- a buffer of len bytes holds whole elements of w bytes
 unfoldable pub whole : ℕ → ℕ → Bool

@@ -2,7 +2,6 @@ pub mod Ranges
 pub mod Bytes
 pub mod Record
 pub mod TypeCode
-pub mod Names
 pub mod Element
 pub mod Reads
 pub mod Utf8

@@ -5,8 +5,7 @@ use Rattle.image.specs.Ranges.{every}
 use Rattle.image.specs.Bytes.{ascii}
 use Rattle.image.specs.Record.{node_count, code_of, first_child}
 use Rattle.image.specs.TypeCode.{is_map}
-use Rattle.image.specs.Names.{name_of}
-use Rattle.image.specs.Types.{same_bytes}
+use Rattle.image.specs.Types.{same_bytes, name_of}
 
 -- node k has that name
 unfoldable pub named : List ℕ → ℕ → String → Bool

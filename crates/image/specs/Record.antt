@@ -15,7 +15,7 @@ abbrev pub header_size : ℕ
 header_size = 4
 
 abbrev pub record_size : ℕ
-record_size = 48
+record_size = 44
 
 abbrev pub entry_size : ℕ
 entry_size = 8
@@ -32,7 +32,7 @@ most_elements = 1073741824
 abbrev pub max_depth : ℕ
 max_depth = 16
 
--- "Then n records", and since document 02 "The node record grows to 48 bytes": where the record of node k starts
+-- "Then n records of 44 bytes": where the record of node k starts
 unfoldable pub record_place : ℕ → ℕ
 record_place k = header_size + k * record_size
 
@@ -94,10 +94,6 @@ first_buffer s k = number_at 2 s (record_place k + 40)
 
 abbrev pub buffer_count : List ℕ → ℕ → ℕ
 buffer_count s k = number_at 2 s (record_place k + 42)
-
--- "Byte 44 is the zone's place, a u32"
-abbrev pub zone_place : List ℕ → ℕ → ℕ
-zone_place s k = number_at 4 s (record_place k + 44)
 
 -- "flags: 1 nullable, 2 has bitmap"
 unfoldable pub nullable : List ℕ → ℕ → Bool

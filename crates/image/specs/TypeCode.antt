@@ -61,7 +61,7 @@ entries =
     entry FixedWidth 4 0 1 ∷
     -- 20 Time64: 2 µs, 3 ns
     entry FixedWidth 8 2 3 ∷
-    -- 21 Timestamp, units 0 to 3
+    -- 21 Timestamp without zone, units 0 to 3
     entry FixedWidth 8 0 3 ∷
     -- 22 Duration, units 0 to 3
     entry FixedWidth 8 0 3 ∷
@@ -132,13 +132,9 @@ p1_fits code p1 = leb (entry_of code).low p1 && leb p1 (entry_of code).high
 unfoldable pub is_decimal : ℕ → Bool
 is_decimal code = leb 15 code && leb code 18
 
--- "21 Timestamp"
-abbrev pub is_timestamp : ℕ → Bool
-is_timestamp code = eqb code 21
-
--- "p2 scale -128 to 127", and at code 21 "the zone's length, 0 to 64"; a negative number reads as 2 ^ 32 more
+-- "p2 scale -128 to 127", where a negative number reads as 2 ^ 32 more
 unfoldable pub p2_fits : ℕ → ℕ → Bool
-p2_fits code p2 = cond (is_decimal code) (ltb p2 128 || leb (2 ^ 32 - 128) p2) (cond (is_timestamp code) (leb p2 64) (eqb p2 0))
+p2_fits code p2 = cond (is_decimal code) (ltb p2 128 || leb (2 ^ 32 - 128) p2) (eqb p2 0)
 
 -- "26 Utf8 .. 28 LargeUtf8 .. 31 Utf8View"
 abbrev pub is_text : ℕ → Bool

@@ -3,9 +3,9 @@ use Rattle.std.specs.Prelude.{Bool, true, false, not, ◌&&◌, ◌||◌, List, 
 use Rattle.std.specs.Bool.{beq}
 use Rattle.image.specs.declared.labels.Counted.{Counted}
 use Rattle.image.specs.Ranges.{every}
-use Rattle.image.specs.Record.{max_depth, code_of, id_of, p1_of, p2_of, first_child, child_count, nullable}
+use Rattle.image.specs.Bytes.{bytes_at}
+use Rattle.image.specs.Record.{max_depth, code_of, id_of, name_length, p1_of, p2_of, name_place, first_child, child_count, nullable}
 use Rattle.image.specs.TypeCode.{is_union, is_map}
-use Rattle.image.specs.Names.{name_of, zone_of}
 
 -- two lists of numbers are the same
 unfoldable pub same_bytes : List ℕ → List ℕ → Bool
@@ -13,6 +13,10 @@ same_bytes [] [] = true
 same_bytes [] (y ∷ ys) = false
 same_bytes (x ∷ xs) [] = false
 same_bytes (x ∷ xs) (y ∷ ys) = eqb x y && same_bytes xs ys
+
+-- a node's name
+unfoldable pub name_of : List ℕ → ℕ → List ℕ
+name_of s k = bytes_at s (name_place s k) (name_length s k)
 
 -- the name and the nullable flag of a child of a node of that code do not count: "They do not count for .. a Dictionary's child",
 -- and of a Map "the entries' name and flag .. do not count either"
@@ -32,14 +36,13 @@ labels_agree c s t i j =
     && (not c.flag || beq (nullable s i) (nullable t j))
     && (not c.id || eqb (id_of s i) (id_of t j))
 
--- code, p1, p2 and child counts of two nodes agree, and "Zones are part of the type, byte for byte"
+-- code, p1, p2 and child counts of two nodes agree
 unfoldable pub heads_agree : List ℕ → List ℕ → ℕ → ℕ → Bool
 heads_agree s t i j =
     eqb (code_of s i) (code_of t j)
     && eqb (p1_of s i) (p1_of t j)
     && eqb (p2_of s i) (p2_of t j)
     && eqb (child_count s i) (child_count t j)
-    && same_bytes (zone_of s i) (zone_of t j)
 
 -- The types of node i of s and node j of t agree, down to the given depth; an accepted image has none below depth 16. The Bool
 -- says whether the nodes are the entries of a Map.

@@ -3,7 +3,7 @@
 ghost use Rattle.std.specs.Prelude.{◌≡◌, ◌+◌, ◌≤◌};
 ghost use Rattle.image.specs.Bytes.{byte_at, number_at};
 ghost use Rattle.image.specs.Reads.{Read};
-ghost use Rattle.image.specs.Record.{record_size, node_count, buffer_total, record_place, entry_place, code_of, flags_of, id_of, name_length, p1_of, p2_of, length_of, offset_of, name_place, bitmap_place, bitmap_length, first_bit, first_child, child_count, first_buffer, buffer_count, zone_place, nullable, has_bitmap, elements_of, buffer_place, buffer_length, tables_end};
+ghost use Rattle.image.specs.Record.{record_size, node_count, buffer_total, record_place, entry_place, code_of, flags_of, id_of, name_length, p1_of, p2_of, length_of, offset_of, name_place, bitmap_place, bitmap_length, first_bit, first_child, child_count, first_buffer, buffer_count, nullable, has_bitmap, elements_of, buffer_place, buffer_length, tables_end};
 
 use crate::bytes::{byte, le16, le32, wide};
 
@@ -18,7 +18,7 @@ pub const MOST_ELEMENTS: usize = 1073741824;
 // The sizes of the header, of a node's record and of a buffer's entry.
 pub const HEADER_SIZE: usize = 4;
 
-const RECORD_SIZE: usize = 48;
+const RECORD_SIZE: usize = 44;
 
 pub const ENTRY_SIZE: usize = 8;
 
@@ -177,13 +177,6 @@ pub fn buffer_count(image: &[u8], node: u32) -> u32
     ensures { Read (buffer_count image.now node) 16 result }
 {
     field16(image, node, 42)
-}
-
-// Where the zone stands.
-pub fn zone_place(image: &[u8], node: u32) -> usize
-    ensures { Read (zone_place image.now node) 32 result }
-{
-    field32(image, node, 44)
 }
 
 // Flag 1: the node may hold nulls.

@@ -180,9 +180,6 @@ impl TypeCode {
     // or a negative one from -128 on, which reads as 2 ^ 32 more.
     pub const LOWEST_SCALE: u32 = 4294967168;
 
-    // The largest p2 of a Timestamp, the length of its zone.
-    pub const LONGEST_ZONE: u32 = 64;
-
     // How a node of this code stores its rows. Unknown codes, those above 43, answer as Null does.
     pub fn layout(code: u8) -> Layout
         ensures { result ≡ layout_of code }
@@ -318,14 +315,13 @@ impl TypeCode {
         }
     }
 
-    // Whether p2 fits: a decimal's scale is -128 to 127, a timestamp's zone has 0 to 64 bytes; elsewhere p2 is unused, and 0.
+    // Whether p2 fits: a decimal's scale is -128 to 127; elsewhere p2 is unused, and 0.
     pub fn p2_fits(code: u8, p2: u32) -> bool
         ensures { result ≡ p2_fits code p2 }
     {
         match code {
             TypeCode::DECIMAL32..=TypeCode::DECIMAL256 => p2 < TypeCode::SCALE_END
                 || p2 >= TypeCode::LOWEST_SCALE,
-            TypeCode::TIMESTAMP => p2 <= TypeCode::LONGEST_ZONE,
             _ => p2 == 0,
         }
     }

@@ -1,7 +1,7 @@
 -- What the check gives, number by number, and all of it where an image is accepted.
 -- A test that says false is a fact; each number's tests give that number's record.
 use mathlib.Core.Path.{◌≡◌, refl}
-use mathlib.Core.Bool.{Bool, true, false, cond, not, ◌||◌}
+use mathlib.Core.Bool.{Bool, true, false, not, ◌||◌}
 use mathlib.Core.List.{List}
 use mathlib.Core.Logic.{◌≢◌, ◌⊎◌, inl, inr}
 use Prim.Native.Nat.{ℕ, suc, ◌+◌, ◌*◌, ◌-◌, ◌≤◌, ◌<◌}
@@ -9,17 +9,15 @@ use native.Mathlib.Nat.{eq-zero-or-pos}
 use native.Mathlib.Omega.{arith}
 use native.Mathlib.Decide.{ℕ_discrete}
 use lib.ListN.{length}
-use lib.Dec.{eqb}
 use borrow.Author.Tests.{eqb-true, leb-true, leb-false, ltb-true, ltb-false, lt-ltb, eq-eqb, ne_eqb, le-leb, lt-leb}
 use Rattle.image.specs.declared.answer.Checked.TheVariants.{Accepted}
 use Rattle.image.specs.declared.type_code.Count.{Count}
 use Rattle.image.specs.declared.type_code.Count.TheVariants.{Exactly, AtLeast}
 use Rattle.image.specs.Bytes.{byte_at, bit_at}
-use Rattle.image.specs.Record.{node_count, buffer_total, id_of, length_of, offset_of, code_of, name_length, p2_of, name_place, zone_place, bitmap_place, bitmap_length, first_bit, has_bitmap, first_child, child_count, first_buffer, buffer_count, buffer_length, elements_of, child_start, buffer_start}
-use Rattle.image.specs.TypeCode.{is_decimal, is_timestamp, p2_fits, is_text, counts, sign_bit}
-use Rattle.image.specs.Names.{zone_length}
+use Rattle.image.specs.Record.{node_count, buffer_total, id_of, length_of, offset_of, code_of, name_length, name_place, bitmap_place, bitmap_length, first_bit, has_bitmap, first_child, child_count, first_buffer, buffer_count, buffer_length, elements_of, child_start, buffer_start}
+use Rattle.image.specs.TypeCode.{is_text, counts, sign_bit}
 use Rattle.image.specs.Element.{child_end, element_at, element_width, run_end_width, run_end_at, ends_above, run_at, has_id, type_id_at, child_with_id, dense_offset_at, inline_length, view_length, valid}
-use Rattle.image.specs.Faults.{fault, fault10, fault11, fault12, fault13, misplaced, stray_place, fault14, fault15, fault16, fault17, fault18, fault19, text_row_fault, check_image, outside, ids_rise, map_entries, run_ends, under, child_under, offsets_rise, list_outside, buffer_outside, rows_under, nonzero, id_unknown, dense_outside, key_outside, padding_nonzero, view_fault, long_view_fault, run_ends_rise, last_end_below, dense_row_fault, sparse_row_fault, key_row_fault, view_row_fault}
+use Rattle.image.specs.Faults.{fault, fault10, fault11, fault12, fault13, fault14, fault15, fault16, fault17, fault18, fault19, text_row_fault, check_image, outside, ids_rise, map_entries, run_ends, under, child_under, offsets_rise, list_outside, buffer_outside, rows_under, nonzero, id_unknown, dense_outside, key_outside, padding_nonzero, view_fault, long_view_fault, run_ends_rise, last_end_below, dense_row_fault, sparse_row_fault, key_row_fault, view_row_fault}
 use Rattle.image.proofs.Bools.{facts, or_left, or_right, and_fails}
 use Rattle.image.proofs.Ranges.{any_false, any_below, sum_next, rises_least, rises_top, rises_apart, first-from, first_at_most, first_passes}
 use Rattle.image.proofs.Widths.{variable_width, view-width, list-width, list_view-width, key-width}
@@ -38,29 +36,11 @@ all_valid s k i takes h e = cases (has_bitmap s k) h
         cc
     cases false given = refl
 
--- a timestamp's p2 is the length of its zone
-zone-short : (s : List ℕ) (k : ℕ) → p2_fits (code_of s k) (p2_of s k) ≡ true → zone_length s k ≤ 64
-unfolding zone_length p2_fits is_decimal
-zone-short s k fits = cases (is_timestamp (code_of s k)) refl
-  where
-    cases : (b : Bool) → is_timestamp (code_of s k) ≡ b → cond b (p2_of s k) 0 ≤ 64
-    cases true is = leb-true _ _ (rw (eqb-true (code_of s k) 21 is) at fits)
-    cases false is = omega arith
-
 known : (s : List ℕ) (k : ℕ) → fault11 s k ≡ false → Known s k
-unfolding fault11 stray_place
+unfolding fault11
 known s k e =
     let h = simp facts at e in
-    record {
-      code = omega arith;
-      flags = omega arith;
-      p1 = h.0.0.0.1;
-      p2 = h.0.0.1;
-      short-zone = zone-short s k h.0.0.1;
-      no_zone = h.0.1;
-      bitmap = h.1;
-      all_valid = λ none i. all_valid s k i _ h.1 none;
-    }
+    record { code = omega arith; flags = omega arith; p1 = h.0.0.1; p2 = h.0.1; bitmap = h.1; all_valid = λ none i. all_valid s k i _ h.1 none }
 
 widths : (s : List ℕ) (k : ℕ) → Widths s k
 unfolding element_width
@@ -141,16 +121,13 @@ tree s k e lt total =
     }
 
 named : (s : List ℕ) (k : ℕ) → fault13 s k ≡ false → Named s k
-unfolding fault13 misplaced outside
+unfolding fault13 outside
 named s k e =
     let h = simp facts at e in
     record {
       short = omega arith;
       inside = λ some.
-          let g : name_place s k + name_length s k < suc (length s) = h.0.1 (omega arith) in
-          omega arith;
-      zone-inside = λ some.
-          let g : zone_place s k + zone_length s k < suc (length s) = h.1 (omega arith) in
+          let g : name_place s k + name_length s k < suc (length s) = h.1 (omega arith) in
           omega arith;
     }
 

@@ -9,8 +9,7 @@ use borrow.Author.Tests.{eqb-true, eq-eqb}
 use Rattle.image.specs.Record.{max_depth, code_of, id_of, p1_of, p2_of, first_child, child_count, nullable}
 use Rattle.image.specs.declared.labels.Counted.{Counted}
 use Rattle.image.specs.TypeCode.{is_map}
-use Rattle.image.specs.Names.{name_of, zone_of}
-use Rattle.image.specs.Types.{counted_for, same_bytes, labels_agree, heads_agree, types_agree_at, types_agree}
+use Rattle.image.specs.Types.{counted_for, name_of, same_bytes, labels_agree, heads_agree, types_agree_at, types_agree}
 use Rattle.image.proofs.Bools.{flags-same, and_left, and_right, and_true, when_true, true_when}
 use Rattle.image.proofs.Ranges.{every-below, every_of_below}
 use Rattle.laws.proofs.Sound.{same_bytes-is}
@@ -50,42 +49,38 @@ labels_sym l = record { name = λ on. sym (l.name on); flag = λ on. sym (l.flag
 labels_trans : {c : Counted} {s t u : List ℕ} {i j k : ℕ} → Labels c s t i j → Labels c t u j k → Labels c s u i k
 labels_trans l m = record { name = λ on. l.name on ∙ m.name on; flag = λ on. l.flag on ∙ m.flag on; id = λ on. l.id on ∙ m.id on }
 
--- code, p1, p2, child count and zone of node i of s and of node j of t are the same
+-- code, p1, p2 and child count of node i of s and of node j of t are the same
 pub record SameHeads (s t : List ℕ) (i j : ℕ) : Type 0 where
   pub code : code_of s i ≡ code_of t j
   pub p1 : p1_of s i ≡ p1_of t j
   pub p2 : p2_of s i ≡ p2_of t j
   pub children : child_count s i ≡ child_count t j
-  pub zone : zone_of s i ≡ zone_of t j
 
 pub heads_same : (s t : List ℕ) (i j : ℕ) → heads_agree s t i j ≡ true → SameHeads s t i j
 unfolding heads_agree
 heads_same s t i j e =
-    let e4 = and_left _ _ e in
-    let e3 = and_left _ _ e4 in
+    let e3 = and_left _ _ e in
     let e2 = and_left _ _ e3 in
     record {
       code = eqb-true _ _ (and_left _ _ e2);
       p1 = eqb-true _ _ (and_right (eqb (code_of s i) (code_of t j)) _ e2);
       p2 = eqb-true _ _ (and_right (eqb (code_of s i) (code_of t j) && eqb (p1_of s i) (p1_of t j)) _ e3);
-      children = eqb-true _ _ (and_right (eqb (code_of s i) (code_of t j) && eqb (p1_of s i) (p1_of t j) && eqb (p2_of s i) (p2_of t j)) _ e4);
-      zone = (same_bytes-is _ _).0 (and_right (eqb (code_of s i) (code_of t j) && eqb (p1_of s i) (p1_of t j) && eqb (p2_of s i) (p2_of t j) && eqb (child_count s i) (child_count t j)) _ e);
+      children = eqb-true _ _ (and_right (eqb (code_of s i) (code_of t j) && eqb (p1_of s i) (p1_of t j) && eqb (p2_of s i) (p2_of t j)) _ e);
     }
 
 pub same_heads : (s t : List ℕ) (i j : ℕ) → SameHeads s t i j → heads_agree s t i j ≡ true
 unfolding heads_agree
 same_heads s t i j h =
-    and_true _ _ (and_true _ _ (and_true _ _ (and_true _ _ (eq-eqb _ _ h.code) (eq-eqb _ _ h.p1)) (eq-eqb _ _ h.p2)) (eq-eqb _ _ h.children))
-    ((same_bytes-is _ _).1 h.zone)
+    and_true _ _ (and_true _ _ (and_true _ _ (eq-eqb _ _ h.code) (eq-eqb _ _ h.p1)) (eq-eqb _ _ h.p2)) (eq-eqb _ _ h.children)
 
 heads_refl : (s : List ℕ) (i : ℕ) → SameHeads s s i i
-heads_refl s i = record { code = refl; p1 = refl; p2 = refl; children = refl; zone = refl }
+heads_refl s i = record { code = refl; p1 = refl; p2 = refl; children = refl }
 
 heads_sym : {s t : List ℕ} {i j : ℕ} → SameHeads s t i j → SameHeads t s j i
-heads_sym h = record { code = sym h.code; p1 = sym h.p1; p2 = sym h.p2; children = sym h.children; zone = sym h.zone }
+heads_sym h = record { code = sym h.code; p1 = sym h.p1; p2 = sym h.p2; children = sym h.children }
 
 heads_trans : {s t u : List ℕ} {i j k : ℕ} → SameHeads s t i j → SameHeads t u j k → SameHeads s u i k
-heads_trans h g = record { code = h.code ∙ g.code; p1 = h.p1 ∙ g.p1; p2 = h.p2 ∙ g.p2; children = h.children ∙ g.children; zone = h.zone ∙ g.zone }
+heads_trans h g = record { code = h.code ∙ g.code; p1 = h.p1 ∙ g.p1; p2 = h.p2 ∙ g.p2; children = h.children ∙ g.children }
 
 -- one level of the agreement of types: the heads, and of the children in turn the labels and the types
 pub record Level (d : ℕ) (p : Bool) (s t : List ℕ) (i j : ℕ) : Type 0 where

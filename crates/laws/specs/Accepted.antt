@@ -4,9 +4,8 @@ use Rattle.std.specs.Prelude.{◌≡◌, true, false, List, ℕ, suc, ◌+◌, �
 use Rattle.image.specs.declared.type_code.Layout.TheVariants.{Boolean, FixedWidth, VariableSize, View, List as Lists, ListView, FixedList, Struct, DenseUnion, SparseUnion, Dictionary, Runs}
 use Rattle.image.specs.declared.type_code.Count.TheVariants.{Exactly, AtLeast}
 use Rattle.image.specs.Bytes.{byte_at, number_at}
-use Rattle.image.specs.Record.{header_size, max_depth, node_count, buffer_total, tables_end, code_of, flags_of, id_of, name_length, p1_of, p2_of, length_of, offset_of, name_place, bitmap_place, bitmap_length, first_bit, first_child, child_count, first_buffer, buffer_count, zone_place, has_bitmap, elements_of, child_start, buffer_start, buffer_place, buffer_length}
+use Rattle.image.specs.Record.{header_size, max_depth, node_count, buffer_total, tables_end, code_of, flags_of, id_of, name_length, p1_of, p2_of, length_of, offset_of, name_place, bitmap_place, bitmap_length, first_bit, first_child, child_count, first_buffer, buffer_count, has_bitmap, elements_of, child_start, buffer_start, buffer_place, buffer_length}
 use Rattle.image.specs.TypeCode.{layout_of, p1_fits, p2_fits, is_text, is_union, sign_bit, takes_bitmap, child_rule, buffer_rule}
-use Rattle.image.specs.Names.{zone_length}
 use Rattle.image.specs.Element.{valid, element_width, element_place, element_at, size_at, type_id_at, dense_offset_at, child_end, child_with_id, inline_length, view_length, view_buffer, view_offset, view_data, text_at, run_end_width, run_end_at, run_at}
 use Rattle.image.specs.Utf8.{well_formed}
 use Rattle.image.specs.Faults.{level_end, under_union, not_whole, fault10, fault}
@@ -26,14 +25,12 @@ pub record Tables (s : List ℕ) : Type 0 where
   pub few-buffers : buffer_total s ≤ 1024
   pub inside : tables_end s ≤ length s
 
--- 11: the code, the flags and the parameters are known, a zone is short, and where there is none its place is 0
+-- 11: the code, the flags and the parameters are known
 pub record Known (s : List ℕ) (k : ℕ) : Type 0 where
   pub code : code_of s k ≤ 43
   pub flags : flags_of s k ≤ 3
   pub p1 : p1_fits (code_of s k) (p1_of s k) ≡ true
   pub p2 : p2_fits (code_of s k) (p2_of s k) ≡ true
-  pub short-zone : zone_length s k ≤ 64
-  pub no_zone : zone_length s k ≡ 0 → zone_place s k ≡ 0
   pub bitmap : has_bitmap s k ≡ true → takes_bitmap (layout_of (code_of s k)) ≡ true
   pub all_valid : takes_bitmap (layout_of (code_of s k)) ≡ false → (i : ℕ) → valid s k i ≡ true
 
@@ -74,11 +71,10 @@ pub record Tree (s : List ℕ) (k : ℕ) : Type 0 where
   pub entries : code_of s k ≡ 42 → Entries s k
   pub run_ends : layout_of (code_of s k) ≡ Runs → RunEnds s k
 
--- 13: name and zone lie inside
+-- 13: the name lies inside
 pub record Named (s : List ℕ) (k : ℕ) : Type 0 where
   pub short : name_length s k ≤ 64
   pub inside : 0 < name_length s k → name_place s k + name_length s k ≤ length s
-  pub zone-inside : 0 < zone_length s k → zone_place s k + zone_length s k ≤ length s
 
 -- 14: the buffers and the bitmap lie inside
 pub record Buffers (s : List ℕ) (k : ℕ) : Type 0 where

@@ -1,7 +1,6 @@
 // Whether the Maps of an image have the names that Arrow gives their entries, keys and values.
 ghost use Rattle.std.specs.Prelude.{◌≡◌};
-ghost use Rattle.image.specs.Names.{name_of};
-ghost use Rattle.image.specs.Types.{same_bytes};
+ghost use Rattle.image.specs.Types.{same_bytes, name_of};
 ghost use Rattle.image.specs.MapNames.{map_named, maps_named};
 
 use image::names::name_is;

@@ -1,5 +1,4 @@
--- Document 01's session, its places moved "by four": its whole input is answered by the whole output that it gives. Its own line,
--- unchanged, is refused at the close.
+-- Document 01's session: its whole input is answered by the whole output that it gives.
 -- Both sides are computed.
 use mathlib.Core.Path.{◌≡◌, refl}
 use mathlib.Core.List
@@ -8,7 +7,6 @@ use Rattle.image.specs.Bytes
 use Rattle.image.specs.Bytes.{ascii}
 use Rattle.image.specs.Record
 use Rattle.image.specs.TypeCode
-use Rattle.image.specs.Names
 use Rattle.image.specs.Element
 use Rattle.image.specs.Faults
 use Rattle.image.specs.Types
@@ -24,16 +22,11 @@ use Rattle.session.specs.Sessions
 use Rattle.session.specs.Input
 use Rattle.session.specs.Input.{printed}
 
--- the session, and of its own first line, unchanged: "Every image is read by 48-byte records, an old one too"
 pub document_session :
-    (printed
+    printed
     (ascii
-    "01 01000100 02020000 00000000 00000000 03000000 00000000 00000000 3f000000 01000000 00000000 01000000 00000100 00000000 3c000000 03000000 05000705\n02 01000100 02020000 00000000 00000000 03000000 00000000 00000000 3f000000 01000000 00000000 01000000 00000100 00000000 3c000000 03000000 05090705\n03 00\n03 01\n04\n06 00 00000000 03000000\n")
-    ≡ ascii "00\n00\n00\n00\n0001\n000105000107\n")
-    × (printed
-    (ascii
-    "01 01000100 02020000 00000000 00000000 03000000 00000000 00000000 3b000000 01000000 00000000 01000000 00000100 38000000 03000000 05000705\n03 00\n")
-    ≡ ascii "00\n0b0000\n")
+    "01 01000100 02020000 00000000 00000000 03000000 00000000 00000000 3b000000 01000000 00000000 01000000 00000100 38000000 03000000 05000705\n02 01000100 02020000 00000000 00000000 03000000 00000000 00000000 3b000000 01000000 00000000 01000000 00000100 38000000 03000000 05090705\n03 00\n03 01\n04\n06 00 00000000 03000000\n")
+    ≡ ascii "00\n00\n00\n00\n0001\n000105000107\n"
 unfolding Bytes.ascii Sessions.replies Input.in_front Input.lines_of Input.printed_from List.flatten
     Lines.digit_of Lines.preceded Lines.scan Lines.not_too_long Lines.bytes_of
     Frames.by_side Frames.of_length Frames.piece_frame Frames.close_frame Frames.compare_frame Frames.write_frame Frames.by_kind Frames.frame_of
@@ -48,16 +41,16 @@ unfolding Bytes.ascii Sessions.replies Input.in_front Input.lines_of Input.print
     TypeCode.is_decimal TypeCode.p2_fits TypeCode.is_union TypeCode.key_signed TypeCode.sign_bit
     Element.valid Element.element_width Element.element_place Element.element_at Element.run_end_width Element.run_end_at
     Element.ends_above Element.run_at
-    Faults.fault10 Faults.stray_place Faults.fault11 Faults.level_end Faults.map_entries Faults.run_ends Faults.fault12 Faults.outside
-    Faults.buffer_outside Faults.misplaced Faults.fault13 Faults.whole Faults.fault14 Faults.under Faults.fault15 Faults.rows_under
+    Faults.fault10 Faults.fault11 Faults.level_end Faults.map_entries Faults.run_ends Faults.fault12 Faults.outside
+    Faults.buffer_outside Faults.fault13 Faults.whole Faults.fault14 Faults.under Faults.fault15 Faults.rows_under
     Faults.child_under Faults.fault16 Faults.offsets_rise Faults.fault17 Faults.key_outside Faults.run_ends_rise
     Faults.last_end_below Faults.key_row_fault Faults.fault18 Faults.fault19 Faults.fault Faults.first_faulty Faults.check_from
     Faults.check_image
-    Names.name_of Names.zone_length Names.zone_of Types.same_bytes Types.unlabelled Types.counted_for Types.labels_agree Types.heads_agree Types.types_agree_at
+    Types.same_bytes Types.name_of Types.unlabelled Types.counted_for Types.labels_agree Types.heads_agree Types.types_agree_at
     Types.types_agree
     Row.range Row.fixed_row Row.variable_row Row.list_row Row.struct_row Row.dictionary_row Row.run_row Row.row_at
     Row.table_rows
     Equality.ranges_equal Equality.tables_equal Equality.rows_equal
     RowBytes.count RowBytes.row_bytes RowBytes.range_bytes
     Answers.compare_answer Answers.exceeds Answers.write_range Answers.write_answer Answers.write_output
-document_session = (refl, refl)
+document_session = refl

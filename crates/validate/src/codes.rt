@@ -1,22 +1,11 @@
-// 11: unknown code or flag, p1 or p2 out of range, a zone's place where there is no zone, a bitmap where none may be.
+// 11: unknown code or flag, p1 or p2 out of range, a bitmap where none may be.
 ghost use Rattle.std.specs.Prelude.{◌≡◌};
-ghost use Rattle.image.specs.Faults.{stray_place, fault11};
+ghost use Rattle.image.specs.Faults.{fault11};
 
-use image::names::zone_length;
-use image::record::{code, flags, has_bitmap, p1, p2, zone_place};
+use image::record::{code, flags, has_bitmap, p1, p2};
 use image::type_code::TypeCode;
 
 const KNOWN_FLAGS: u8 = 3;
-
-// A zone's place is given where there is no zone.
-fn stray_place(image: &[u8], node: u32) -> bool
-    ensures { result ≡ stray_place image.now node }
-{
-    if zone_length(image, node) != 0 {
-        return false;
-    }
-    zone_place(image, node) != 0
-}
 
 // The node has fault 11.
 pub fn fault_11(image: &[u8], node: u32) -> bool
@@ -33,9 +22,6 @@ pub fn fault_11(image: &[u8], node: u32) -> bool
         return true;
     }
     if !TypeCode::p2_fits(c, p2(image, node) as u32) {
-        return true;
-    }
-    if stray_place(image, node) {
         return true;
     }
     if !has_bitmap(image, node) {

@@ -1,9 +1,8 @@
-// 13: name too long, name or zone outside the image. Also: what lies outside an image.
+// 13: name too long or outside the image. Also: what lies outside an image.
 ghost use Rattle.std.specs.Prelude.{◌≡◌, ◌<◌, ◌^◌};
-ghost use Rattle.image.specs.Faults.{outside, misplaced, fault13};
+ghost use Rattle.image.specs.Faults.{fault13, outside};
 
-use image::names::zone_length;
-use image::record::{name_length, name_place, zone_place};
+use image::record::{name_length, name_place};
 
 const LONGEST_NAME: usize = 64;
 
@@ -15,17 +14,6 @@ pub fn is_outside(image: &[u8], place: usize, len: usize) -> bool
     image.len() < place + len
 }
 
-// A name or a zone, by its place and length, does not lie inside the image. Where it has no bytes its place does not matter.
-fn is_misplaced(image: &[u8], place: usize, len: usize) -> bool
-    requires { (place < 2 ^ 32) × (len < 2 ^ 32) }
-    ensures { result ≡ misplaced image.now place len }
-{
-    if len == 0 {
-        return false;
-    }
-    is_outside(image, place, len)
-}
-
 // The node has fault 13.
 pub fn fault_13(image: &[u8], node: u32) -> bool
     ensures { result ≡ fault13 image.now node }
@@ -34,9 +22,8 @@ pub fn fault_13(image: &[u8], node: u32) -> bool
     if LONGEST_NAME < len {
         return true;
     }
-    if is_misplaced(image, name_place(image, node), len) {
-        return true;
+    if len == 0 {
+        return false;
     }
-    let zone = zone_length(image, node);
-    is_misplaced(image, zone_place(image, node), zone)
+    is_outside(image, name_place(image, node), len)
 }

@@ -23,7 +23,7 @@ use Rattle.accepted.specs.Parts.{Side, Part, Elements}
 use Rattle.values.specs.Parts.{Sides, Leaf, LeavesAt}
 use Rattle.accepted.proofs.Fixed.{spanned}
 use Rattle.accepted.proofs.Nodes.{side-small}
-use Rattle.image.proofs.SameBytes.{other_length}
+use Rattle.image.proofs.NameBytes.{other_length}
 use Rattle.values.proofs.Steps.{and_true}
 use Rattle.accepted.proofs.Texts.{text-narrow, text_offsets, text-inside}
 use Rattle.values.proofs.Texts.{text_up}

@@ -21,7 +21,7 @@ use Rattle.accepted.specs.Parts.{Part}
 use Rattle.values.specs.Parts.{Parts, Spans}
 use Rattle.values.proofs.Steps.{by_rows, by_bytes}
 use Rattle.values.proofs.Blocks.{blocks, all_at, all_weaker, rise_far, equal-spans}
-use Rattle.image.proofs.SameBytes.{other_length}
+use Rattle.image.proofs.NameBytes.{other_length}
 use Rattle.accepted.proofs.Texts.{text-rises, text_offsets}
 use Rattle.accepted.proofs.Nodes.{part_small}
 

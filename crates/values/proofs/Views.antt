@@ -19,7 +19,7 @@ use Rattle.accepted.specs.Parts.{Side, Part, Viewed, ViewBytes}
 use Rattle.values.specs.Parts.{Masked}
 use Rattle.accepted.proofs.Views.{shown_short, viewed, view-place}
 use Rattle.values.proofs.Steps.{front_passes, by_bytes, row_test}
-use Rattle.image.proofs.SameBytes.{other_length}
+use Rattle.image.proofs.NameBytes.{other_length}
 use Rattle.accepted.proofs.Nodes.{side-small}
 use Rattle.accepted.proofs.Nodes.{side-part}
 use Rattle.values.proofs.MaskedRows.{masked_row_lem, mask_at, full_row}

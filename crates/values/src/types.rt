@@ -3,11 +3,10 @@
 ghost use Rattle.std.specs.Prelude.{◌≡◌, not, ◌||◌, eqb};
 ghost use Rattle.std.specs.Bool.{beq};
 ghost use Rattle.image.specs.Record.{id_of, nullable};
-ghost use Rattle.image.specs.Names.{name_of};
-ghost use Rattle.image.specs.Types.{same_bytes, labels_agree, heads_agree, types_agree_at};
+ghost use Rattle.image.specs.Types.{same_bytes, name_of, labels_agree, heads_agree, types_agree_at};
 
 use image::labels::Counted;
-use image::names::{name_is, zones_equal};
+use image::names::name_is;
 use image::record::{
     child_count, code, first_child, is_nullable, name_length, name_place, p1, p2, type_id,
 };
@@ -56,7 +55,7 @@ fn labels_equal(a: &[u8], b: &[u8], i: u32, j: u32, counted: Counted) -> bool
     id_agrees(a, b, i, j, counted.id)
 }
 
-// Codes, parameters, child counts and zones of two nodes agree.
+// Codes, parameters and child counts of two nodes agree.
 fn heads_equal(a: &[u8], b: &[u8], i: u32, j: u32) -> bool
     ensures { result ≡ heads_agree a.now b.now i j }
 {
@@ -69,10 +68,7 @@ fn heads_equal(a: &[u8], b: &[u8], i: u32, j: u32) -> bool
     if p2(a, i) != p2(b, j) {
         return false;
     }
-    if child_count(a, i) != child_count(b, j) {
-        return false;
-    }
-    zones_equal(a, b, i, j)
+    child_count(a, i) == child_count(b, j)
 }
 
 // The types of two nodes agree, down to the given depth; `entries` says whether the nodes are the entries of a Map.

@@ -1,5 +1,4 @@
-//! From an image of document 01 to `ArrayData`. Each buffer is copied to aligned memory; names and zones are given as
-//! hexadecimal text.
+//! From an image of document 01 to `ArrayData`. Each buffer is copied to aligned memory; names are given as hexadecimal text.
 //!
 //! The image is taken to be accepted: what is wrong in it panics here or later.
 
@@ -37,7 +36,7 @@ struct Reader<'a> {
 
 /// The sizes of the header, of a node's record and of a buffer's entry.
 const HEADER: usize = 4;
-const RECORD: usize = 48;
+const RECORD: usize = 44;
 const ENTRY: usize = 8;
 
 /// A place and a width, in bytes.
@@ -63,7 +62,6 @@ const FIRST_CHILD: Place = (36, 2);
 const CHILD_COUNT: Place = (38, 2);
 const FIRST_BUFFER: Place = (40, 2);
 const BUFFER_COUNT: Place = (42, 2);
-const ZONE_PLACE: Place = (44, 4);
 
 /// Of an entry: a buffer's place and length.
 const ENTRY_PLACE: Place = (0, 4);
@@ -115,26 +113,15 @@ impl Reader<'_> {
         (self.masks == Masks::All || nulls.null_count() != 0).then_some(nulls)
     }
 
-    /// A name or a zone of so many bytes whose place a field gives; where there are none the place is not read.
-    fn hexadecimal(&self, node: usize, place: Place, length: usize) -> String {
-        let mut text = String::with_capacity(2 * length);
+    fn schema_field(&self, node: usize) -> FieldRef {
+        let length = self.field(node, NAME_LENGTH);
+        let mut name = String::with_capacity(2 * length);
         if length > 0 {
-            for byte in self.bytes(self.field(node, place), length) {
-                write!(text, "{byte:02x}").unwrap();
+            for byte in self.bytes(self.field(node, NAME_PLACE), length) {
+                write!(name, "{byte:02x}").unwrap();
             }
         }
-        text
-    }
-
-    fn schema_field(&self, node: usize) -> FieldRef {
-        let name = self.hexadecimal(node, NAME_PLACE, self.field(node, NAME_LENGTH));
         Arc::new(Field::new(name, self.data_type(node), self.field(node, FLAGS) & NULLABLE != 0))
-    }
-
-    /// A Timestamp's zone, of p2 bytes; none where p2 is 0.
-    fn zone(&self, node: usize) -> Option<Arc<str>> {
-        let length = self.field(node, P2);
-        (length > 0).then(|| self.hexadecimal(node, ZONE_PLACE, length).into())
     }
 
     fn only_child(&self, node: usize) -> FieldRef {
@@ -159,7 +146,7 @@ impl Reader<'_> {
             18 => DataType::Decimal256(precision, scale),
             19 => DataType::Time32(unit(p1)),
             20 => DataType::Time64(unit(p1)),
-            21 => DataType::Timestamp(unit(p1), self.zone(node)),
+            21 => DataType::Timestamp(unit(p1), None),
             22 => DataType::Duration(unit(p1)),
             23 => DataType::Interval(IntervalUnit::YearMonth),
             24 => DataType::Interval(IntervalUnit::DayTime),

@@ -26,7 +26,7 @@ put-number-requires-2 : tie.Need-put-number-requires-2
 put-number-requires-2 c κs = omega (arith, header-fits _ _ _ c.before.before.before.before.before.before.before.before.before.before.before.requires.1.1, c.before.before.before.before.put-number.ensures.0, c.before.before.before.before.put-number.auto.0)
 
 put-records-requires : tie.Need-put-records-requires
-put-records-requires c κs = (accepted _ c.before.before.before.before.before.before.before.before.before.before.before.before.before.before.before.requires.0.0, (c.before.before.before.before.before.before.before.before.before.before.before.before.before.before.before.requires.1.0, records_fit _ _ _ c.before.before.before.before.before.before.before.before.before.before.before.before.before.before.before.requires.1.1 c.before.before.before.before.before.before.before.before.before.node-count.ensures.value c.before.before.before.before.before.before.before.before.put-number.ensures c.before.before.before.before.buffer-total.ensures.value c.before.before.before.put-number2.ensures))
+put-records-requires c κs = ((accepted _ c.before.before.before.before.before.before.before.before.before.before.before.before.before.before.before.requires.0.0).tables, (c.before.before.before.before.before.before.before.before.before.before.before.before.before.before.before.requires.1.0, records_fit _ _ _ c.before.before.before.before.before.before.before.before.before.before.before.before.before.before.before.requires.1.1 c.before.before.before.before.before.before.before.before.before.node-count.ensures.value c.before.before.before.before.before.before.before.before.put-number.ensures c.before.before.before.before.buffer-total.ensures.value c.before.before.before.put-number2.ensures))
 
 put-all-entries-requires : tie.Need-put-all-entries-requires
 put-all-entries-requires c κs = (c.before.before.before.before.before.before.before.before.before.before.before.before.before.before.before.before.before.before.before.requires.0, (c.before.before.before.before.before.before.before.before.before.before.before.before.before.before.before.before.before.before.before.requires.1.0.0, entries_fit _ _ _ c.before.before.before.before.before.before.before.before.before.before.before.before.before.before.before.before.before.before.before.requires.1.1 c.before.before.before.before.before.before.before.before.before.before.before.before.before.node-count.ensures.value c.before.before.before.before.before.before.before.before.before.before.before.before.put-number.ensures c.before.before.before.before.before.before.before.before.buffer-total.ensures.value c.before.before.before.before.before.before.before.put-number2.ensures c.before.before.before.put-records.ensures))

@@ -1,8 +1,8 @@
--- `put_names` puts the names of all nodes, each with its zone.
+-- `put_names` puts the names of all nodes.
 -- The loop keeps the names that are still to be put.
 use Prim.Native.Nat.{◌-◌}
 use Rattle.image.specs.Record.{node_count}
-use Rattle.image.specs.Built.{name_and_zone}
+use Rattle.image.specs.Types.{name_of}
 use Rattle.laws.proofs.Accepted.{accepted}
 use Rattle.rows.proofs.Over.{PiecesToPut, pieces-start, pieces-place, pieces-done}
 use Rattle.builder.proofs.Fields.{piece_fits, piece_put}
@@ -12,7 +12,7 @@ use Rattle.builder.proofs.front.put_names.Statement.{statement}
 use Rattle.builder.proofs.front.put_names.Tie as tie
 
 abbrev invariant-loop : tie.invariant-loop
-invariant-loop image out₀ at n next₀ k₀ out next k = PiecesToPut (name_and_zone image) 0 (node_count image) out₀ at out next k
+invariant-loop image out₀ at n next₀ k₀ out next k = PiecesToPut (name_of image) 0 (node_count image) out₀ at out next k
 
 abbrev decreases-loop : tie.decreases-loop
 decreases-loop image out₀ at n next₀ k₀ out next k = n - k

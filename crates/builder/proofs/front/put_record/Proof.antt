@@ -9,10 +9,10 @@ put-type-requires : tie.Need-put-type-requires
 put-type-requires c κs = type_fits _ _ _ _ c.before.before.before.before.before.requires.1.1
 
 put-rows-requires : tie.Need-put-rows-requires
-put-rows-requires c κs = (c.before.before.before.before.before.before.before.before.before.requires.0, (c.before.before.before.before.before.before.before.before.before.requires.1.0.0, rows_fit _ _ _ _ c.before.before.before.before.before.before.before.before.before.requires.1.1 c.before.before.before.put-type.ensures))
+put-rows-requires c κs = (c.before.before.before.before.before.before.before.before.before.requires.0, (c.before.before.before.before.before.before.before.before.before.requires.1.0, rows_fit _ _ _ _ c.before.before.before.before.before.before.before.before.before.requires.1.1 c.before.before.before.put-type.ensures))
 
 put-tables-requires : tie.Need-put-tables-requires
-put-tables-requires c κs = (c.before.before.before.before.before.before.before.before.before.before.before.before.before.requires.1.0, tables_fit _ _ _ _ c.before.before.before.before.before.before.before.before.before.before.before.before.before.requires.1.1 c.before.before.before.before.before.before.before.put-type.ensures c.before.before.before.put-rows.ensures)
+put-tables-requires c κs = tables_fit _ _ _ _ c.before.before.before.before.before.before.before.before.before.before.before.before.before.requires.1.1 c.before.before.before.before.before.before.before.put-type.ensures c.before.before.before.put-rows.ensures
 
 same_length : tie.Need-same-length
 same_length c = search rules

@@ -24,16 +24,16 @@ tables-end-requires : tie.Need-tables-end-requires invariant-loop decreases-loop
 tables-end-requires c κs = search rules
 
 loop-holds : tie.Need-loop-init invariant-loop decreases-loop
-loop-holds c = (pieces-start _ _ _ c.before.before.before.before.before.before.requires.1.1, names_start _ c.before.before.before.before.before.before.requires.0.tables c.tables-end.ensures.value)
+loop-holds c = (pieces-start _ _ _ c.before.before.before.before.before.before.requires.1.1, names_start _ c.before.before.before.before.before.before.requires.0 c.tables-end.ensures.value)
 
 put-record-requires : tie.Need-put-record-requires invariant-loop decreases-loop
-put-record-requires c κs = (record { node = omega (arith, c.before.loop-test.true, c.before.before.before.before.node-count.ensures.value); few = c.before.before.before.before.before.before.before.before.before.requires.0.tables.few-nodes; sized = c.before.before.before.before.before.before.before.before.before.requires.1.0.1; risen = c.before.before.before.before.before.before.before.before.before.requires.1.0.0 }, ((c.before.before.loop.invariant.1.start, omega (arith, c.before.before.loop.invariant.1.near, c.before.loop-test.true, c.before.before.before.before.node-count.ensures.small)), piece_fits c.before.before.loop.invariant.0 (omega (arith, c.before.loop-test.true, c.before.before.before.before.node-count.ensures.value))))
+put-record-requires c κs = (record { node = omega (arith, c.before.loop-test.true, c.before.before.before.before.node-count.ensures.value); few = c.before.before.before.before.before.before.before.before.before.requires.0.few-nodes; sized = c.before.before.before.before.before.before.before.before.before.requires.1.0.1; risen = c.before.before.before.before.before.before.before.before.before.requires.1.0.0 }, (c.before.before.loop.invariant.1.start, piece_fits c.before.before.loop.invariant.0 (omega (arith, c.before.loop-test.true, c.before.before.before.before.node-count.ensures.value))))
 
-name-and-zone-requires : tie.Need-name-and-zone-requires invariant-loop decreases-loop
-name-and-zone-requires c κs = (c.before.before.before.before.before.before.before.before.before.before.before.before.requires.0.node c.before.before.before.before.before.loop.k (omega (arith, c.before.before.before.before.loop-test.true, c.before.before.before.before.before.before.before.node-count.ensures.value))).known
+name-length-requires : tie.Need-name-length-requires invariant-loop decreases-loop
+name-length-requires c κs = search rules
 
 add-name : tie.Need-overflow-add-name invariant-loop decreases-loop
-add-name c = omega (arith, c.before.before.before.before.before.before.loop.invariant.1.near, c.before.before.before.before.before.loop-test.true, c.before.before.before.before.before.before.before.before.node-count.ensures.small, c.name-and-zone.ensures.small)
+add-name c = omega (arith, c.before.before.before.before.before.before.loop.invariant.1.near, c.before.before.before.before.before.loop-test.true, c.before.before.before.before.before.before.before.before.node-count.ensures.small, c.name-length.ensures.small)
 
 add-k : tie.Need-overflow-add-k invariant-loop decreases-loop
 add-k c = search rules
@@ -42,7 +42,7 @@ loop-less : tie.Need-loop-smaller invariant-loop decreases-loop
 loop-less c = search rules
 
 loop-again : tie.Need-loop-preserved invariant-loop decreases-loop
-loop-again c = (piece_put c.before.before.before.before.before.before.loop.invariant.0 (omega (arith, c.before.before.before.before.before.loop-test.true, c.before.before.before.before.before.before.before.before.node-count.ensures.value)) c.before.before.before.put_record.ensures, names_more c.before.before.before.before.before.before.loop.invariant.1 c.name-and-zone.ensures)
+loop-again c = (piece_put c.before.before.before.before.before.before.loop.invariant.0 (omega (arith, c.before.before.before.before.before.loop-test.true, c.before.before.before.before.before.before.before.before.node-count.ensures.value)) c.before.before.before.put_record.ensures, names_more c.before.before.before.before.before.before.loop.invariant.1 c.name-length.ensures)
 
 same_length : tie.Need-same-length invariant-loop decreases-loop
 same_length c = c.before.loop.invariant.0.put.long
@@ -60,7 +60,7 @@ put-records-spec =
     tables-end-requires
     loop-holds
     put-record-requires
-    name-and-zone-requires
+    name-length-requires
     add-name
     add-k
     loop-less

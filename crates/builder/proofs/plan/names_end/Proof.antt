@@ -1,4 +1,4 @@
--- `names_end` answers where names and zones end.
+-- `names_end` answers where the names end.
 -- The loop keeps where the name of node k would stand, and that it is near.
 use Prim.Native.Nat.{◌-◌, ◌≤◌}
 use Rattle.builder.proofs.Planning.{Names, names_start, names_more, names_done}
@@ -20,13 +20,13 @@ tables-end-requires : tie.Need-tables-end-requires invariant-loop decreases-loop
 tables-end-requires c κs = search rules
 
 loop-holds : tie.Need-loop-init invariant-loop decreases-loop
-loop-holds c = (omega arith, names_start _ c.before.before.before.requires.tables c.tables-end.ensures.value)
+loop-holds c = (omega arith, names_start _ c.before.before.before.requires c.tables-end.ensures.value)
 
-name-and-zone-requires : tie.Need-name-and-zone-requires invariant-loop decreases-loop
-name-and-zone-requires c κs = (c.before.before.before.before.before.requires.node c.before.loop.k (omega (arith, c.loop-test.true, c.before.before.before.node-count.ensures.value))).known
+name-length-requires : tie.Need-name-length-requires invariant-loop decreases-loop
+name-length-requires c κs = search rules
 
 add-end : tie.Need-overflow-add-end invariant-loop decreases-loop
-add-end c = omega (arith, c.before.before.loop.invariant.1.near, c.name-and-zone.ensures.small)
+add-end c = omega (arith, c.before.before.loop.invariant.1.near, c.name-length.ensures.small)
 
 add-k : tie.Need-overflow-add-k invariant-loop decreases-loop
 add-k c = search rules
@@ -35,10 +35,10 @@ loop-less : tie.Need-loop-smaller invariant-loop decreases-loop
 loop-less c = search rules
 
 loop-again : tie.Need-loop-preserved invariant-loop decreases-loop
-loop-again c = (omega arith, names_more c.before.before.loop.invariant.1 c.name-and-zone.ensures)
+loop-again c = (omega arith, names_more c.before.before.loop.invariant.1 c.name-length.ensures)
 
 returns : tie.Need-returns invariant-loop decreases-loop
-returns c = names_done c.before.loop.invariant.1 c.before.before.before.before.before.requires.tables c.before.before.before.node-count.ensures.value c.before.loop.invariant.0 c.loop-test.false
+returns c = names_done c.before.loop.invariant.1 c.before.before.before.before.before.requires c.before.before.before.node-count.ensures.value c.before.loop.invariant.0 c.loop-test.false
 
 pub names-end-spec : {M : Type 1} → statement M
 names-end-spec =
@@ -49,7 +49,7 @@ names-end-spec =
     node-count-requires
     tables-end-requires
     loop-holds
-    name-and-zone-requires
+    name-length-requires
     add-end
     add-k
     loop-less

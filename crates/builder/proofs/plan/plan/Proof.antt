@@ -31,7 +31,7 @@ mul-end : tie.Need-overflow-mul-end invariant-loop decreases-loop
 mul-end c = search rules
 
 names-end-requires : tie.Need-names-end-requires invariant-loop decreases-loop
-names-end-requires c κs = accepted _ c.before.before.before.before.before.before.before.requires.0
+names-end-requires c κs = (accepted _ c.before.before.before.before.before.before.before.requires.0).tables
 
 slice-write-places : tie.Need-slice-write-places invariant-loop decreases-loop
 slice-write-places c = omega (arith, c.before.before.before.before.before.before.before.before.requires.1.2)

@@ -46,26 +46,19 @@ returns-4 : tie.Need-returns-4
 unfolding fault11
 returns-4 c = rw (← c.before.before.before.before.before.before.before.before.before.code.ensures.value, le-ltb _ _ c.before.before.before.before.before.before.before.before.if1.false, ← c.before.before.before.before.before.before.before.flags.ensures.value, le-ltb _ _ c.before.before.before.before.before.before.if2.false, ← c.before.before.before.before.before.p1.ensures.value, ← c.before.before.before.before.p1-fits.ensures, not-false c.before.before.before.before.p1-fits.result c.before.before.before.if3.false, ← c.before.before.p2.ensures.value, ← c.before.p2-fits.ensures, not-true c.before.p2-fits.result c.if4.true)
 
-stray-place-requires : tie.Need-stray-place-requires
-stray-place-requires c κs = search rules
-
-returns-5 : tie.Need-returns-5
-unfolding fault11
-returns-5 c = rw (← c.before.before.before.before.before.before.before.before.before.before.before.code.ensures.value, le-ltb _ _ c.before.before.before.before.before.before.before.before.before.before.if1.false, ← c.before.before.before.before.before.before.before.before.before.flags.ensures.value, le-ltb _ _ c.before.before.before.before.before.before.before.before.if2.false, ← c.before.before.before.before.before.before.before.p1.ensures.value, ← c.before.before.before.before.before.before.p1-fits.ensures, not-false c.before.before.before.before.before.before.p1-fits.result c.before.before.before.before.before.if3.false, ← c.before.before.before.before.p2.ensures.value, ← c.before.before.before.p2-fits.ensures, not-false c.before.before.before.p2-fits.result c.before.before.if4.false, ← c.before.stray-place.ensures, c.if5.true)
-
 has-bitmap-requires : tie.Need-has-bitmap-requires
 has-bitmap-requires c κs = search rules
 
-returns-6 : tie.Need-returns-6
+returns-5 : tie.Need-returns-5
 unfolding fault11
-returns-6 c = rw (← c.before.before.before.before.before.before.before.before.before.before.before.before.before.code.ensures.value, le-ltb _ _ c.before.before.before.before.before.before.before.before.before.before.before.before.if1.false, ← c.before.before.before.before.before.before.before.before.before.before.before.flags.ensures.value, le-ltb _ _ c.before.before.before.before.before.before.before.before.before.before.if2.false, ← c.before.before.before.before.before.before.before.before.before.p1.ensures.value, ← c.before.before.before.before.before.before.before.before.p1-fits.ensures, not-false c.before.before.before.before.before.before.before.before.p1-fits.result c.before.before.before.before.before.before.before.if3.false, ← c.before.before.before.before.before.before.p2.ensures.value, ← c.before.before.before.before.before.p2-fits.ensures, not-false c.before.before.before.before.before.p2-fits.result c.before.before.before.before.if4.false, ← c.before.before.before.stray-place.ensures, c.before.before.if5.false, ← c.before.has-bitmap.ensures, not-true c.before.has-bitmap.result c.if6.true)
+returns-5 c = rw (← c.before.before.before.before.before.before.before.before.before.before.before.code.ensures.value, le-ltb _ _ c.before.before.before.before.before.before.before.before.before.before.if1.false, ← c.before.before.before.before.before.before.before.before.before.flags.ensures.value, le-ltb _ _ c.before.before.before.before.before.before.before.before.if2.false, ← c.before.before.before.before.before.before.before.p1.ensures.value, ← c.before.before.before.before.before.before.p1-fits.ensures, not-false c.before.before.before.before.before.before.p1-fits.result c.before.before.before.before.before.if3.false, ← c.before.before.before.before.p2.ensures.value, ← c.before.before.before.p2-fits.ensures, not-false c.before.before.before.p2-fits.result c.before.before.if4.false, ← c.before.has-bitmap.ensures, not-true c.before.has-bitmap.result c.if5.true)
 
 takes-bitmap-requires : tie.Need-takes-bitmap-requires
 takes-bitmap-requires c κs = search rules
 
-returns-7 : tie.Need-returns-7
+returns-6 : tie.Need-returns-6
 unfolding fault11
-returns-7 c = rw (← c.before.before.before.before.before.before.before.before.before.before.before.before.before.before.code.ensures.value, le-ltb _ _ c.before.before.before.before.before.before.before.before.before.before.before.before.before.if1.false, ← c.before.before.before.before.before.before.before.before.before.before.before.before.flags.ensures.value, le-ltb _ _ c.before.before.before.before.before.before.before.before.before.before.before.if2.false, ← c.before.before.before.before.before.before.before.before.before.before.p1.ensures.value, ← c.before.before.before.before.before.before.before.before.before.p1-fits.ensures, not-false c.before.before.before.before.before.before.before.before.before.p1-fits.result c.before.before.before.before.before.before.before.before.if3.false, ← c.before.before.before.before.before.before.before.p2.ensures.value, ← c.before.before.before.before.before.before.p2-fits.ensures, not-false c.before.before.before.before.before.before.p2-fits.result c.before.before.before.before.before.if4.false, ← c.before.before.before.before.stray-place.ensures, c.before.before.before.if5.false, ← c.before.before.has-bitmap.ensures, not-false c.before.before.has-bitmap.result c.before.if6.false, ← c.takes-bitmap.ensures)
+returns-6 c = rw (← c.before.before.before.before.before.before.before.before.before.before.before.before.code.ensures.value, le-ltb _ _ c.before.before.before.before.before.before.before.before.before.before.before.if1.false, ← c.before.before.before.before.before.before.before.before.before.before.flags.ensures.value, le-ltb _ _ c.before.before.before.before.before.before.before.before.before.if2.false, ← c.before.before.before.before.before.before.before.before.p1.ensures.value, ← c.before.before.before.before.before.before.before.p1-fits.ensures, not-false c.before.before.before.before.before.before.before.p1-fits.result c.before.before.before.before.before.before.if3.false, ← c.before.before.before.before.before.p2.ensures.value, ← c.before.before.before.before.p2-fits.ensures, not-false c.before.before.before.before.p2-fits.result c.before.before.before.if4.false, ← c.before.before.has-bitmap.ensures, not-false c.before.before.has-bitmap.result c.before.if5.false, ← c.takes-bitmap.ensures)
 
 pub fault-11-spec : {M : Type 1} → statement M
 fault-11-spec =
@@ -83,9 +76,7 @@ fault-11-spec =
     cast-p2-fits
     p2-fits-requires
     returns-4
-    stray-place-requires
-    returns-5
     has-bitmap-requires
-    returns-6
+    returns-5
     takes-bitmap-requires
-    returns-7)
+    returns-6)

@@ -1,4 +1,4 @@
--- The answer is whether code, p1, p2, child count and zone are the same, in turn.
+-- The answer is whether code, p1, p2 and child count are the same, in turn.
 -- What was read stands for the numbers of the definition.
 use Rattle.image.specs.Types.{heads_agree}
 use Rattle.image.proofs.Compare.{is_eq, is_ne}
@@ -44,14 +44,7 @@ child-count-requires-2 c κs = search rules
 
 returns-4 : tie.Need-returns-4
 unfolding heads_agree
-returns-4 c = rw (is_eq c.before.before.before.before.before.before.before.before.before.before.before.code.ensures.value c.before.before.before.before.before.before.before.before.before.before.code2.ensures.value c.before.before.before.before.before.before.before.before.before.if1.false, is_eq c.before.before.before.before.before.before.before.before.p1.ensures.value c.before.before.before.before.before.before.before.p12.ensures.value c.before.before.before.before.before.before.if2.false, is_eq c.before.before.before.before.before.p2.ensures.value c.before.before.before.before.p22.ensures.value c.before.before.before.if3.false, is_ne c.before.before.child-count.ensures.value c.before.child-count2.ensures.value c.if4.true)
-
-zones-equal-requires : tie.Need-zones-equal-requires
-zones-equal-requires c κs = search rules
-
-returns-5 : tie.Need-returns-5
-unfolding heads_agree
-returns-5 c = rw (is_eq c.before.before.before.before.before.before.before.before.before.before.before.before.code.ensures.value c.before.before.before.before.before.before.before.before.before.before.before.code2.ensures.value c.before.before.before.before.before.before.before.before.before.before.if1.false, is_eq c.before.before.before.before.before.before.before.before.before.p1.ensures.value c.before.before.before.before.before.before.before.before.p12.ensures.value c.before.before.before.before.before.before.before.if2.false, is_eq c.before.before.before.before.before.before.p2.ensures.value c.before.before.before.before.before.p22.ensures.value c.before.before.before.before.if3.false, is_eq c.before.before.before.child-count.ensures.value c.before.before.child-count2.ensures.value c.before.if4.false) c.zones-equal.ensures
+returns-4 c = rw (is_eq c.before.before.before.before.before.before.before.before.before.before.code.ensures.value c.before.before.before.before.before.before.before.before.before.code2.ensures.value c.before.before.before.before.before.before.before.before.if1.false, is_eq c.before.before.before.before.before.before.before.p1.ensures.value c.before.before.before.before.before.before.p12.ensures.value c.before.before.before.before.before.if2.false, is_eq c.before.before.before.before.p2.ensures.value c.before.before.before.p22.ensures.value c.before.before.if3.false, ← c.before.child-count.ensures.value, ← c.child-count2.ensures.value)
 
 pub heads-equal-spec : {M : Type 1} → statement M
 heads-equal-spec =
@@ -68,6 +61,4 @@ heads-equal-spec =
     returns-3
     child-count-requires
     child-count-requires-2
-    returns-4
-    zones-equal-requires
-    returns-5)
+    returns-4)

@@ -3,7 +3,7 @@
 use native.Mathlib.Omega.{arith}
 use borrow.Author.Tests.{not-false}
 use borrow.Author.Rules.{rules}
-use Rattle.image.specs.Names.{name_of}
+use Rattle.image.specs.Types.{name_of}
 use Rattle.values.proofs.types.name_agrees.Statement.{statement}
 use Rattle.values.proofs.types.name_agrees.Tie as tie
 

@@ -1,9 +1,8 @@
 -- `TypeCode::p2_fits` answers as the definition does.
--- Whether a code is a decimal's is one test over each range of codes, and a timestamp's is an arm of its own; then the code's
--- tests are the definition's.
+-- Whether a code is a decimal's is one test over each range of codes; then the code's tests are the definition's.
 use mathlib.Core.List.{[]}
 use native.Mathlib.Omega.{arith}
-use borrow.Author.Tests.{lt-ltb, le-ltb, ne_eqb}
+use borrow.Author.Tests.{lt-ltb, le-ltb}
 use mathlib.Core.Bool.{true, false}
 use mathlib.Core.Logic.{⊎_elim}
 use mathlib.Core.Path.{◌≡◌, refl}
@@ -26,24 +25,16 @@ unfolding is_decimal
 above code low high = constant [] false is_decimal 19 237 refl code low high tt
 
 returns : tie.Need-returns
-unfolding p2_fits is_decimal
-returns c = rw c.match.keys1
+unfolding p2_fits
+returns c = rw (← decimal c.before.before.before.args.code c.before.before.if1.false c.before.if2.true, lt-ltb _ _ c.if3.true)
 
 returns-2 : tie.Need-returns-2
 unfolding p2_fits
-returns-2 c = rw (← decimal c.before.before.before.before.args.code c.before.before.if1.false c.before.if2.true, lt-ltb _ _ c.if3.true)
+returns-2 c = rw (← decimal c.before.before.before.args.code c.before.before.if1.false c.before.if2.true, le-ltb _ _ c.if3.false)
 
 returns-3 : tie.Need-returns-3
 unfolding p2_fits
-returns-3 c = rw (← decimal c.before.before.before.before.args.code c.before.before.if1.false c.before.if2.true, le-ltb _ _ c.if3.false)
-
-returns-4 : tie.Need-returns-4
-unfolding p2_fits
-returns-4 c =
-    ⊎_elim
-    (λ w. rw (← below c.before.before.args.code w.taken, ne_eqb _ _ c.before.match.rest.1))
-    (λ w. rw (← above c.before.before.args.code w.1.left (omega arith), ne_eqb _ _ c.before.match.rest.1))
-    c.if1.branch
+returns-3 c = ⊎_elim (λ w. rw (← below c.before.args.code w.taken)) (λ w. rw (← above c.before.args.code w.1.left (omega arith))) c.if1.branch
 
 pub p2-fits-spec : {M : Type 1} → statement M
-p2-fits-spec = tie.close (tie.spec returns returns-2 returns-3 returns-4)
+p2-fits-spec = tie.close (tie.spec returns returns-2 returns-3)

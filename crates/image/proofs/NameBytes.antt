@@ -1,5 +1,5 @@
--- Bytes at two places: of different lengths they are not the same; of one length they are where each byte is.
--- By induction over the lengths.
+-- A name beside other bytes: of another length they are not the same; of one length they are where each byte is.
+-- By induction over the lengths; a name is the bytes at its place.
 use mathlib.Core.Path.{◌≡◌, refl, sym, ap, ap₂, ◌∙◌}
 use mathlib.Core.Bool.{Bool, false, ◌&&◌}
 use mathlib.Core.List.{List}
@@ -8,7 +8,8 @@ use native.Mathlib.Omega.{arith}
 use lib.Dec.{eqb}
 use Rattle.image.specs.Ranges.{every}
 use Rattle.image.specs.Bytes.{byte_at, bytes_at}
-use Rattle.image.specs.Types.{same_bytes}
+use Rattle.image.specs.Record.{name_length, name_place}
+use Rattle.image.specs.Types.{same_bytes, name_of}
 use Rattle.image.proofs.Bools.{fails_and}
 
 -- the bytes numbered k from two places on are the same
@@ -30,12 +31,14 @@ by_bytes a b p q k (suc n) =
     let y : q + suc k ≡ suc (q + k) = omega arith in
     ap (λ (r : Bool). same_at a b p q k && r) (by_bytes a b p q (suc k) n ∙ rw (x, y))
 
-module _ (a b : List ℕ) (p m q n : ℕ) where
-  pub length_differs : (m ≡ n → ⊥) → false ≡ same_bytes (bytes_at a p m) (bytes_at b q n)
-  length_differs h = sym (other_length a b p q m n h)
+module _ (a b : List ℕ) (k q m n : ℕ) (size : m ≡ name_length a k) where
+  pub name_differs : (m ≡ n → ⊥) → false ≡ same_bytes (name_of a k) (bytes_at b q n)
+  unfolding name_of
+  name_differs h = sym (other_length a b (name_place a k) q (name_length a k) n (λ e. h (size ∙ e)))
 
-  pub all-bytes : m ≡ n → every (same_at a b p q) 0 n ≡ same_bytes (bytes_at a p m) (bytes_at b q n)
-  all-bytes e =
-      let x : p + 0 ≡ p = omega arith in
+  pub name-bytes : (p : ℕ) → m ≡ n → p ≡ name_place a k → every (same_at a b p q) 0 n ≡ same_bytes (name_of a k) (bytes_at b q n)
+  unfolding name_of
+  name-bytes p e ep =
+      let x : p + 0 ≡ name_place a k = omega (arith, ep) in
       let y : q + 0 ≡ q = omega arith in
-      by_bytes a b p q 0 n ∙ ap₂ same_bytes (ap₂ (bytes_at a) x (sym e)) (ap (λ (j : ℕ). bytes_at b j n) y)
+      by_bytes a b p q 0 n ∙ ap₂ same_bytes (ap₂ (bytes_at a) x (sym e ∙ size)) (ap (λ (j : ℕ). bytes_at b j n) y)
