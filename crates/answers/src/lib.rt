@@ -1,4 +1,6 @@
 // What the library's calls answer, each call with an enum of its own, and the numbers of every answer.
+#![tactic(auto)]
+
 pub mod numbers;
 
 use image::answer::{Fault, Side};

@@ -1,6 +1,8 @@
 // The public calls: check an image, compare two tables, compare ranges of their rows, find the first row in which ranges
 // differ, compare ranges of decimal numbers at fewer digits, ask for the names of Maps, write rows, build a table from written
 // rows. Each checks its images itself.
+#![tactic(auto)]
+
 ghost use Rattle.std.specs.Prelude.{◌≡◌, cond};
 ghost use Rattle.image.specs.declared.answer.Checked.TheVariants.{Accepted};
 ghost use Rattle.image.specs.Equality.{tables_equal, ranges_equal, first_difference};

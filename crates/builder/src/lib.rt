@@ -1,5 +1,7 @@
 // A table built from written rows: whether a string is rows of the type that an image has, and the image that they make, put
 // into a lent buffer.
+#![tactic(auto)]
+
 pub mod clear;
 pub mod front;
 pub mod plan;

@@ -1,1 +1,2 @@
 // Theorems about tables built from written rows; no code.
+#![tactic(auto)]

@@ -1,4 +1,6 @@
 // Further calls for a host written in C, each answering with one number. host/editions_calls.h says what they answer.
+#![tactic(auto)]
+
 ghost use Rattle.std.specs.Prelude.{◌≡◌};
 ghost use Rattle.answers.specs.Answers.{compare_range_answer, difference_answer, digits_answer, map_names_answer, build_answer, build_output};
 ghost use Rattle.answers.specs.Numbers.{compared_numbers, difference_numbers, digits_numbers, map_names_numbers, built_numbers, packed};

@@ -1,4 +1,6 @@
 // The first unequal row of two ranges: blocks of rows that grow, and a bisection of the block that is unequal.
+#![tactic(auto)]
+
 ghost use Rattle.std.specs.Prelude.{◌≡◌, false, ◌<◌, min, max};
 ghost use Rattle.image.specs.Record.{max_depth};
 ghost use Rattle.image.specs.Equality.{ranges_equal, first_difference};

@@ -1,4 +1,6 @@
 // Ranges of decimal numbers, compared at fewer digits.
+#![tactic(auto)]
+
 pub mod round;
 
 ghost use Rattle.std.specs.Prelude.{◌≡◌, false};

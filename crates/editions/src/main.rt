@@ -1,4 +1,6 @@
 // The session program: lines from standard input, one reply for each on standard output.
+#![tactic(auto)]
+
 use session::sizes::{KEPT, LONGEST_REPLY, OUTPUT, STORE};
 use session::turn::{end, start, turn};
 

@@ -1,5 +1,7 @@
 // What a host written in C calls: check, compare and write, each answering with one number. host/editions.h says how the
 // number is taken apart.
+#![tactic(auto)]
+
 ghost use Rattle.std.specs.Prelude.{◌≡◌, ◌++◌, min, length};
 ghost use Rattle.image.specs.Faults.{check_image};
 ghost use Rattle.answers.specs.Answers.{compare_answer, write_answer, write_output};

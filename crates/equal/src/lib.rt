@@ -1,5 +1,7 @@
 // Equality of ranges of rows. Translated from src/equal/mod.rs of arrow-data 60.1.0 (Apache-2.0), as are the modules
 // below from the files of their names.
+#![tactic(auto)]
+
 pub mod dictionary;
 pub mod fixed_list;
 pub mod list;

@@ -1,4 +1,6 @@
 // Filling the parts of an image with the rows that a string holds. Each part holds what the rows so far make, and zeros behind.
+#![tactic(auto)]
+
 pub mod put;
 
 ghost use Rattle.std.specs.Prelude.{◌≡◌, ◌*◌, ◌<◌};

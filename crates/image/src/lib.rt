@@ -1,5 +1,7 @@
 // An image of Arrow columns: its numbers, records, buffers and type codes.
 // What an image means stands in specs/.
+#![tactic(auto)]
+
 pub mod answer;
 pub mod bytes;
 pub mod element;

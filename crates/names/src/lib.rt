@@ -1,4 +1,6 @@
 // Whether the Maps of an image have the names that Arrow gives their entries, keys and values.
+#![tactic(auto)]
+
 ghost use Rattle.std.specs.Prelude.{◌≡◌};
 ghost use Rattle.image.specs.Types.{same_bytes, name_of};
 ghost use Rattle.image.specs.MapNames.{map_named, maps_named};

@@ -1,5 +1,7 @@
 // Whether a string is rows of a type by the row rule, in one scan of the string. Beside it each node's spans are added up:
 // how far the offsets of its rows go on in all.
+#![tactic(auto)]
+
 pub mod leaf;
 pub mod scan;
 

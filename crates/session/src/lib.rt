@@ -1,4 +1,6 @@
 // The session: lines of hexadecimal, two image stores, one reply for each line.
+#![tactic(auto)]
+
 mod feed;
 mod frame;
 mod front;

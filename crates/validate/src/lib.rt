@@ -1,5 +1,7 @@
 // The image check: faults 10 to 19, the lowest number first and among nodes the lowest. The rules of a number are asked
 // only where no node has a lower one, so they may rest on what the lower ones say.
+#![tactic(auto)]
+
 pub mod buffers;
 pub mod children;
 pub mod codes;

@@ -1,5 +1,7 @@
 // Equality of ranges of values without children: bits, bytes, text, views, null masks and types. Ported from the files
 // of the equal module of arrow-data 60.1.0 (Apache-2.0) that the modules are named after.
+#![tactic(auto)]
+
 pub mod bits;
 pub mod boolean;
 pub mod byte_view;
