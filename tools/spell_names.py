@@ -1,12 +1,11 @@
 #!/usr/bin/env python3
-"""Brings the names of this repository's own definitions and lemmas to one spelling: snake case, with a dash only between two names.
+"""Brings the names of this repository's own definitions and lemmas to one spelling, snake case.
 
 usage: spell_names.py [--dry]     at the top of the repository, once, after the kit's port.py and before any edit by hand
 
 What is renamed: what the files of crates/*/specs and the lemma files crates/*/proofs/*.antt declare (definitions, lemmas, fields of
-records, constructors). A word in camel case becomes one in snake case. A dash stays where it joins two names that are declared
-themselves, here or in the library, as `beq-true`; elsewhere it becomes an underscore, as in `numbers_end`. A lemma that would have
-the name of a definition gets `_lem`. Types, modules, functions of src/, exported names, strings and inputs keep their names.
+records, constructors). A word in camel case becomes one in snake case, and a dash an underscore. A lemma that would have the name
+of a definition gets `_lem`. Types, modules, functions of src/, exported names, strings and inputs keep their names.
 The renamed words are written anew in .antt and .rt files (there in contracts only), in must-fail edits and in the documents.
 """
 import os
@@ -64,23 +63,14 @@ def snake(word):
     return re.sub(r"([A-Z])", lambda m: "_" + m.group(1).lower(), word)
 
 
-def spelled(name, known):
-    """A name's spelling: its parts between dashes in snake case; a dash between two names stays."""
-    parts = name.split("-")
-    turned = [snake(p) for p in parts]
-    out = turned[0]
-    for k in range(1, len(parts)):
-        left, right = "-".join(parts[:k]), "-".join(parts[k:])
-        joins = (left in known or snake(left) in known) and (right in known or snake(right) in known)
-        out += ("-" if joins else "_") + turned[k]
-    return out
-
-
-LIBRARY = set("append length take drop replicate map concat reverse get_or slice_index slice_set cond eqb leb ltb beq true false not".split())
+def spelled(name):
+    """A name's spelling in snake case."""
+    return "_".join(snake(part) for part in name.split("-"))
 
 
 # Names that would fall together with another's new one.
-APART = {"line_Before": "line_before", "in-turn": "in_turn_lem", "cut-at": "cut_at_lem", "oneByte": "one_byte_lem", "no-id": "without_id"}
+APART = {"line_Before": "line_before", "in-turn": "in_turn_lem", "cut-at": "cut_at_lem", "oneByte": "one_byte_lem", "no-id": "without_id",
+         "buffer-total": "buffers_total", "own-width": "own_width_lem", "view-place": "view_place_lem"}
 
 # Lemmas that have the new name of a definition already.
 GIVES_WAY = "after_check from_each kept_run rows_in run_ends same_byte same_whole masked_row part_bytes row_gives same_bytes same_row struct_row too_long too_many".split()
@@ -88,14 +78,13 @@ GIVES_WAY = "after_check from_each kept_run rows_in run_ends same_byte same_whol
 
 def mapping():
     specs, lemmas = declared()
-    known = specs | LIBRARY
     new, taken = {}, set()
     for name in sorted(specs):
-        to = spelled(name, known)
+        to = spelled(name)
         new[name] = to
         taken.add(to)
     for name in sorted(lemmas - specs):
-        to = spelled(name, known)
+        to = spelled(name)
         if to != name and to in taken:
             to += "_lem"
         new[name] = to

@@ -16,65 +16,65 @@ use Rattle.image.specs.TypeCode.{layout_of, entry_of, entries}
 use Rattle.image.specs.Element.{valid, run_end_at, run_at}
 use Rattle.image.specs.Row.{run_row, row_at}
 use Rattle.laws.specs.Accepted.{AcceptedImage, RunsCover}
-use Rattle.laws.proofs.Codes.{runs-code}
+use Rattle.laws.proofs.Codes.{runs_code}
 use Rattle.accepted.specs.declared.column.Column.{Column}
 use Rattle.accepted.specs.Parts.{Side, RunPart}
 use Rattle.accepted.specs.Runs.{next_run, in_runs, kept_run, ColumnRead, Kept, Behind, Stays, Remembered, remembering}
-use Rattle.accepted.proofs.Nodes.{side-small}
-use Rattle.accepted.proofs.RunEnds.{runs_cover, runs-few}
-use Rattle.accepted.proofs.RunSteps.{run_stays, run-next}
+use Rattle.accepted.proofs.Nodes.{side_small}
+use Rattle.accepted.proofs.RunEnds.{runs_cover, runs_few}
+use Rattle.accepted.proofs.RunSteps.{run_stays, run_next}
 
 -- whether the rows are in runs is a matter of the layout
-pub runs-layout : (s : List ℕ) (k : ℕ) → in_runs s k ≡ true → layout_of (code_of s k) ≡ Runs
+pub runs_layout : (s : List ℕ) (k : ℕ) → in_runs s k ≡ true → layout_of (code_of s k) ≡ Runs
 unfolding in_runs layout_of entry_of entries
-runs-layout s k e = rw (eqb-true (code_of s k) 43 e)
+runs_layout s k e = rw (eqb-true (code_of s k) 43 e)
 
-pub layout-runs : (s : List ℕ) (k : ℕ) → layout_of (code_of s k) ≡ Runs → in_runs s k ≡ true
+pub layout_runs : (s : List ℕ) (k : ℕ) → layout_of (code_of s k) ≡ Runs → in_runs s k ≡ true
 unfolding in_runs
-layout-runs s k e = eq-eqb (code_of s k) 43 (runs-code (code_of s k) e)
+layout_runs s k e = eq-eqb (code_of s k) 43 (runs_code (code_of s k) e)
 
 -- what is kept, with runs and without
 pub kept_run_lem : (s : List ℕ) (k j : ℕ) → in_runs s k ≡ true → kept_run s k j ≡ run_at s k j
 unfolding kept_run
 kept_run_lem s k j e = rw e
 
-pub kept-alone : (s : List ℕ) (k j : ℕ) → in_runs s k ≡ false → kept_run s k j ≡ j
+pub kept_alone : (s : List ℕ) (k j : ℕ) → in_runs s k ≡ false → kept_run s k j ≡ j
 unfolding kept_run
-kept-alone s k j e = rw e
+kept_alone s k j e = rw e
 
 -- a row of a node that is in runs, as an element
-row-runs : {s : List ℕ} {k i n : ℕ} → Side s k i n → in_runs s k ≡ true → (h : ℕ) → h < n → RunPart s k (offset_of s k + i + h)
+row_runs : {s : List ℕ} {k i n : ℕ} → Side s k i n → in_runs s k ≡ true → (h : ℕ) → h < n → RunPart s k (offset_of s k + i + h)
 unfolding elements_of
-row-runs {s} {k} r e h lt = record { image = r.image; node = r.node; runs = runs-layout s k e; element = omega (arith, r.rows) }
+row_runs {s} {k} r e h lt = record { image = r.image; node = r.node; runs = runs_layout s k e; element = omega (arith, r.rows) }
 
 -- a node's number
-pub node-few : {s : List ℕ} {k i n : ℕ} → Side s k i n → k < 256
-node-few r = omega (arith, r.node, r.image.tables.few-nodes)
+pub node_few : {s : List ℕ} {k i n : ℕ} → Side s k i n → k < 256
+node_few r = omega (arith, r.node, r.image.tables.few_nodes)
 
 module _ {s : List ℕ} {k i : ℕ} {c : Column} where
   -- the first of the rows that are asked
   module _ (r : Side s k i 1) (read : ColumnRead s k c) where
     pub first_small : c.offset + i < 1073741824
-    first_small = omega (arith, side-small s k i 1 r, read.offset.value)
+    first_small = omega (arith, side_small s k i 1 r, read.offset.value)
 
     pub first_alone : c.runs ≡ false → Kept s k c i (c.offset + i)
-    first_alone none = record { column = read; same = sym (kept-alone s k (c.offset + i) (sym read.runs ∙ none)) }
+    first_alone none = record { column = read; same = sym (kept_alone s k (c.offset + i) (sym read.runs ∙ none)) }
 
     pub first_part : c.runs ≡ true → RunPart s k (c.offset + i)
     first_part e =
         let at : offset_of s k + i + 0 ≡ c.offset + i = omega (arith, read.offset.value) in
-        rw at at (row-runs r (sym read.runs ∙ e) 0 (omega arith))
+        rw at at (row_runs r (sym read.runs ∙ e) 0 (omega arith))
 
-    pub first-kept : {run : ℕ} → c.runs ≡ true → run ≡ run_at s k (c.offset + i) → Kept s k c i run
-    first-kept e same = record { column = read; same = same ∙ sym (kept_run_lem s k (c.offset + i) (sym read.runs ∙ e)) }
+    pub first_kept : {run : ℕ} → c.runs ≡ true → run ≡ run_at s k (c.offset + i) → Kept s k c i run
+    first_kept e same = record { column = read; same = same ∙ sym (kept_run_lem s k (c.offset + i) (sym read.runs ∙ e)) }
 
     pub first_remembered : {runs : List ℕ} → Remembered s runs → c.runs ≡ true → get_or runs k 0 ≡ c.offset + i + 1 → Kept s k c i (get_or runs (256 + k) 0)
-    first_remembered t e place = first-kept e (t.run k (c.offset + i) (node-few r) place (first_part e))
+    first_remembered t e place = first_kept e (t.run k (c.offset + i) (node_few r) place (first_part e))
 
   -- the rows from row i on
   module _ {n run : ℕ} (r : Side s k i n) (some : 0 < n) (at : Kept s k c i run) where
     pub stay_small : c.offset + i + n ≤ 1073741824
-    stay_small = omega (arith, side-small s k i n r, at.column.offset.value)
+    stay_small = omega (arith, side_small s k i n r, at.column.offset.value)
 
     -- where the rows are not in runs, each row is one
     pub stay_alone : c.runs ≡ false → Stays s k c i n run (record { rows = 1; next = c.offset + i + 1 })
@@ -97,29 +97,29 @@ module _ {s : List ℕ} {k i : ℕ} {c : Column} where
       element : (h : ℕ) → h < n → RunPart s k (c.offset + (i + h))
       element h lt =
           let place : offset_of s k + i + h ≡ c.offset + (i + h) = omega (arith, at.column.offset.value) in
-          rw place at (row-runs r (sym at.column.runs ∙ e) h lt)
+          rw place at (row_runs r (sym at.column.runs ∙ e) h lt)
 
       cover : RunsCover s k
       cover = runs_cover (element 0 some)
 
-      run-held : run ≡ run_at s k (c.offset + i)
-      run-held = at.same ∙ kept_run_lem s k (c.offset + i) (sym at.column.runs ∙ e)
+      run_held : run ≡ run_at s k (c.offset + i)
+      run_held = at.same ∙ kept_run_lem s k (c.offset + i) (sym at.column.runs ∙ e)
 
       pub stay_few : run < 1073741824
       stay_few =
           let here : c.offset + i < elements_of s k = omega (arith, (element 0 some).element) in
-          omega (arith, run-held, cover.run (c.offset + i) here, runs-few (element 0 some))
+          omega (arith, run_held, cover.run (c.offset + i) here, runs_few (element 0 some))
 
       module _ {end : ℕ} (ee : end ≡ run_end_at s k run) where
-        end-held : end ≡ run_end_at s k (run_at s k (c.offset + i))
-        end-held = ee ∙ ap (run_end_at s k) run-held
+        end_held : end ≡ run_end_at s k (run_at s k (c.offset + i))
+        end_held = ee ∙ ap (run_end_at s k) run_held
 
         pub stay_above : c.offset + i < end
-        stay_above = omega (arith, end-held, cover.above (c.offset + i) (omega (arith, (element 0 some).element)))
+        stay_above = omega (arith, end_held, cover.above (c.offset + i) (omega (arith, (element 0 some).element)))
 
         -- a row below the run's end
         stays : (h : ℕ) → h < n → c.offset + (i + h) < end → run ≡ run_at s k (c.offset + (i + h))
-        stays h lt below = run-held ∙ run_stays cover (c.offset + i) (c.offset + (i + h)) (omega arith) (omega (arith, end-held)) (element h lt).element
+        stays h lt below = run_held ∙ run_stays cover (c.offset + i) (c.offset + (i + h)) (omega arith) (omega (arith, end_held)) (element h lt).element
 
         held : {x : ℕ} (h : ℕ) → x ≡ run_at s k (c.offset + (i + h)) → Kept s k c (i + h) x
         held h same = record { column = at.column; same = same ∙ sym (kept_run_lem s k (c.offset + (i + h)) (sym at.column.runs ∙ e)) }
@@ -136,7 +136,7 @@ module _ {s : List ℕ} {k i : ℕ} {c : Column} where
                 let last : c.offset + i + (rows - 1) ≡ c.offset + (i + (rows - 1)) = omega arith in
                 let behind : c.offset + (i + (rows - 1)) + 1 ≡ c.offset + (i + rows) = omega (arith, stay_above) in
                 let run-last : run ≡ run_at s k (c.offset + (i + (rows - 1))) = stays (rows - 1) (omega arith) (omega (arith, stay_above)) in
-                en ∙ ap (λ (x : ℕ). next_run x run end) last ∙ rw (ee, run-last) (sym (run-next (c.offset + (i + (rows - 1))) (rw behind part))) ∙ ap (run_at s k) behind;
+                en ∙ ap (λ (x : ℕ). next_run x run end) last ∙ rw (ee, run-last) (sym (run_next (c.offset + (i + (rows - 1))) (rw behind part))) ∙ ap (run_at s k) behind;
           };
         }
 
@@ -147,13 +147,13 @@ behind_kept {s} {k} {i} {n} {run} {c} r some at = record { column = at.column; s
     cases : (b : Bool) → c.runs ≡ b → run ≡ kept_run s k (c.offset + i)
     cases true e =
         let place : offset_of s k + i + 0 ≡ c.offset + i = omega (arith, at.column.offset.value) in
-        at.held e (rw place at (row-runs r (sym at.column.runs ∙ e) 0 some)) ∙ sym (kept_run_lem s k (c.offset + i) (sym at.column.runs ∙ e))
-    cases false e = at.alone e ∙ sym (kept-alone s k (c.offset + i) (sym at.column.runs ∙ e))
+        at.held e (rw place at (row_runs r (sym at.column.runs ∙ e) 0 some)) ∙ sym (kept_run_lem s k (c.offset + i) (sym at.column.runs ∙ e))
+    cases false e = at.alone e ∙ sym (kept_alone s k (c.offset + i) (sym at.column.runs ∙ e))
 
 pub kept_behind : {s : List ℕ} {k i run : ℕ} {c : Column} → Kept s k c i run → Behind s k c i run
 kept_behind {s} {k} {i} {run} {c} at = record {
   column = at.column;
-  alone = λ e. at.same ∙ kept-alone s k (c.offset + i) (sym at.column.runs ∙ e);
+  alone = λ e. at.same ∙ kept_alone s k (c.offset + i) (sym at.column.runs ∙ e);
   held = λ e part. at.same ∙ kept_run_lem s k (c.offset + i) (sym at.column.runs ∙ e);
 }
 
@@ -209,26 +209,26 @@ remembered_now e t few at = rw e (remembered_more t few at)
 
 -- rows beside which the same run is kept are the same row
 module _ {s : List ℕ} {k : ℕ} {c : Column} {x y run : ℕ} (accepted : AcceptedImage s) (node : k < node_count s) (at : Kept s k c x run) (to : Kept s k c y run) where
-  same-alone : in_runs s k ≡ false → x ≡ y
-  same-alone none = omega (arith, at.same, to.same, kept-alone s k (c.offset + x) none, kept-alone s k (c.offset + y) none)
+  same_alone : in_runs s k ≡ false → x ≡ y
+  same_alone none = omega (arith, at.same, to.same, kept_alone s k (c.offset + x) none, kept_alone s k (c.offset + y) none)
 
   module _ (e : in_runs s k ≡ true) where
-    same-run : run_at s k (offset_of s k + x) ≡ run_at s k (offset_of s k + y)
-    same-run =
+    same_run : run_at s k (offset_of s k + x) ≡ run_at s k (offset_of s k + y)
+    same_run =
         rw at.column.offset.value at
         (sym (kept_run_lem s k (c.offset + x) e) ∙ sym at.same ∙ to.same ∙ kept_run_lem s k (c.offset + y) e)
 
-    never-null : (i : ℕ) → valid s k i ≡ true
-    never-null i = (accepted.node k node).known.all_valid (rw (runs-layout s k e)) i
+    never_null : (i : ℕ) → valid s k i ≡ true
+    never_null i = (accepted.node k node).known.all_valid (rw (runs_layout s k e)) i
 
-    same-value : (depth : ℕ) → row_at depth s k x ≡ row_at depth s k y
+    same_value : (depth : ℕ) → row_at depth s k x ≡ row_at depth s k y
     unfolding row_at run_row
-    same-value zero = refl
-    same-value (suc depth) = rw (never-null x, never-null y, runs-layout s k e, same-run)
+    same_value zero = refl
+    same_value (suc depth) = rw (never_null x, never_null y, runs_layout s k e, same_run)
 
   pub same_row_lem : (depth : ℕ) → row_at depth s k x ≡ row_at depth s k y
   same_row_lem depth = cases (in_runs s k) refl
     where
       cases : (b : Bool) → in_runs s k ≡ b → row_at depth s k x ≡ row_at depth s k y
-      cases true e = same-value e depth
-      cases false none = ap (row_at depth s k) (same-alone none)
+      cases true e = same_value e depth
+      cases false none = ap (row_at depth s k) (same_alone none)

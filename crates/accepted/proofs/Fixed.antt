@@ -17,7 +17,7 @@ spanned s k j n w p r ew ep =
     let node = r.image.node k r.node in
     let one : buffer_count s k ≡ 1 = node.buffers.exactly 1 (rw r.fixed) in
     let inside : buffer_place s k 0 + buffer_length s k 0 ≤ length s = node.buffers.inside 0 (omega arith) in
-    let enough : elements_of s k * element_width s k ≤ buffer_length s k 0 = node.enough.fixed-width r.fixed in
+    let enough : elements_of s k * element_width s k ≤ buffer_length s k 0 = node.enough.fixed_width r.fixed in
     let part : (j + n) * element_width s k ≤ elements_of s k * element_width s k = mul-le-mul_right (element_width s k) r.high in
     let e : (j + n) * element_width s k ≡ j * element_width s k + n * element_width s k = add-mul j n (element_width s k) in
     record { place = rw (ew, ep); size = rw ew; inside = rw (ew, ep) (omega arith) }

@@ -13,24 +13,24 @@ use Rattle.image.specs.TypeCode.{layout_of}
 use Rattle.image.specs.declared.type_code.Layout.TheVariants.{Runs}
 use Rattle.image.specs.Element.{run_end_at, ends_above, run_at}
 use Rattle.image.specs.Reads.{Read}
-use Rattle.image.proofs.Ranges.{first-before, first_at_most}
+use Rattle.image.proofs.Ranges.{first_before, first_at_most}
 use Rattle.laws.specs.Accepted.{RunsCover}
 use Rattle.accepted.specs.Parts.{Part, RunPart}
-use Rattle.accepted.proofs.Nodes.{length-small, first_child_node}
+use Rattle.accepted.proofs.Nodes.{length_small, first_child_node}
 
 -- element j lies below the end of run r, or not
 above : (s : List ℕ) (k j r : ℕ) → j < run_end_at s k r → ends_above s k j r ≡ true
 unfolding ends_above
 above s k j r lt = lt-ltb _ _ lt
 
-not-above : (s : List ℕ) (k j r : ℕ) → ends_above s k j r ≡ false → run_end_at s k r ≤ j
+not_above : (s : List ℕ) (k j r : ℕ) → ends_above s k j r ≡ false → run_end_at s k r ≤ j
 unfolding ends_above
-not-above s k j r e = ltb-false _ _ e
+not_above s k j r e = ltb-false _ _ e
 
 -- the run of element j ends above it, and all runs before it end at or before it
-pub ends-before : (s : List ℕ) (k j r : ℕ) → r < run_at s k j → run_end_at s k r ≤ j
+pub ends_before : (s : List ℕ) (k j r : ℕ) → r < run_at s k j → run_end_at s k r ≤ j
 unfolding run_at
-ends-before s k j r lt = not-above s k j r (first-before (ends_above s k j) 0 (length_of s (first_child s k)) r (omega arith) lt)
+ends_before s k j r lt = not_above s k j r (first_before (ends_above s k j) 0 (length_of s (first_child s k)) r (omega arith) lt)
 
 run_at_most : (s : List ℕ) (k j r : ℕ) → j < run_end_at s k r → run_at s k j ≤ r
 unfolding run_at
@@ -43,16 +43,16 @@ module _ {s : List ℕ} {k : ℕ} (cover : RunsCover s k) where
       le_antisymm (le_of_suc-le-suc (lt_of_not-le (λ (past : suc (run_at s k j) ≤ r). omega (arith, before (run_at s k j) past, cover.above j lt)))) (run_at_most s k j r after)
 
   -- run ends do not fall
-  pub ends-rise : (q r : ℕ) → q ≤ r → r < length_of s (first_child s k) → run_end_at s k q ≤ run_end_at s k r
-  ends-rise q r le lt = cases (eq-or-lt_of_le le)
+  pub ends_rise : (q r : ℕ) → q ≤ r → r < length_of s (first_child s k) → run_end_at s k q ≤ run_end_at s k r
+  ends_rise q r le lt = cases (eq-or-lt_of_le le)
     where
       cases : (q ≡ r) ⊎ (q < r) → run_end_at s k q ≤ run_end_at s k r
       cases (inl e) = rw e (le_refl (run_end_at s k r))
       cases (inr l) = omega (arith, cover.rise q r l lt)
 
 -- the first element of a part of a run node
-pub run-first : {s : List ℕ} {k j n : ℕ} → Part s k j n → layout_of (code_of s k) ≡ Runs → 0 < n → RunPart s k j
-run-first r runs lt = record { image = r.image; node = r.node; runs = runs; element = omega (arith, r.high) }
+pub run_first : {s : List ℕ} {k j n : ℕ} → Part s k j n → layout_of (code_of s k) ≡ Runs → 0 < n → RunPart s k j
+run_first r runs lt = record { image = r.image; node = r.node; runs = runs; element = omega (arith, r.high) }
 
 -- The bisection: the runs below low end at or before element j, and those from high on end above it.
 pub record Bisect (s : List ℕ) (k j low high : ℕ) : Type 0 where
@@ -66,10 +66,10 @@ module _ {s : List ℕ} {k j : ℕ} (r : RunPart s k j) where
   runs_cover = (r.image.node k r.node).rows.runs r.runs
 
   -- there are few runs
-  pub runs-few : length_of s (first_child s k) ≤ 1073741824
-  runs-few =
+  pub runs_few : length_of s (first_child s k) ≤ 1073741824
+  runs_few =
       let two : child_count s k ≡ 2 = (r.image.node k r.node).tree.exactly 2 (rw r.runs) in
-      length-small s (first_child s k) r.image (first_child_node s k r.image r.node (omega arith))
+      length_small s (first_child s k) r.image (first_child_node s k r.image r.node (omega arith))
 
   pub bisect_start : {e n : ℕ} → Read (first_child s k) 16 e → Read (length_of s e) 32 n → Bisect s k j 0 n
   bisect_start {e} {n} ee en =
@@ -78,7 +78,7 @@ module _ {s : List ℕ} {k j : ℕ} (r : RunPart s k j) where
 
   module _ {low high : ℕ} (b : Bisect s k j low high) where
     pub bisect_small : high ≤ 1073741824
-    bisect_small = omega (arith, b.within, runs-few)
+    bisect_small = omega (arith, b.within, runs_few)
 
     -- the run in the middle
     module _ {m : ℕ} (em : m ≡ low + (high - low) / 2) (lt : low < high) where
@@ -86,7 +86,7 @@ module _ {s : List ℕ} {k j : ℕ} (r : RunPart s k j) where
       bisect_up ex le = record {
         order = omega arith;
         within = b.within;
-        before = λ q l. omega (arith, ends-rise runs_cover q m (omega arith) (omega (arith, b.within)));
+        before = λ q l. omega (arith, ends_rise runs_cover q m (omega arith) (omega (arith, b.within)));
         after = b.after;
       }
 
@@ -95,7 +95,7 @@ module _ {s : List ℕ} {k j : ℕ} (r : RunPart s k j) where
         order = omega arith;
         within = omega (arith, b.within);
         before = b.before;
-        after = λ q le l. omega (arith, ends-rise runs_cover m q le l);
+        after = λ q le l. omega (arith, ends_rise runs_cover m q le l);
       }
 
     pub bisect_done : high ≤ low → low ≡ run_at s k j

@@ -14,18 +14,18 @@ use Rattle.image.specs.Element.{run_end_at, run_at}
 use Rattle.laws.specs.Accepted.{RunsCover}
 use Rattle.accepted.specs.Parts.{RunPart}
 use Rattle.accepted.specs.Runs.{next_run}
-use Rattle.accepted.proofs.RunEnds.{ends-before, run_is, ends-rise, runs_cover}
+use Rattle.accepted.proofs.RunEnds.{ends_before, run_is, ends_rise, runs_cover}
 
 module _ {s : List ℕ} {k : ℕ} (cover : RunsCover s k) where
   -- up to the end of its run an element's run is the same
   pub run_stays : (x y : ℕ) → x ≤ y → y < run_end_at s k (run_at s k x) → y < elements_of s k → run_at s k x ≡ run_at s k y
-  run_stays x y le below lt = run_is cover y (run_at s k x) lt (λ q l. omega (arith, ends-before s k x q l)) below
+  run_stays x y le below lt = run_is cover y (run_at s k x) lt (λ q l. omega (arith, ends_before s k x q l)) below
 
   -- at the end of a run the next begins
   pub run_turns : (x y : ℕ) → x < elements_of s k → y ≡ run_end_at s k (run_at s k x) → y < elements_of s k → run_at s k x + 1 ≡ run_at s k y
   run_turns x y lx e ly =
-      let past : run_at s k x < run_at s k y = lt_of_not-le (λ (le : run_at s k y ≤ run_at s k x). omega (arith, ends-rise cover (run_at s k y) (run_at s k x) le (cover.run x lx), cover.above y ly)) in
-      run_is cover y (run_at s k x + 1) ly (λ q l. omega (arith, ends-rise cover q (run_at s k x) (omega arith) (cover.run x lx)))
+      let past : run_at s k x < run_at s k y = lt_of_not-le (λ (le : run_at s k y ≤ run_at s k x). omega (arith, ends_rise cover (run_at s k y) (run_at s k x) le (cover.run x lx), cover.above y ly)) in
+      run_is cover y (run_at s k x + 1) ly (λ q l. omega (arith, ends_rise cover q (run_at s k x) (omega arith) (cover.run x lx)))
       (omega (arith, cover.rise (run_at s k x) (run_at s k x + 1) (omega arith) (omega (arith, cover.run y ly))))
 
 -- the step, where the next element lies below the run's end, and where it does not
@@ -38,9 +38,9 @@ unfolding next_run
 step_leaves j run end le = rw (le-ltb (j + 1) end le)
 
 -- From an element to the next: the run of the next is `next_run` of the run and of that run's end.
-pub run-next : {s : List ℕ} {k : ℕ} (j : ℕ) → RunPart s k (j + 1) → run_at s k (j + 1) ≡ next_run j (run_at s k j) (run_end_at s k (run_at s k j))
+pub run_next : {s : List ℕ} {k : ℕ} (j : ℕ) → RunPart s k (j + 1) → run_at s k (j + 1) ≡ next_run j (run_at s k j) (run_end_at s k (run_at s k j))
 unfolding next_run
-run-next {s} {k} j r = cases (ltb (j + 1) (run_end_at s k (run_at s k j))) refl
+run_next {s} {k} j r = cases (ltb (j + 1) (run_end_at s k (run_at s k j))) refl
   where
     here : j < elements_of s k
     here = omega (arith, r.element)
@@ -54,6 +54,6 @@ run-next {s} {k} j r = cases (ltb (j + 1) (run_end_at s k (run_at s k j))) refl
 
 -- No run end but the current run's is asked: where two images have an element in the same run, and that run ends at the
 -- same place in both, their next elements are in the same run, whatever their other run ends are.
-pub run-alike : {s t : List ℕ} {k l : ℕ} (j : ℕ) → RunPart s k (j + 1) → RunPart t l (j + 1) → run_at s k j ≡ run_at t l j → run_end_at s k (run_at s k j) ≡ run_end_at t l (run_at t l j)
+pub run_alike : {s t : List ℕ} {k l : ℕ} (j : ℕ) → RunPart s k (j + 1) → RunPart t l (j + 1) → run_at s k j ≡ run_at t l j → run_end_at s k (run_at s k j) ≡ run_end_at t l (run_at t l j)
     → run_at s k (j + 1) ≡ run_at t l (j + 1)
-run-alike j r q run end = run-next j r ∙ ap₂ (next_run j) run end ∙ sym (run-next j q)
+run_alike j r q run end = run_next j r ∙ ap₂ (next_run j) run end ∙ sym (run_next j q)

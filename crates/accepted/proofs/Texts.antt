@@ -14,21 +14,21 @@ use Rattle.accepted.specs.Parts.{Part}
 use Rattle.accepted.proofs.Nodes.{part_offsets}
 
 module _ (s : List ℕ) (k i n : ℕ) (r : Part s k i n) (text : layout_of (code_of s k) ≡ VariableSize) where
-  pub text-narrow : element_width s k ≤ 8
-  text-narrow = (r.image.node k r.node).widths.variable_size text
+  pub text_narrow : element_width s k ≤ 8
+  text_narrow = (r.image.node k r.node).widths.variable_size text
 
-  pub text-rises : OffsetsRise s k (buffer_length s k 1)
-  text-rises = (r.image.node k r.node).places.variable_size text
+  pub text_rises : OffsetsRise s k (buffer_length s k 1)
+  text_rises = (r.image.node k r.node).places.variable_size text
 
-  two-buffers : buffer_count s k ≡ 2
-  two-buffers = (r.image.node k r.node).buffers.exactly 2 (rw text)
+  two_buffers : buffer_count s k ≡ 2
+  two_buffers = (r.image.node k r.node).buffers.exactly 2 (rw text)
 
   pub text_offsets : element_place s k i + (n + 1) * element_width s k ≤ length s
-  text_offsets = part_offsets r (omega (arith, two-buffers)) ((r.image.node k r.node).enough.variable_size text)
+  text_offsets = part_offsets r (omega (arith, two_buffers)) ((r.image.node k r.node).enough.variable_size text)
 
   -- the text from the offset at i up to that at i + n lies inside
-  pub text-inside : buffer_place s k 1 + element_at s k (i + n) ≤ length s
-  text-inside =
-      let inside : buffer_place s k 1 + buffer_length s k 1 ≤ length s = (r.image.node k r.node).buffers.inside 1 (omega (arith, two-buffers)) in
-      let end : element_at s k (i + n) ≤ buffer_length s k 1 = text-rises.within (i + n) r.high in
+  pub text_inside : buffer_place s k 1 + element_at s k (i + n) ≤ length s
+  text_inside =
+      let inside : buffer_place s k 1 + buffer_length s k 1 ≤ length s = (r.image.node k r.node).buffers.inside 1 (omega (arith, two_buffers)) in
+      let end : element_at s k (i + n) ≤ buffer_length s k 1 = text_rises.within (i + n) r.high in
       omega arith

@@ -46,13 +46,13 @@ compared_small (CompareRefused side f) = omega arith
 compared_small UnequalTypes = omega arith
 compared_small (RangeOut side) = omega arith
 
-pub digits-small : (answer : DigitsCompared) → (digits_numbers answer).value < 2 ^ 56
-digits-small DigitsYes = omega arith
-digits-small DigitsNo = omega arith
-digits-small (DigitsRefused side f) = omega arith
-digits-small DigitsUnequal = omega arith
-digits-small NotDigits = omega arith
-digits-small (DigitsOut side) = omega arith
+pub digits_small : (answer : DigitsCompared) → (digits_numbers answer).value < 2 ^ 56
+digits_small DigitsYes = omega arith
+digits_small DigitsNo = omega arith
+digits_small (DigitsRefused side f) = omega arith
+digits_small DigitsUnequal = omega arith
+digits_small NotDigits = omega arith
+digits_small (DigitsOut side) = omega arith
 
 pub map_names_small : (answer : MapNames) → (map_names_numbers answer).value < 2 ^ 56
 map_names_small NamesYes = omega arith
@@ -60,9 +60,9 @@ map_names_small NamesNo = omega arith
 map_names_small (NamesRefused f) = omega arith
 
 -- the value of a search over fewer than 2 ^ 56 rows
-pub difference-small : (s t : List ℕ) (i j n : ℕ) {r : Difference} → r ≡ difference_answer s t i j n → n < 2 ^ 56 → (difference_numbers r).value < 2 ^ 56
+pub difference_small : (s t : List ℕ) (i j n : ℕ) {r : Difference} → r ≡ difference_answer s t i j n → n < 2 ^ 56 → (difference_numbers r).value < 2 ^ 56
 unfolding difference_answer
-difference-small s t i j n e few =
+difference_small s t i j n e few =
     let row = first_difference s t i j n in
     rw e (cases row (paired_of s t) (bounds_of s t i j n) (ltb row n) refl)
   where
@@ -75,9 +75,9 @@ difference-small s t i j n e few =
     cases row Agreed Within true is = omega (arith, ltb-true row n is)
 
 -- the value of a table that is built
-image-small : (s : List ℕ) (rs : Rows) (out : List ℕ) → (built_numbers (image_answer s rs out)).value < 2 ^ 56
+image_small : (s : List ℕ) (rs : Rows) (out : List ℕ) → (built_numbers (image_answer s rs out)).value < 2 ^ 56
 unfolding image_answer
-image-small s rs out =
+image_small s rs out =
     cases (length (built_image s rs)) (ltb (length out) (length (built_image s rs))) (ltb longest_image (length (built_image s rs))) (any (too_many_rows s rs) 0 (node_count s)) refl
   where
     cases : (size : ℕ) (short long many : Bool) → ltb longest_image size ≡ long → (built_numbers (cond (short || long || many) BuildTooLong (BuiltBytes size))).value < 2 ^ 56
@@ -86,13 +86,13 @@ image-small s rs out =
     cases size false false true is = omega arith
     cases size false false false is = omega (arith, ltb-false longest_image size is)
 
-pub built-small : (s : List ℕ) (n : ℕ) (b out : List ℕ) {r : Built} → r ≡ build_answer s n b out → (built_numbers r).value < 2 ^ 56
+pub built_small : (s : List ℕ) (n : ℕ) (b out : List ℕ) {r : Built} → r ≡ build_answer s n b out → (built_numbers r).value < 2 ^ 56
 unfolding build_answer
-built-small s n b out e = rw e (cases (check_image s) (readable s) (rows_in s n b))
+built_small s n b out e = rw e (cases (check_image s) (readable s) (rows_in s n b))
   where
     cases : (c : Checked) (coded : Bool) (p : Parsed Rows) → (built_numbers (built_after c (cond coded (rows_answer s p out) Unreadable))).value < 2 ^ 56
     cases (Refused f) coded p = omega arith
     cases Accepted false p = omega arith
     cases Accepted true failed = omega arith
-    cases Accepted true (parsed rs []) = image-small s rs out
+    cases Accepted true (parsed rs []) = image_small s rs out
     cases Accepted true (parsed rs (x ∷ rest)) = omega arith

@@ -25,17 +25,17 @@ use Rattle.answers.specs.Answers.{compare_answer, paired_after, paired_of, bound
 use Rattle.values.specs.Pairs.{range_equal}
 use Rattle.values.specs.Parts.{Sides}
 use Rattle.laws.proofs.Accepted.{accepted}
-use Rattle.equal.proofs.Types.{table_sides, table-answer}
+use Rattle.equal.proofs.Types.{table_sides, table_answer}
 
 -- The whole comparison: a refused check ends it.
 module _ (s t : List ℕ) where
-  pub compare-left : {f : Fault} → check_image s ≡ Refused f → CompareRefused Left f ≡ compare_answer s t
+  pub compare_left : {f : Fault} → check_image s ≡ Refused f → CompareRefused Left f ≡ compare_answer s t
   unfolding compare_answer
-  compare-left is = rw is
+  compare_left is = rw is
 
-  pub compare-right : {f : Fault} → check_image s ≡ Accepted → check_image t ≡ Refused f → CompareRefused Right f ≡ compare_answer s t
+  pub compare_right : {f : Fault} → check_image s ≡ Accepted → check_image t ≡ Refused f → CompareRefused Right f ≡ compare_answer s t
   unfolding compare_answer
-  compare-right left is = rw (left, is)
+  compare_right left is = rw (left, is)
 
   pub compare_both : {r : Compared} → check_image s ≡ Accepted → check_image t ≡ Accepted → r ≡ yes_or_no (tables_equal s t) → r ≡ compare_answer s t
   unfolding compare_answer
@@ -58,9 +58,9 @@ pub compare_no : (s t : List ℕ) → types_agree s t && eqb (length_of s 0) (le
 unfolding tables_equal
 compare_no s t e = rw (fails (types_agree s t) (eqb (length_of s 0) (length_of t 0)) (ranges_equal s t 0 0 (length_of s 0)) e)
 
-pub compare-rows : (s t : List ℕ) {n : ℕ} {r : Bool} {out : Compared} → types_agree s t && eqb (length_of s 0) (length_of t 0) ≡ true → n ≡ length_of s 0 → r ≡ range_equal (row_at max_depth s 0) (row_at max_depth t 0) 0 0 n → out ≡ yes_or_no r → out ≡ yes_or_no (tables_equal s t)
+pub compare_rows : (s t : List ℕ) {n : ℕ} {r : Bool} {out : Compared} → types_agree s t && eqb (length_of s 0) (length_of t 0) ≡ true → n ≡ length_of s 0 → r ≡ range_equal (row_at max_depth s 0) (row_at max_depth t 0) 0 0 n → out ≡ yes_or_no r → out ≡ yes_or_no (tables_equal s t)
 unfolding tables_equal
-compare-rows s t {n} e is rows said = rw (holds (types_agree s t) (eqb (length_of s 0) (length_of t 0)) (ranges_equal s t 0 0 (length_of s 0)) e, ← is, ← table-answer s t 0 0 n, ← rows) said
+compare_rows s t {n} e is rows said = rw (holds (types_agree s t) (eqb (length_of s 0) (length_of t 0)) (ranges_equal s t 0 0 (length_of s 0)) e, ← is, ← table_answer s t 0 0 n, ← rows) said
 
 -- What two images are.
 module _ (s t : List ℕ) where
@@ -131,8 +131,8 @@ range_sides s t i j n pair bounds =
     let b = both_within s t i j n bounds in
     table_sides s t i j n (accepted s a.left) (accepted t a.right) a.types (within s i n b.0) (within t j n b.1)
 
-pub range-rows : (s t : List ℕ) (i j n : ℕ) {r : Bool} {out : Compared} → r ≡ range_equal (row_at max_depth s 0) (row_at max_depth t 0) i j n → out ≡ yes_or_no r → out ≡ yes_or_no (ranges_equal s t i j n)
-range-rows s t i j n rows said = rw (← table-answer s t i j n, ← rows) said
+pub range_rows : (s t : List ℕ) (i j n : ℕ) {r : Bool} {out : Compared} → r ≡ range_equal (row_at max_depth s 0) (row_at max_depth t 0) i j n → out ≡ yes_or_no r → out ≡ yes_or_no (ranges_equal s t i j n)
+range_rows s t i j n rows said = rw (← table_answer s t i j n, ← rows) said
 
 -- start + count exceeds the length, in two steps
 pub start_beyond : (s : List ℕ) (r start count : ℕ) → r ≡ length_of s 0 → r < start → true ≡ exceeds s start count

@@ -14,16 +14,16 @@ use Rattle.answers.specs.Answers.{rows_answer, build_answer, image_of, built_ove
 
 module _ (s : List ℕ) (n : ℕ) (b out : List ℕ) where
   -- a refusal leaves the buffer as it was
-  pub build-refused : {f : Fault} → check_image s ≡ Refused f → (BuildRefused f ≡ build_answer s n b out) × (out ≡ build_output s n b out)
+  pub build_refused : {f : Fault} → check_image s ≡ Refused f → (BuildRefused f ≡ build_answer s n b out) × (out ≡ build_output s n b out)
   unfolding build_answer build_output
-  build-refused is = (rw is, rw is)
+  build_refused is = (rw is, rw is)
 
   module _ (image : check_image s ≡ Accepted) where
     pub build_unreadable : readable s ≡ false → (Unreadable ≡ build_answer s n b out) × (out ≡ build_output s n b out)
     unfolding build_answer build_output
     build_unreadable other = (rw (image, other), rw (image, other))
 
-    pub build-rows : {r : Built} {after : List ℕ} → readable s ≡ true → (r ≡ rows_answer s (rows_in s n b) out) × (after ≡ built_over (rows_answer s (rows_in s n b) out) (image_of s (rows_in s n b)) out)
+    pub build_rows : {r : Built} {after : List ℕ} → readable s ≡ true → (r ≡ rows_answer s (rows_in s n b) out) × (after ≡ built_over (rows_answer s (rows_in s n b) out) (image_of s (rows_in s n b)) out)
         → (r ≡ build_answer s n b out) × (after ≡ build_output s n b out)
     unfolding build_answer build_output
-    build-rows coded e = (rw (image, coded) e.0, rw (image, coded) e.1)
+    build_rows coded e = (rw (image, coded) e.0, rw (image, coded) e.1)

@@ -20,7 +20,7 @@ use Rattle.image.specs.Equality.{ranges_equal, tables_equal}
 use Rattle.answers.specs.Answers.{compare_answer, after_checks, yes_or_no}
 use Rattle.image.proofs.Bools.{and_left, and_right}
 use Rattle.image.proofs.Ranges.{range_same}
-use Rattle.laws.proofs.Sound.{rows_equal-is}
+use Rattle.laws.proofs.Sound.{rows_equal_is}
 use Rattle.api.specs.Demand2.{EqualTables}
 
 -- the rows of equal ranges
@@ -30,11 +30,11 @@ head x y xs ys e = cc
 tail : (x y : Row) (xs ys : Rows) → more x xs ≡ more y ys → xs ≡ ys
 tail x y xs ys e = cc
 
-pub same-range : (g h : ℕ → Row) (i n : ℕ) → range g i n ≡ range h i n → (k : ℕ) → i ≤ k → k < i + n → g k ≡ h k
+pub same_range : (g h : ℕ → Row) (i n : ℕ) → range g i n ≡ range h i n → (k : ℕ) → i ≤ k → k < i + n → g k ≡ h k
 unfolding range
-same-range g h i zero e k from end = absurd (omega arith)
-same-range g h i (suc n) e k from end =
-    cases (ℕ_discrete i k) (λ later. same-range g h (suc i) n (tail (g i) (h i) (range g (suc i) n) (range h (suc i) n) e) k later (omega arith))
+same_range g h i zero e k from end = absurd (omega arith)
+same_range g h i (suc n) e k from end =
+    cases (ℕ_discrete i k) (λ later. same_range g h (suc i) n (tail (g i) (h i) (range g (suc i) n) (range h (suc i) n) e) k later (omega arith))
   where
     cases : Dec (i ≡ k) → (suc i ≤ k → g k ≡ h k) → g k ≡ h k
     cases (yes q) rest = rw (← q) (head (g i) (h i) (range g (suc i) n) (range h (suc i) n) e)
@@ -43,11 +43,11 @@ same-range g h i (suc n) e k from end =
 -- the ranges from row 0 on are equal exactly when each row is
 rows_out : (s t : List ℕ) (n : ℕ) → ranges_equal s t 0 0 n ≡ true → (i : ℕ) → i < n → row_at max_depth s 0 i ≡ row_at max_depth t 0 i
 unfolding ranges_equal table_rows
-rows_out s t n e i lt = same-range (row_at max_depth s 0) (row_at max_depth t 0) 0 n ((rows_equal-is _ _).0 e) i (omega arith) (omega arith)
+rows_out s t n e i lt = same_range (row_at max_depth s 0) (row_at max_depth t 0) 0 n ((rows_equal_is _ _).0 e) i (omega arith) (omega arith)
 
 rows_in_lem : (s t : List ℕ) (n : ℕ) → ((i : ℕ) → i < n → row_at max_depth s 0 i ≡ row_at max_depth t 0 i) → ranges_equal s t 0 0 n ≡ true
 unfolding ranges_equal table_rows
-rows_in_lem s t n e = (rows_equal-is _ _).1 (range_same (row_at max_depth s 0) (row_at max_depth t 0) 0 n (λ k from end. e k (omega arith)))
+rows_in_lem s t n e = (rows_equal_is _ _).1 (range_same (row_at max_depth s 0) (row_at max_depth t 0) 0 n (λ k from end. e k (omega arith)))
 
 -- a yes is one of both checks and of the test
 record Said (x y : Checked) (b : Bool) : Type 0 where

@@ -40,9 +40,9 @@ wrote s i n out v e = cases (check_image s) (exceeds s i n) (ltb (length out) (l
     cases Accepted false false is past e = record { image = is; inside = past; size = cc }
 
 -- what it put out is the range's bytes
-put-out : (s : List ℕ) (i n : ℕ) (out : List ℕ) (v : ℕ) → write_answer s i n out ≡ Bytes v → put_out s i n out v ≡ range_bytes s i n
+put_out_lem : (s : List ℕ) (i n : ℕ) (out : List ℕ) (v : ℕ) → write_answer s i n out ≡ Bytes v → put_out s i n out v ≡ range_bytes s i n
 unfolding write_output
-put-out s i n out v e = rw e (take_at (range_bytes s i n) (drop v out) v (wrote s i n out v e).size)
+put_out_lem s i n out v e = rw e (take_at (range_bytes s i n) (drop v out) v (wrote s i n out v e).size)
 
 -- the comparison of two ranges that were written says yes exactly when they are equal
 says_yes : (b : Bool) → (b ≡ true) ↔ (yes_or_no b ≡ Yes)
@@ -62,8 +62,8 @@ module _ (s t : List ℕ) (i j n : ℕ) (out over : List ℕ) (v w : ℕ) (both 
     left = left.image;
     right = right.image;
     types = both.types;
-    left-rows = ltb-false _ _ left.inside;
-    right-rows = ltb-false _ _ right.inside;
+    left_rows = ltb-false _ _ left.inside;
+    right_rows = ltb-false _ _ right.inside;
   }
 
   compared : compare_range_answer s t i j n ≡ yes_or_no (ranges_equal s t i j n)
@@ -73,9 +73,9 @@ module _ (s t : List ℕ) (i j n : ℕ) (out over : List ℕ) (v w : ℕ) (both 
   -- the same bytes exactly when the comparison says yes
   pub written_same : (put_out s i n out v ≡ put_out t j n over w) ↔ (compare_range_answer s t i j n ≡ Yes)
   written_same =
-      rw (put-out s i n out v both.left, put-out t j n over w both.right, compared)
+      rw (put_out_lem s i n out v both.left, put_out_lem t j n over w both.right, compared)
       (λ e. (says_yes _).0 ((same_bytes_lem s t i j n ranges).0 e), λ e. (same_bytes_lem s t i j n ranges).1 ((says_yes _).1 e))
 
   -- neither output a proper prefix of the other
   pub written_no_prefix : ¬ ProperPrefix (put_out s i n out v) (put_out t j n over w) × ¬ ProperPrefix (put_out t j n over w) (put_out s i n out v)
-  written_no_prefix = rw (put-out s i n out v both.left, put-out t j n over w both.right) (no_proper_prefix s t i j n ranges)
+  written_no_prefix = rw (put_out_lem s i n out v both.left, put_out_lem t j n over w both.right) (no_proper_prefix s t i j n ranges)

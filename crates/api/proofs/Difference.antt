@@ -20,12 +20,12 @@ use Rattle.answers.specs.declared.Compared.TheVariants.{Yes}
 use Rattle.answers.specs.declared.Difference.TheVariants.{Nowhere, At}
 use Rattle.answers.specs.Answers.{paired_of, bounds_of, exceeds, yes_or_no, bounded_answer, paired_answer, compare_range_answer, differs_at, bounded_difference, paired_difference, difference_answer}
 use Rattle.answers.specs.Numbers.{compared_numbers, difference_numbers}
-use Rattle.laws.proofs.Sound.{row_equal-is}
+use Rattle.laws.proofs.Sound.{row_equal_is}
 use Rattle.values.specs.Pairs.{same_row, first_unequal}
 use Rattle.values.proofs.Blocks.{all_at}
-use Rattle.values.proofs.Steps.{all-by}
-use Rattle.values.proofs.FirstUnequal.{apart, unequal-within, unequal-before, unequal_fails, unequal-is, unequal-whole}
-use Rattle.difference.proofs.Search.{same_rows, all-rows, first-row}
+use Rattle.values.proofs.Steps.{all_by}
+use Rattle.values.proofs.FirstUnequal.{apart, unequal_within, unequal_before, unequal_fails, unequal_is, unequal_whole}
+use Rattle.difference.proofs.Search.{same_rows, all_rows_lem, first_row}
 use Rattle.api.specs.Difference.{PartAt, SameRefusal}
 use Rattle.api.proofs.Answers.{agreed, both_within, within}
 
@@ -75,26 +75,26 @@ module _ (n : ℕ) where
       cases false ge h = record { agree = refl; inside = refl; below = absurd (apart true refl cc); is = cc }
 
 module _ (s t : List ℕ) (i j n : ℕ) where
-  first-whole : eqb (first_difference s t i j n) n ≡ ranges_equal s t i j n
-  first-whole = rw (← first-row s t i j n) (unequal-whole (same_rows s t) i j n ∙ all-rows s t i j n)
+  first_whole : eqb (first_difference s t i j n) n ≡ ranges_equal s t i j n
+  first_whole = rw (← first_row s t i j n) (unequal_whole (same_rows s t) i j n ∙ all_rows_lem s t i j n)
 
   first_least : first_difference s t i j n ≤ n
-  first_least = rw (← first-row s t i j n) (unequal-within (same_rows s t) i j n)
+  first_least = rw (← first_row s t i j n) (unequal_within (same_rows s t) i j n)
 
   -- "It says none exactly when the range is equal"
   pub nowhere_yes : (difference_answer s t i j n ≡ Nowhere) ↔ (compare_range_answer s t i j n ≡ Yes)
   unfolding difference_answer compare_range_answer
-  nowhere_yes = nowhere n (paired_of s t) (bounds_of s t i j n) (first_difference s t i j n) (ranges_equal s t i j n) first-whole first_least
+  nowhere_yes = nowhere n (paired_of s t) (bounds_of s t i j n) (first_difference s t i j n) (ranges_equal s t i j n) first_whole first_least
 
   -- "refused as range comparison is"
-  pub refused-alike : SameRefusal (difference_numbers (difference_answer s t i j n)) (compared_numbers (compare_range_answer s t i j n))
+  pub refused_alike : SameRefusal (difference_numbers (difference_answer s t i j n)) (compared_numbers (compare_range_answer s t i j n))
   unfolding difference_answer compare_range_answer
-  refused-alike = alike n (paired_of s t) (bounds_of s t i j n) (first_difference s t i j n) (ranges_equal s t i j n)
+  refused_alike = alike n (paired_of s t) (bounds_of s t i j n) (first_difference s t i j n) (ranges_equal s t i j n)
 
   -- the rows of two tables that are compared
   row_same : (k : ℕ) → (same_rows s t (i + k) (j + k) ≡ true) ↔ (row_at max_depth s 0 (i + k) ≡ row_at max_depth t 0 (j + k))
   unfolding same_row
-  row_same k = row_equal-is (row_at max_depth s 0 (i + k)) (row_at max_depth t 0 (j + k))
+  row_same k = row_equal_is (row_at max_depth s 0 (i + k)) (row_at max_depth t 0 (j + k))
 
   parts : (row : ℕ) → difference_answer s t i j n ≡ At row → PartAt s t i j n row
   unfolding difference_answer
@@ -102,27 +102,27 @@ module _ (s t : List ℕ) (i j n : ℕ) where
       let h = told n (paired_of s t) (bounds_of s t i j n) (first_difference s t i j n) row e in
       let pair = agreed s t h.agree in
       let ranges = both_within s t i j n h.inside in
-      let is : row ≡ first_unequal (same_rows s t) i j n = h.is ∙ sym (first-row s t i j n) in
+      let is : row ≡ first_unequal (same_rows s t) i j n = h.is ∙ sym (first_row s t i j n) in
       let inside : row < n = omega (arith, h.below, h.is) in
       record {
         left = pair.left;
         right = pair.right;
         types = pair.types;
-        left-within = within s i n ranges.0;
-        right-within = within t j n ranges.1;
+        left_within = within s i n ranges.0;
+        right_within = within t j n ranges.1;
         inside = inside;
         unequal = λ same. apart _ ((row_same row).1 same) (rw (← is) at (unequal_fails (same_rows s t) i j n (omega arith)));
-        equal = λ k lt. (row_same k).0 (all_at (same_rows s t) i j row (rw (← is) at (unequal-before (same_rows s t) i j n)) k lt);
+        equal = λ k lt. (row_same k).0 (all_at (same_rows s t) i j row (rw (← is) at (unequal_before (same_rows s t) i j n)) k lt);
       }
 
   parted : (row : ℕ) → PartAt s t i j n row → difference_answer s t i j n ≡ At row
   unfolding difference_answer paired_of bounds_of exceeds
   parted row p =
       let is : row ≡ first_difference s t i j n =
-      unequal-is (same_rows s t) i j n row (omega (arith, p.inside))
-      (all-by (same_rows s t) i j row (λ k lt. (row_same k).1 (p.equal k lt)))
-      (λ lt. fails row p.unequal) ∙ first-row s t i j n in
-      rw (p.left, p.right, p.types, le-ltb _ _ p.left-within, le-ltb _ _ p.right-within, ← is, lt-ltb _ _ p.inside)
+      unequal_is (same_rows s t) i j n row (omega (arith, p.inside))
+      (all_by (same_rows s t) i j row (λ k lt. (row_same k).1 (p.equal k lt)))
+      (λ lt. fails row p.unequal) ∙ first_row s t i j n in
+      rw (p.left, p.right, p.types, le-ltb _ _ p.left_within, le-ltb _ _ p.right_within, ← is, lt-ltb _ _ p.inside)
     where
       fails : (row : ℕ) → (row_at max_depth s 0 (i + row) ≡ row_at max_depth t 0 (j + row) → ⊥) → same_rows s t (i + row) (j + row) ≡ false
       fails row ne = cases (same_rows s t (i + row) (j + row)) refl

@@ -16,7 +16,7 @@ use Rattle.image.specs.Types.{same_bytes}
 use Rattle.image.specs.Row.{fixed, masked, fixed_row}
 use Rattle.image.specs.Equality.{row_equal, ranges_equal}
 use Rattle.image.specs.Digits.{midway, divided, whole_number, same_whole, stored_at, kept_at, kept_agree, digits_equal, not_digits}
-use Rattle.image.proofs.Bools.{and_left, and_right, when_true, flags-same, tests_same}
+use Rattle.image.proofs.Bools.{and_left, and_right, when_true, flags_same, tests_same}
 use Rattle.answers.specs.declared.Paired.{Paired}
 use Rattle.answers.specs.declared.Paired.TheVariants.{Agreed, Refused as PairRefused, UnequalTypes as PairUnequal}
 use Rattle.answers.specs.declared.Bounds.{Bounds}
@@ -24,15 +24,15 @@ use Rattle.answers.specs.declared.Bounds.TheVariants.{Within, OutOfRange as Boun
 use Rattle.answers.specs.declared.DigitsCompared.TheVariants.{Yes, NotDigits}
 use Rattle.answers.specs.Answers.{paired_of, bounds_of, exceeds, bounded_answer, paired_answer, compare_range_answer, bounded_digits, paired_digits, digits_answer}
 use Rattle.laws.proofs.Alike.{same_width}
-use Rattle.laws.proofs.Rounding.{divided-one, same_whole_lem, whole_once}
+use Rattle.laws.proofs.Rounding.{divided_one, same_whole_lem, whole_once}
 use Rattle.values.specs.Pairs.{same_row, masked_row}
 use Rattle.values.specs.Parts.{Sides}
-use Rattle.values.proofs.Steps.{by_rows, by_bytes, all_moved, all-by}
+use Rattle.values.proofs.Steps.{by_rows, by_bytes, all_moved, all_by}
 use Rattle.values.proofs.Blocks.{all_at}
 use Rattle.values.proofs.Octets.{same_numbers, number_small}
-use Rattle.equal.proofs.Nulls.{masked-answer}
-use Rattle.equal.proofs.Types.{table-answer}
-use Rattle.digits.proofs.Agreeing.{by_pairs, decimal-root, few-digits, decimal-layout}
+use Rattle.equal.proofs.Nulls.{masked_answer}
+use Rattle.equal.proofs.Types.{table_answer}
+use Rattle.digits.proofs.Agreeing.{by_pairs, decimal_root, few_digits, decimal_layout}
 use Rattle.api.specs.Digits.{AgreeAt, as_digits}
 use Rattle.api.proofs.Answers.{agreed, both_within, within, range_sides}
 
@@ -40,7 +40,7 @@ use Rattle.api.proofs.Answers.{agreed, both_within, within, range_sides}
 module _ (s t : List ℕ) (left : AllBytes s) (right : AllBytes t) where
   stored_same : (w x y : ℕ) → same_whole (divided midway 1 (whole_number w (number_at w s x))) (divided midway 1 (whole_number w (number_at w t y))) ≡ same_bytes (bytes_at s x w) (bytes_at t y w)
   stored_same w x y =
-      ap₂ same_whole (divided-one midway _) (divided-one midway _)
+      ap₂ same_whole (divided_one midway _) (divided_one midway _)
       ∙ tests_same _ (eqb (number_at w s x) (number_at w t y))
       (λ e. eq-eqb _ _ (whole_once w _ _ (number_small s left w x) (number_small t right w y) ((same_whole_lem _ _).0 e)))
       (λ e. (same_whole_lem _ _).1 (ap (whole_number w) (eqb-true _ _ e)))
@@ -66,8 +66,8 @@ module _ (s t : List ℕ) (left : AllBytes s) (right : AllBytes t) where
       sym (by_pairs 0 s t i j n refl)
       ∙ all_moved (kept_agree 1 s t) (same_row (masked_row fixed_row s 0) (masked_row fixed_row t 0)) i j i j n (λ k lt. row_same (same_width s t 0 0 r.alike.0.code r.alike.0.p1) (i + k) (j + k))
       ∙ by_rows _ _ i j n
-      ∙ masked-answer r (decimal-layout s 0 fit) fixed_row (λ A s k j. refl)
-      ∙ table-answer s t i j n
+      ∙ masked_answer r (decimal_layout s 0 fit) fixed_row (λ A s k j. refl)
+      ∙ table_answer s t i j n
 
   -- "At d = 0, unless 22 refuses": the answer of the range comparison
   pub no_digit_dropped : (i j n : ℕ) → (digits_answer s t i j n 0 ≡ NotDigits → ⊥) → digits_answer s t i j n 0 ≡ as_digits (compare_range_answer s t i j n)
@@ -114,17 +114,17 @@ module _ (s t : List ℕ) (i j n d : ℕ) where
         left = pair.left;
         right = pair.right;
         types = pair.types;
-        decimal = decimal-root s d h.fit;
-        digits = few-digits s d h.fit;
-        left-within = within s i n ranges.0;
-        right-within = within t j n ranges.1;
-        nulls = λ k lt. flags-same _ _ (and_left _ _ (row k lt));
+        decimal = decimal_root s d h.fit;
+        digits = few_digits s d h.fit;
+        left_within = within s i n ranges.0;
+        right_within = within t j n ranges.1;
+        nulls = λ k lt. flags_same _ _ (and_left _ _ (row k lt));
         kept = λ k lt is. (same_whole_lem _ _).0 (when_true (valid s 0 (i + k)) _ (and_right (beq (valid s 0 (i + k)) (valid t 0 (j + k))) _ (row k lt)) is);
       }
 
   says_yes : AgreeAt s t i j n d → digits_answer s t i j n d ≡ Yes
   unfolding digits_answer paired_of bounds_of exceeds not_digits kept_agree
-  says_yes r = rw (r.left, r.right, r.types, fit, le-ltb _ _ r.left-within, le-ltb _ _ r.right-within, rows)
+  says_yes r = rw (r.left, r.right, r.types, fit, le-ltb _ _ r.left_within, le-ltb _ _ r.right_within, rows)
     where
       fit : not_digits s d ≡ false
       fit = ⊎_elim (λ (h : code_of s 0 ≡ 15). rw (h, le-ltb 9 d r.digits)) (λ (h : code_of s 0 ≡ 16). rw (h, le-ltb 9 d r.digits)) r.decimal
@@ -136,7 +136,7 @@ module _ (s t : List ℕ) (i j n d : ℕ) where
       row k false false eu ev same kept = rw (eu, ev)
 
       rows : digits_equal d s t i j n ≡ true
-      rows = sym (by_pairs d s t i j n refl) ∙ all-by (kept_agree (10 ^ d) s t) i j n (λ k lt. row k (valid s 0 (i + k)) (valid t 0 (j + k)) refl refl (r.nulls k lt) (r.kept k lt))
+      rows = sym (by_pairs d s t i j n refl) ∙ all_by (kept_agree (10 ^ d) s t) i j n (λ k lt. row k (valid s 0 (i + k)) (valid t 0 (j + k)) refl refl (r.nulls k lt) (r.kept k lt))
 
   -- yes exactly when rows are null together and the others' kept values are the same
   pub yes_agree : (digits_answer s t i j n d ≡ Yes) ↔ AgreeAt s t i j n d

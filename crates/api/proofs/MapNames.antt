@@ -14,10 +14,10 @@ use Rattle.image.specs.TypeCode.{is_map}
 use Rattle.image.specs.Faults.{check_image}
 use Rattle.image.specs.MapNames.{named, map_named, maps_named}
 use Rattle.image.proofs.Bools.{and_left, and_right, and_true, when_true, true_when}
-use Rattle.image.proofs.Ranges.{every-below, every_of_below}
+use Rattle.image.proofs.Ranges.{every_below, every_of_below}
 use Rattle.answers.specs.declared.MapNames.TheVariants.{Yes, Refused as NamesRefused}
 use Rattle.answers.specs.Answers.{names_after, map_names_answer}
-use Rattle.laws.proofs.Sound.{same_bytes-is}
+use Rattle.laws.proofs.Sound.{same_bytes_is}
 use Rattle.api.specs.MapNames.{MapNamed, AllNamed}
 
 -- a Map
@@ -29,9 +29,9 @@ module _ (s : List ℕ) (k : ℕ) where
       let all = when_true (is_map (code_of s k)) _ e (eq-eqb _ _ map) in
       let two : named s entries "entries" && named s (first_child s entries) "key" ≡ true = and_left _ _ all in
       record {
-        entries = (same_bytes-is _ _).0 (and_left _ _ two);
-        key = (same_bytes-is _ _).0 (and_right (named s entries "entries") _ two);
-        value = (same_bytes-is _ _).0 (and_right (named s entries "entries" && named s (first_child s entries) "key") _ all);
+        entries = (same_bytes_is _ _).0 (and_left _ _ two);
+        key = (same_bytes_is _ _).0 (and_right (named s entries "entries") _ two);
+        value = (same_bytes_is _ _).0 (and_right (named s entries "entries" && named s (first_child s entries) "key") _ all);
       }
 
   names_in : (code_of s k ≡ 42 → MapNamed s k) → map_named s k ≡ true
@@ -39,7 +39,7 @@ module _ (s : List ℕ) (k : ℕ) where
   names_in h =
       true_when (is_map (code_of s k)) _ (λ e.
       let m = h (eqb-true _ _ e) in
-      and_true _ _ (and_true _ _ ((same_bytes-is _ _).1 m.entries) ((same_bytes-is _ _).1 m.key)) ((same_bytes-is _ _).1 m.value))
+      and_true _ _ (and_true _ _ ((same_bytes_is _ _).1 m.entries) ((same_bytes_is _ _).1 m.key)) ((same_bytes_is _ _).1 m.value))
 
 -- the answers of the query
 said_yes : (x : Checked) (b : Bool) → names_after x b ≡ Yes → (x ≡ Accepted) × (b ≡ true)
@@ -57,7 +57,7 @@ unfolding map_names_answer maps_named
 names_yes s = (
   λ e.
       let h = said_yes (check_image s) (maps_named s) e in
-      record { accepted = h.0; maps = λ k lt map. names_out s k (every-below (map_named s) (node_count s) h.1 k lt) map },
+      record { accepted = h.0; maps = λ k lt map. names_out s k (every_below (map_named s) (node_count s) h.1 k lt) map },
   λ a.
       let all : maps_named s ≡ true = every_of_below (map_named s) (node_count s) (λ k lt. names_in s k (a.maps k lt)) in
       rw (a.accepted, all),

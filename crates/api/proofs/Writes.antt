@@ -18,25 +18,25 @@ use Rattle.image.specs.RowBytes.{rows_bytes, range_bytes}
 use Rattle.answers.specs.Answers.{exceeds, write_range, write_answer, write_output}
 use Rattle.rows.specs.declared.measure.Room.TheVariants.{Left, Short}
 use Rattle.rows.specs.Output.{over, room_after, Fits}
-use Rattle.rows.proofs.Rooms.{left-told, short-told}
+use Rattle.rows.proofs.Rooms.{left_told, short_told}
 use Rattle.accepted.specs.Parts.{Side}
 use Rattle.laws.proofs.Accepted.{accepted}
 use Rattle.api.proofs.Answers.{within}
 
 -- the rows that are measured and written
-pub table-side : (s : List ℕ) (i n : ℕ) → check_image s ≡ Accepted → exceeds s i n ≡ false → Side s 0 i n
-table-side s i n is inside =
+pub table_side : (s : List ℕ) (i n : ℕ) → check_image s ≡ Accepted → exceeds s i n ≡ false → Side s 0 i n
+table_side s i n is inside =
     let image = accepted s is in
-    record { image = image; node = omega (arith, image.tables.some-nodes); rows = within s i n inside }
+    record { image = image; node = omega (arith, image.tables.some_nodes); rows = within s i n inside }
 
 module _ (s : List ℕ) (i n : ℕ) (out : List ℕ) where
   abbrev bytes : List ℕ
   bytes = rows_bytes (range (row_at max_depth s 0) i n)
 
   -- a refusal leaves the buffer as it was
-  pub write-refused : {f : Fault} → check_image s ≡ Refused f → (WriteRefused f ≡ write_answer s i n out) × (out ≡ write_output s i n out)
+  pub write_refused : {f : Fault} → check_image s ≡ Refused f → (WriteRefused f ≡ write_answer s i n out) × (out ≡ write_output s i n out)
   unfolding write_answer write_output
-  write-refused is = (rw is, rw is)
+  write_refused is = (rw is, rw is)
 
   module _ (image : check_image s ≡ Accepted) where
     pub write_out_of_range : exceeds s i n ≡ true → (OutOfRange ≡ write_answer s i n out) × (out ≡ write_output s i n out)
@@ -46,18 +46,18 @@ module _ (s : List ℕ) (i n : ℕ) (out : List ℕ) where
     pub write_too_long : exceeds s i n ≡ false → room_after (length out) (length bytes) ≡ Short → (TooLong ≡ write_answer s i n out) × (out ≡ write_output s i n out)
     unfolding write_answer write_output write_range range_bytes table_rows
     write_too_long inside e =
-        let long : ltb (length out) (length bytes) ≡ true = lt-ltb _ _ (short-told _ _ (sym e)) in
+        let long : ltb (length out) (length bytes) ≡ true = lt-ltb _ _ (short_told _ _ (sym e)) in
         (rw (image, inside, long), rw (image, inside, long))
 
-    pub write-fits : {rest : ℕ} → room_after (length out) (length bytes) ≡ Left rest → Fits out 0 bytes
-    write-fits e =
-        record { within = omega (arith, left-told _ _ _ (sym e)) }
+    pub write_fits : {rest : ℕ} → room_after (length out) (length bytes) ≡ Left rest → Fits out 0 bytes
+    write_fits e =
+        record { within = omega (arith, left_told _ _ _ (sym e)) }
 
     pub write_bytes : {rest k : ℕ} {after : List ℕ} → exceeds s i n ≡ false → room_after (length out) (length bytes) ≡ Left rest → k ≡ 0 + length bytes → after ≡ over out 0 bytes
         → (Bytes k ≡ write_answer s i n out) × (after ≡ write_output s i n out)
     unfolding write_answer write_output write_range range_bytes table_rows over
     write_bytes {rest} inside e ek eo =
-        let room : length out ≡ rest + length bytes = left-told (length out) (length bytes) rest (sym e) in
+        let room : length out ≡ rest + length bytes = left_told (length out) (length bytes) rest (sym e) in
         let fits : ltb (length out) (length bytes) ≡ false = le-ltb (length out) (length bytes) (omega arith) in
         let z : 0 + length bytes ≡ length bytes = omega arith in
         (rw (image, inside, fits) (ap Bytes (ek ∙ z)), rw (image, inside, fits) (eo ∙ ap (λ (m : ℕ). bytes ++ drop m out) z))

@@ -13,8 +13,8 @@ pub record PartAt (s t : List ℕ) (i j n row : ℕ) : Type 0 where
   pub left : check_image s ≡ Accepted
   pub right : check_image t ≡ Accepted
   pub types : types_agree s t ≡ true
-  pub left-within : i + n ≤ length_of s 0
-  pub right-within : j + n ≤ length_of t 0
+  pub left_within : i + n ≤ length_of s 0
+  pub right_within : j + n ≤ length_of t 0
   pub inside : row < n
   pub unequal : row_at max_depth s 0 (i + row) ≡ row_at max_depth t 0 (j + row) → ⊥
   pub equal : (k : ℕ) → k < row → row_at max_depth s 0 (i + k) ≡ row_at max_depth t 0 (j + k)

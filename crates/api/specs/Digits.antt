@@ -19,8 +19,8 @@ pub record AgreeAt (s t : List ℕ) (i j n d : ℕ) : Type 0 where
   pub types : types_agree s t ≡ true
   pub decimal : (code_of s 0 ≡ 15) ⊎ (code_of s 0 ≡ 16)
   pub digits : d ≤ 9
-  pub left-within : i + n ≤ length_of s 0
-  pub right-within : j + n ≤ length_of t 0
+  pub left_within : i + n ≤ length_of s 0
+  pub right_within : j + n ≤ length_of t 0
   pub nulls : (k : ℕ) → k < n → valid s 0 (i + k) ≡ valid t 0 (j + k)
   pub kept : (k : ℕ) → k < n → valid s 0 (i + k) ≡ true → kept_at (10 ^ d) s (i + k) ≡ kept_at (10 ^ d) t (j + k)
 

@@ -7,29 +7,29 @@ use native.Mathlib.Nat.{zero-add}
 use native.Mathlib.Omega.{arith}
 use lib.ListN.{length, set, replicate, length-replicate}
 use Rattle.image.specs.Bytes.{number_bytes}
-use Rattle.laws.proofs.Lengths.{number-length}
+use Rattle.laws.proofs.Lengths.{number_length}
 use Rattle.rows.specs.Output.{over, Fits}
-use Rattle.rows.proofs.Over.{ToPut, put-start, put_as, put-more, put_last, put_byte, put-done, PiecesToPut, pieces_fit, pieces_more}
+use Rattle.rows.proofs.Over.{ToPut, put_start, put_as, put_more, put_last, put_byte, put_done, PiecesToPut, pieces_fit, pieces_more}
 
 -- nothing is put yet, of bytes whose length is known
-put-sized : {out whole : List ℕ} {at n : ℕ} → length whole ≡ n → at + n ≤ length out → ToPut out at whole out at whole
-put-sized e fits = put-start (record { within = omega (arith, e, fits) })
+put_sized : {out whole : List ℕ} {at n : ℕ} → length whole ≡ n → at + n ≤ length out → ToPut out at whole out at whole
+put_sized e fits = put_start (record { within = omega (arith, e, fits) })
 
 -- the room that such bytes have
-pub fits-sized : {out bytes : List ℕ} {at n : ℕ} → length bytes ≡ n → Fits out at bytes → at + n ≤ length out
-fits-sized e fits = omega (arith, e, fits.within)
+pub fits_sized : {out bytes : List ℕ} {at n : ℕ} → length bytes ≡ n → Fits out at bytes → at + n ≤ length out
+fits_sized e fits = omega (arith, e, fits.within)
 
 -- Numbers.
-number-end : (w x next end : ℕ) → end ≡ next + w → end ≡ next + length (number_bytes w x)
-number-end w x next end e = omega (arith, e, number-length w x)
+number_end : (w x next end : ℕ) → end ≡ next + w → end ≡ next + length (number_bytes w x)
+number_end w x next end e = omega (arith, e, number_length w x)
 
 module _ {out₀ whole out : List ℕ} {at next : ℕ} (w x y : ℕ) (e : x ≡ y) {after : List ℕ} {end : ℕ} (f : (end ≡ next + w) × (after ≡ over out next (number_bytes w x))) where
   pub number_put : {rest : List ℕ} → ToPut out₀ at whole out next (number_bytes w y ++ rest) → ToPut out₀ at whole after end rest
-  number_put {rest} t = put-more (number_bytes w x) rest (put_as t (ap (λ (n : ℕ). number_bytes w n ++ rest) (sym e))) f.1 (number-end w x next end f.0)
+  number_put {rest} t = put_more (number_bytes w x) rest (put_as t (ap (λ (n : ℕ). number_bytes w n ++ rest) (sym e))) f.1 (number_end w x next end f.0)
 
   -- the last of them
-  pub number-last : ToPut out₀ at whole out next (number_bytes w y) → (end ≡ at + length whole) × (after ≡ over out₀ at whole)
-  number-last t = put_last (put_as t (ap (number_bytes w) (sym e))) f.1 (number-end w x next end f.0)
+  pub number_last : ToPut out₀ at whole out next (number_bytes w y) → (end ≡ at + length whole) × (after ≡ over out₀ at whole)
+  number_last t = put_last (put_as t (ap (number_bytes w) (sym e))) f.1 (number_end w x next end f.0)
 
 -- Pieces, the first of them piece 0.
 module _ {p : ℕ → List ℕ} {n : ℕ} {out₀ : List ℕ} {at : ℕ} {out : List ℕ} {next k : ℕ} (t : PiecesToPut p 0 n out₀ at out next k) (lt : k < n) where
@@ -44,7 +44,7 @@ pub record ZerosToPut (out₀ : List ℕ) (from to : ℕ) (out : List ℕ) (k : 
   pub put : ToPut out₀ from (replicate (to - from) 0) out k (replicate (to - k) 0)
 
 pub zeros_start : {out : List ℕ} {from to : ℕ} → from ≤ to → to ≤ length out → ZerosToPut out from to out from
-zeros_start {out} {from} {to} le fits = record { put = put-sized (length-replicate {A = ℕ} (to - from) 0) (omega arith) }
+zeros_start {out} {from} {to} le fits = record { put = put_sized (length-replicate {A = ℕ} (to - from) 0) (omega arith) }
 
 module _ {out₀ out : List ℕ} {from to k : ℕ} (t : ZerosToPut out₀ from to out k) where
   pub zeros_fit : k < to → k < length out
@@ -58,4 +58,4 @@ module _ {out₀ out : List ℕ} {from to k : ℕ} (t : ZerosToPut out₀ from t
   pub zeros_done : to ≤ k → out ≡ over out₀ from (replicate (to - from) 0)
   zeros_done le =
       let e : to - k ≡ 0 = omega arith in
-      put-done (rw e at t.put)
+      put_done (rw e at t.put)

@@ -14,11 +14,11 @@ use Rattle.image.specs.Types.{name_of}
 use Rattle.image.specs.Row.{none}
 use Rattle.image.specs.Parse.{readable_code, readable}
 use Rattle.laws.specs.Accepted.{AcceptedImage}
-use Rattle.laws.proofs.Lengths.{number-length, bytes-length}
+use Rattle.laws.proofs.Lengths.{number_length, bytes_length}
 use Rattle.built.proofs.TypedColumns.{coded_at}
-use Rattle.built.proofs.Accepts.{two-buffers}
+use Rattle.built.proofs.Accepts.{two_buffers}
 use Rattle.rows.specs.Output.{over, Fits}
-use Rattle.rows.proofs.Over.{ToPut, put-start, put_as, put-fits, put-more, put_last, put-place, put-done}
+use Rattle.rows.proofs.Over.{ToPut, put_start, put_as, put_fits, put_more, put_last, put_place, put_done}
 use Rattle.builder.specs.Front.{type_fields, row_fields, table_fields, record_from, entry_from, entries_from, front_from}
 use Rattle.builder.proofs.Fields.{number_put}
 
@@ -26,69 +26,69 @@ use Rattle.builder.proofs.Fields.{number_put}
 
 pub type_length : (s : List ℕ) (k : ℕ) → length (type_fields s k) ≡ 12
 unfolding type_fields
-type_length s k = simp (length-append, number-length)
+type_length s k = simp (length-append, number_length)
 
-pub row-length : (s lengths places : List ℕ) (k : ℕ) → length (row_fields s lengths places k) ≡ 24
+pub row_length : (s lengths places : List ℕ) (k : ℕ) → length (row_fields s lengths places k) ≡ 24
 unfolding row_fields
-row-length s lengths places k = simp (length-append, number-length)
+row_length s lengths places k = simp (length-append, number_length)
 
-pub table-length : (s : List ℕ) (k : ℕ) → length (table_fields s k) ≡ 8
+pub table_length : (s : List ℕ) (k : ℕ) → length (table_fields s k) ≡ 8
 unfolding table_fields
-table-length s k = simp (length-append, number-length)
+table_length s k = simp (length-append, number_length)
 
 pub entry_length : (places : List ℕ) (q : ℕ) → length (entry_from places q) ≡ 8
 unfolding entry_from
-entry_length places q = simp (length-append, number-length)
+entry_length places q = simp (length-append, number_length)
 
 -- A record: its three parts.
 module _ (s lengths places : List ℕ) (k : ℕ) {out : List ℕ} {at : ℕ} (fits : Fits out at (record_from s lengths places k)) where
   record_start : ToPut out at (record_from s lengths places k) out at (type_fields s k ++ (row_fields s lengths places k ++ table_fields s k))
   unfolding record_from
-  record_start = put-start fits
+  record_start = put_start fits
 
   pub type_fits : Fits out at (type_fields s k)
-  type_fits = put-fits _ _ record_start
+  type_fits = put_fits _ _ record_start
 
   module _ {a : ℕ} {o : List ℕ} (first : (a ≡ at + length (type_fields s k)) × (o ≡ over out at (type_fields s k))) where
     type_put : ToPut out at (record_from s lengths places k) o a (row_fields s lengths places k ++ table_fields s k)
-    type_put = put-more _ _ record_start first.1 first.0
+    type_put = put_more _ _ record_start first.1 first.0
 
     pub rows_fit : Fits o a (row_fields s lengths places k)
-    rows_fit = put-fits _ _ type_put
+    rows_fit = put_fits _ _ type_put
 
     module _ {b : ℕ} {p : List ℕ} (second : (b ≡ a + length (row_fields s lengths places k)) × (p ≡ over o a (row_fields s lengths places k))) where
-      rows-put : ToPut out at (record_from s lengths places k) p b (table_fields s k)
-      rows-put = put-more _ _ type_put second.1 second.0
+      rows_put : ToPut out at (record_from s lengths places k) p b (table_fields s k)
+      rows_put = put_more _ _ type_put second.1 second.0
 
       pub tables_fit : Fits p b (table_fields s k)
-      tables_fit = record { within = rows-put.fits }
+      tables_fit = record { within = rows_put.fits }
 
       pub record_put : {c : ℕ} {q : List ℕ} → (c ≡ b + length (table_fields s k)) × (q ≡ over p b (table_fields s k)) → (c ≡ at + length (record_from s lengths places k)) × (q ≡ over out at (record_from s lengths places k))
-      record_put third = put_last rows-put third.1 third.0
+      record_put third = put_last rows_put third.1 third.0
 
 -- Entries: a node of a type that can be read has at most two buffers.
-pub few-buffers : (s : List ℕ) → AcceptedImage s → readable s ≡ true → (k : ℕ) → k < node_count s → buffer_count s k ≤ 2
+pub few_buffers : (s : List ℕ) → AcceptedImage s → readable s ≡ true → (k : ℕ) → k < node_count s → buffer_count s k ≤ 2
 unfolding readable_code
-few-buffers s image coded k node =
-    two-buffers (layout_of (code_of s k)) (buffer_count s k) (code_of s k) refl (coded_at s image coded none k node) (image.node k node).buffers.exactly
+few_buffers s image coded k node =
+    two_buffers (layout_of (code_of s k)) (buffer_count s k) (code_of s k) refl (coded_at s image coded none k node) (image.node k node).buffers.exactly
 
 -- Names.
 
 module _ (s : List ℕ) (k : ℕ) {out : List ℕ} {at : ℕ} (fits : Fits out at (name_of s k)) where
-  pub name-none : {n : ℕ} → n ≡ name_length s k → n ≡ 0 → (at ≡ at + length (name_of s k)) × (out ≡ over out at (name_of s k))
+  pub name_none : {n : ℕ} → n ≡ name_length s k → n ≡ 0 → (at ≡ at + length (name_of s k)) × (out ≡ over out at (name_of s k))
   unfolding name_of bytes_at
-  name-none e empty =
+  name_none e empty =
       let zero-long : name_length s k ≡ 0 = omega arith in
-      let t : ToPut out at (name_of s k) out at [] = put_as (put-start fits) (rw zero-long) in
-      (put-place t, put-done t)
+      let t : ToPut out at (name_of s k) out at [] = put_as (put_start fits) (rw zero-long) in
+      (put_place t, put_done t)
 
-  pub name-fits : {n : ℕ} → n ≡ name_length s k → at + n ≤ length out
+  pub name_fits : {n : ℕ} → n ≡ name_length s k → at + n ≤ length out
   unfolding name_of
-  name-fits e = omega (arith, e, fits.within, bytes-length s (name_place s k) (name_length s k))
+  name_fits e = omega (arith, e, fits.within, bytes_length s (name_place s k) (name_length s k))
 
-  pub name-put : {n place end : ℕ} {after : List ℕ} → n ≡ name_length s k → place ≡ name_place s k → (end ≡ at + n) × (after ≡ over out at (bytes_at s place n)) → (end ≡ at + length (name_of s k)) × (after ≡ over out at (name_of s k))
+  pub name_put : {n place end : ℕ} {after : List ℕ} → n ≡ name_length s k → place ≡ name_place s k → (end ≡ at + n) × (after ≡ over out at (bytes_at s place n)) → (end ≡ at + length (name_of s k)) × (after ≡ over out at (name_of s k))
   unfolding name_of
-  name-put e f put = (omega (arith, put.0, e, bytes-length s (name_place s k) (name_length s k)), rw (← e, ← f) put.1)
+  name_put e f put = (omega (arith, put.0, e, bytes_length s (name_place s k) (name_length s k)), rw (← e, ← f) put.1)
 
 -- Header, records, entries and names.
 module _ (s lengths places : List ℕ) where
@@ -105,37 +105,37 @@ module _ (s lengths places : List ℕ) where
   Rest out o next rest = ToPut out 0 (front_from s lengths places) o next rest
 
   module _ {out : List ℕ} (fits : Fits out 0 (front_from s lengths places)) where
-    front-start : Rest out out 0 (number_bytes 2 (node_count s) ++ (number_bytes 2 (buffer_total s) ++ (records ++ (tables ++ names))))
+    front_start : Rest out out 0 (number_bytes 2 (node_count s) ++ (number_bytes 2 (buffer_total s) ++ (records ++ (tables ++ names))))
     unfolding front_from
-    front-start = put-start fits
+    front_start = put_start fits
 
-    pub header-fits : 4 ≤ length out
-    header-fits =
+    pub header_fits : 4 ≤ length out
+    header_fits =
         let rest : List ℕ = records ++ (tables ++ names) in
-        omega (arith, front-start.fits, length-append (number_bytes 2 (node_count s)) (number_bytes 2 (buffer_total s) ++ rest), length-append (number_bytes 2 (buffer_total s)) rest, number-length 2 (node_count s), number-length 2 (buffer_total s))
+        omega (arith, front_start.fits, length-append (number_bytes 2 (node_count s)) (number_bytes 2 (buffer_total s) ++ rest), length-append (number_bytes 2 (buffer_total s)) rest, number_length 2 (node_count s), number_length 2 (buffer_total s))
 
     module _ {n a m b : ℕ} {o₁ o₂ : List ℕ} (nodes : n ≡ node_count s) (first : (a ≡ 0 + 2) × (o₁ ≡ over out 0 (number_bytes 2 n))) (buffers : m ≡ buffer_total s) (second : (b ≡ a + 2) × (o₂ ≡ over o₁ a (number_bytes 2 m))) where
-      header-put : Rest out o₂ b (records ++ (tables ++ names))
-      header-put = number_put 2 m (buffer_total s) buffers second (number_put 2 n (node_count s) nodes first front-start)
+      header_put : Rest out o₂ b (records ++ (tables ++ names))
+      header_put = number_put 2 m (buffer_total s) buffers second (number_put 2 n (node_count s) nodes first front_start)
 
       pub records_fit : Fits o₂ b records
-      records_fit = put-fits _ _ header-put
+      records_fit = put_fits _ _ header_put
 
       module _ {c : ℕ} {o₃ : List ℕ} (third : (c ≡ b + length records) × (o₃ ≡ over o₂ b records)) where
-        records-put : Rest out o₃ c (tables ++ names)
-        records-put = put-more _ _ header-put third.1 third.0
+        records_put : Rest out o₃ c (tables ++ names)
+        records_put = put_more _ _ header_put third.1 third.0
 
         pub entries_fit : Fits o₃ c tables
-        entries_fit = put-fits _ _ records-put
+        entries_fit = put_fits _ _ records_put
 
         module _ {d : ℕ} {o₄ : List ℕ} (fourth : (d ≡ c + length tables) × (o₄ ≡ over o₃ c tables)) where
-          entries-put : Rest out o₄ d names
-          entries-put = put-more _ _ records-put fourth.1 fourth.0
+          entries_put : Rest out o₄ d names
+          entries_put = put_more _ _ records_put fourth.1 fourth.0
 
           pub names_fit : Fits o₄ d names
-          names_fit = record { within = entries-put.fits }
+          names_fit = record { within = entries_put.fits }
 
-          pub front-put : {e : ℕ} {o₅ : List ℕ} → (e ≡ d + length names) × (o₅ ≡ over o₄ d names) → (e ≡ length (front_from s lengths places)) × (o₅ ≡ over out 0 (front_from s lengths places))
-          front-put fifth =
-              let done = put_last entries-put fifth.1 fifth.0 in
+          pub front_put : {e : ℕ} {o₅ : List ℕ} → (e ≡ d + length names) × (o₅ ≡ over o₄ d names) → (e ≡ length (front_from s lengths places)) × (o₅ ≡ over out 0 (front_from s lengths places))
+          front_put fifth =
+              let done = put_last entries_put fifth.1 fifth.0 in
               (omega (arith, done.0), done.1)

@@ -30,7 +30,7 @@ pub record Names (s : List ℕ) (end k : ℕ) : Type 0 where
 
 pub names_start : (s : List ℕ) {end : ℕ} → Tables s → end ≡ tables_end s → Names s end 0
 unfolding name_start sum_to tables_end entry_place record_place
-names_start s t e = record { start = e ∙ sym (add-zero (tables_end s)); near = omega (arith, e, t.few-nodes, t.few-buffers) }
+names_start s t e = record { start = e ∙ sym (add-zero (tables_end s)); near = omega (arith, e, t.few_nodes, t.few_buffers) }
 
 pub names_more : {s : List ℕ} {end k n : ℕ} → Names s end k → Read (name_length s k) 8 n → Names s (end + n) (k + 1)
 unfolding name_start sum_to
@@ -41,18 +41,18 @@ names_more {s} {end} {k} {n} t r =
 pub names_done : {s : List ℕ} {end k n : ℕ} → Names s end k → Tables s → n ≡ node_count s → k ≤ n → n ≤ k → Read (name_start s (node_count s)) 17 end
 names_done {s} {end} {k} t tables e le ge =
     let same : k ≡ node_count s = omega arith in
-    record { value = rw (← same) t.start; small = omega (arith, t.near, tables.few-nodes) }
+    record { value = rw (← same) t.start; small = omega (arith, t.near, tables.few_nodes) }
 
 -- no node has too many rows
-pub few-rows : (s lengths : List ℕ) → any (too_many lengths) 0 (node_count s) ≡ false → (q : ℕ) → q < 3 * node_count s → get_or lengths (q / 3) 0 ≤ most_elements
+pub few_rows : (s lengths : List ℕ) → any (too_many lengths) 0 (node_count s) ≡ false → (q : ℕ) → q < 3 * node_count s → get_or lengths (q / 3) 0 ≤ most_elements
 unfolding too_many
-few-rows s lengths e q lt = ltb-false _ _ (any_below (too_many lengths) (node_count s) e (q / 3) (omega arith))
+few_rows s lengths e q lt = ltb-false _ _ (any_below (too_many lengths) (node_count s) e (q / 3) (omega arith))
 
 module _ (s lengths spans : List ℕ) where
   -- the next place
-  place-next : (q : ℕ) → place_of s lengths spans (suc q) ≡ place_of s lengths spans q + part_size s lengths spans q
+  place_next : (q : ℕ) → place_of s lengths spans (suc q) ≡ place_of s lengths spans q + part_size s lengths spans q
   unfolding place_of sum_to
-  place-next q = omega arith
+  place_next q = omega arith
 
   place_grows : (a b : ℕ) → a ≤ b → place_of s lengths spans a ≤ place_of s lengths spans b
   unfolding place_of
@@ -114,8 +114,8 @@ module _ (s lengths spans : List ℕ) where
         absurd (omega arith);
   }
 
-  pub many-refused : {places : List ℕ} {room : ℕ} → any (too_many lengths) 0 (node_count s) ≡ true → PlanOf s lengths spans room places TooLong
-  many-refused {room = room} e = refused (too_many_lem e room)
+  pub many_refused : {places : List ℕ} {room : ℕ} → any (too_many lengths) 0 (node_count s) ≡ true → PlanOf s lengths spans room places TooLong
+  many_refused {room = room} e = refused (too_many_lem e room)
 
 -- What the loop keeps: the table of places up to part q, and the place of part q.
 pub record Planning (s lengths spans places : List ℕ) (place q : ℕ) : Type 0 where
@@ -146,7 +146,7 @@ module _ {s lengths spans places : List ℕ} where
       next_here : place + size ≡ place_of s lengths spans (q + 1)
       next_here =
           let e : q + 1 ≡ suc q = omega arith in
-          rw e (omega (arith, place-next s lengths spans q, p.here, is))
+          rw e (omega (arith, place_next s lengths spans q, p.here, is))
 
       pub planning_more : node_count s ≤ 256 → size ≤ longest_image - place → Planning s lengths spans (set places (q + 1) (place + size)) (place + size) (q + 1)
       planning_more few fits = record {
@@ -187,8 +187,8 @@ module _ {s lengths spans places : List ℕ} where
       }
 
 -- the places rise
-pub places-rise : {s lengths spans places : List ℕ} → Places s lengths spans places → Rise s places
-places-rise {s} {lengths} {spans} t = record {
+pub places_rise : {s lengths spans places : List ℕ} → Places s lengths spans places → Rise s places
+places_rise {s} {lengths} {spans} t = record {
   sized = t.sized;
   rise = λ q lt. omega (arith, t.place q (omega arith), t.place (suc q) lt, place_grows s lengths spans q (suc q) (omega arith));
 }

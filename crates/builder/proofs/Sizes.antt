@@ -13,7 +13,7 @@ use Rattle.image.specs.Record.{longest_image, most_elements, code_of, p1_of}
 use Rattle.image.specs.TypeCode.{entries, entry_of, integer_width, width_of, p1_fits}
 use Rattle.image.specs.Element.{element_width}
 use Rattle.image.proofs.Bools.{and_left, and_right}
-use Rattle.image.proofs.Ranges.{every-below}
+use Rattle.image.proofs.Ranges.{every_below}
 use Rattle.image.proofs.Widths.{integer_width_lem}
 use Rattle.laws.specs.Accepted.{Known}
 
@@ -24,10 +24,10 @@ codes_narrow : every narrow 0 44 ≡ true
 unfolding every entry_of entries
 codes_narrow = refl
 
-pub width-most : (s : List ℕ) (k : ℕ) → Known s k → element_width s k ≤ longest_image
+pub width_most : (s : List ℕ) (k : ℕ) → Known s k → element_width s k ≤ longest_image
 unfolding element_width width_of p1_fits
-width-most s k known =
-    let h = every-below narrow 44 codes_narrow (code_of s k) (omega (arith, known.code)) in
+width_most s k known =
+    let h = every_below narrow 44 codes_narrow (code_of s k) (omega (arith, known.code)) in
     let high : (entry_of (code_of s k)).high ≤ longest_image = leb-true _ _ (and_right (leb (entry_of (code_of s k)).width longest_image) _ h) in
     let own : p1_of s k ≤ (entry_of (code_of s k)).high = leb-true _ _ (and_right (leb (entry_of (code_of s k)).low (p1_of s k)) _ known.p1) in
     cases (eqb (code_of s k) 30) (eqb (code_of s k) 41) (omega arith) (leb-true _ _ (and_left _ _ h))

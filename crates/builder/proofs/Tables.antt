@@ -22,19 +22,19 @@ use Rattle.answers.specs.Answers.{rows_answer, build_answer, image_of, built_ove
 use Rattle.laws.proofs.Accepted.{accepted}
 use Rattle.built.specs.Walk.{the_rows}
 use Rattle.built.proofs.Parsed.{rows_in_back}
-use Rattle.built.proofs.Typed.{rows-typed}
-use Rattle.built.proofs.Regions.{pieces-length}
+use Rattle.built.proofs.Typed.{rows_typed}
+use Rattle.built.proofs.Regions.{pieces_length}
 use Rattle.built.proofs.Fields.{whole_length}
 use Rattle.built.proofs.Calls.{Told, told}
 use Rattle.parse.specs.Answer.{are_rows, Spanned}
 use Rattle.rows.specs.Output.{over, Fits}
-use Rattle.rows.proofs.Over.{over-length, over-over}
+use Rattle.rows.proofs.Over.{over_length, over_over}
 use Rattle.fill.specs.Filling.{ToFill, filling}
 use Rattle.builder.specs.declared.plan.Planned.TheVariants.{Bytes, TooLong}
 use Rattle.builder.specs.Plan.{Lengths, Places, plan_answer, built_of}
 use Rattle.builder.specs.Front.{Rise, front_from}
 use Rattle.builder.specs.Table.{Laid}
-use Rattle.builder.proofs.FromRows.{Scanned, answer-is, places_are, front-is}
+use Rattle.builder.proofs.FromRows.{Scanned, answer_is, places_are, front_is}
 
 -- Bytes over zeros.
 
@@ -53,9 +53,9 @@ over_again out at x y same fits =
     rw (kept, rest)
 
 -- a byte of those that were put
-over-within : (out : List ℕ) (at : ℕ) (x : List ℕ) → at + length x ≤ length out → (i : ℕ) → i < length x → byte_at (over out at x) (at + i) ≡ byte_at x i
+over_within : (out : List ℕ) (at : ℕ) (x : List ℕ) → at + length x ≤ length out → (i : ℕ) → i < length x → byte_at (over out at x) (at + i) ≡ byte_at x i
 unfolding over
-over-within out at x fits i lt =
+over_within out at x fits i lt =
     let front : length (take at out) ≡ at = length-take-le at out (omega arith) in
     ap (λ (n : ℕ). byte_at (over out at x) (n + i)) (sym front) ∙ get_or-append-add (take at out) (x ++ drop (at + length x) out) i 0 ∙ get_or-append x (drop (at + length x) out) 0 i lt
 
@@ -64,7 +64,7 @@ zeros_stand out from to le fits p low high =
     let long : length (replicate {A = ℕ} (to - from) 0) ≡ to - from = length-replicate {A = ℕ} (to - from) 0 in
     let is : from + (p - from) ≡ p = omega arith in
     ap (byte_at (over out from (replicate (to - from) 0))) (sym is)
-    ∙ over-within out from (replicate (to - from) 0) (omega arith) (p - from) (omega arith)
+    ∙ over_within out from (replicate (to - from) 0) (omega arith) (p - from) (omega arith)
     ∙ get_or-replicate {A = ℕ} (to - from) (p - from) 0 0 (omega arith)
 
 -- Putting a table's image.
@@ -85,41 +85,41 @@ module _ {s : List ℕ} {n : ℕ} {b lengths places : List ℕ} {size : ℕ} {ou
   pub laid_rise : Rise s places
   laid_rise =
       record {
-        sized = l.places-sized;
+        sized = l.places_sized;
         rise = λ q lt. omega (arith, l.place q (omega arith), l.place (suc q) lt, places_grow q (suc q) (omega arith));
       }
 
   end_is : size ≡ part_start s the_rows_lem (3 * node_count s)
   end_is = l.long ∙ whole_length s the_rows_lem (accepted s l.accepted)
 
-  parts-length : length parts ≡ sum_to (part_length s the_rows_lem) (3 * node_count s)
+  parts_length : length parts ≡ sum_to (part_length s the_rows_lem) (3 * node_count s)
   unfolding part_length
-  parts-length = pieces-length (part_at s the_rows_lem) (part_length s the_rows_lem) (λ q. refl) (3 * node_count s)
+  parts_length = pieces_length (part_at s the_rows_lem) (part_length s the_rows_lem) (λ q. refl) (3 * node_count s)
 
   whole : length front + length parts ≡ size
   whole = sym (length-append front parts) ∙ ap length l.front ∙ sym l.long
 
   -- the parts begin where the front ends
-  front-end : length front ≡ part_start s the_rows_lem 0
+  front_end : length front ≡ part_start s the_rows_lem 0
   unfolding part_start sum_to
-  front-end = omega (arith, whole, end_is, parts-length)
+  front_end = omega (arith, whole, end_is, parts_length)
 
   pub laid_front : Fits out 0 front
   laid_front = record { within = omega (arith, whole, l.fits) }
 
   module _ {at : ℕ} {first : List ℕ} (put : (at ≡ length front) × (first ≡ over out 0 front)) where
-    first-long : length first ≡ length out
-    first-long = ap length put.1 ∙ over-length out 0 front laid_front.within
+    first_long : length first ≡ length out
+    first_long = ap length put.1 ∙ over_length out 0 front laid_front.within
 
     pub laid_clear : (at ≤ size) × (size ≤ length first)
-    laid_clear = (omega (arith, put.0, whole), omega (arith, first-long, l.fits))
+    laid_clear = (omega (arith, put.0, whole), omega (arith, first_long, l.fits))
 
     module _ {second : List ℕ} (cleared : second ≡ over first at (replicate (size - at) 0)) where
       zeros_length : length (replicate {A = ℕ} (size - at) 0) ≡ length parts
       zeros_length = length-replicate {A = ℕ} (size - at) 0 ∙ omega (arith, put.0, whole)
 
       second_long : length second ≡ length first
-      second_long = ap length cleared ∙ over-length first at (replicate (size - at) 0) (omega (arith, zeros_length, put.0, whole, laid_clear.1))
+      second_long = ap length cleared ∙ over_length first at (replicate (size - at) 0) (omega (arith, zeros_length, put.0, whole, laid_clear.1))
 
       pub laid_fill : {rows spans : List ℕ} → rows ≡ replicate 256 0 → spans ≡ replicate 256 0 → ToFill s n b places (filling second rows spans)
       laid_fill er es =
@@ -128,20 +128,20 @@ module _ {s : List ℕ} {n : ℕ} {b lengths places : List ℕ} {size : ℕ} {ou
             coded = l.coded;
             read = l.read;
             few = l.few;
-            places-sized = l.places-sized;
+            places_sized = l.places_sized;
             place = l.place;
             inside = omega (arith, second_long, end_is, laid_clear.1);
             short = omega (arith, l.short, end_is);
-            blank = λ p low high. rw cleared (zeros_stand first at size laid_clear.0 laid_clear.1 p (omega (arith, put.0, front-end)) (omega (arith, end_is)));
+            blank = λ p low high. rw cleared (zeros_stand first at size laid_clear.0 laid_clear.1 p (omega (arith, put.0, front_end)) (omega (arith, end_is)));
             rows_none = er;
-            spans-none = es;
+            spans_none = es;
           }
 
       pub laid_put : {third : List ℕ} → third ≡ over second (part_start s the_rows_lem 0) parts → third ≡ over out 0 (image_of s (rows_in s n b))
       laid_put filled =
-          let start : part_start s the_rows_lem 0 ≡ at = omega (arith, put.0, front-end) in
+          let start : part_start s the_rows_lem 0 ≡ at = omega (arith, put.0, front_end) in
           let zeros : over second at parts ≡ over first at parts = rw cleared (over_again first at (replicate (size - at) 0) parts zeros_length (omega (arith, zeros_length, put.0, whole, laid_clear.1))) in
-          let behind : over first at parts ≡ over out 0 (front ++ parts) = rw (put.1, put.0, ← zero-add (length front)) (over-over out 0 front laid_front.within parts) in
+          let behind : over first at parts ≡ over out 0 (front ++ parts) = rw (put.1, put.0, ← zero-add (length front)) (over_over out 0 front laid_front.within parts) in
           filled ∙ ap (λ (m : ℕ). over second m parts) start ∙ zeros ∙ behind ∙ ap (over out 0) (l.front ∙ sym (ap (image_of s) l.read))
 
 -- The call.
@@ -170,13 +170,13 @@ module _ (s : List ℕ) (n : ℕ) (b out : List ℕ) {spans lengths : List ℕ} 
       record {
         image = accepted s given.0;
         coded = given.1;
-        typed = rows-typed s n b small (the_rows (rows_in s n b)) [] read;
+        typed = rows_typed s n b small (the_rows (rows_in s n b)) [] read;
         counted = (rows_in_back s n b small (the_rows (rows_in s n b)) [] read).1;
         spanned = spanned.spans (the_rows (rows_in s n b)) read;
       }
 
   planned : rows_answer s (rows_in s n b) out ≡ built_of (plan_answer s lengths spans (length out))
-  planned = ap (λ (p : Parsed Rows). rows_answer s p out) read ∙ answer-is scanned l out
+  planned = ap (λ (p : Parsed Rows). rows_answer s p out) read ∙ answer_is scanned l out
 
   pub build_too_long : TooLong ≡ plan_answer s lengths spans (length out) → (BuildTooLong ≡ rows_answer s (rows_in s n b) out) × (out ≡ built_over (rows_answer s (rows_in s n b) out) (image_of s (rows_in s n b)) out)
   build_too_long e =
@@ -199,17 +199,17 @@ module _ (s : List ℕ) (n : ℕ) (b out : List ℕ) {spans lengths : List ℕ} 
           coded = given.1;
           read = read;
           few = rw same at fit.few;
-          lengths-sized = l.sized;
-          places-sized = t.sized;
+          lengths_sized = l.sized;
+          places_sized = t.sized;
           place = places_are scanned l t;
-          front = front-is scanned l t;
+          front = front_is scanned l t;
           long = rw same at (sym fit.size);
           short = fit.short;
           fits = fit.room;
         }
 
-    pub build-bytes : {after : List ℕ} → after ≡ over out 0 (image_of s (rows_in s n b)) → (BuiltBytes size ≡ rows_answer s (rows_in s n b) out) × (after ≡ built_over (rows_answer s (rows_in s n b) out) (image_of s (rows_in s n b)) out)
+    pub build_bytes : {after : List ℕ} → after ≡ over out 0 (image_of s (rows_in s n b)) → (BuiltBytes size ≡ rows_answer s (rows_in s n b) out) × (after ≡ built_over (rows_answer s (rows_in s n b) out) (image_of s (rows_in s n b)) out)
     unfolding over
-    build-bytes put =
+    build_bytes put =
         let long : 0 + length (image_of s (rows_in s n b)) ≡ size = omega (arith, fit.size, ap (λ (p : Parsed Rows). length (image_of s p)) fit.read) in
         (sym bytes, rw bytes (put ∙ ap (λ (m : ℕ). image_of s (rows_in s n b) ++ drop m out) long))

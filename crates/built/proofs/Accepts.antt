@@ -28,18 +28,18 @@ use Rattle.image.proofs.Ranges.{any_none, first_passes}
 use Rattle.laws.specs.Accepted.{Node}
 use Rattle.image.specs.Parse.{readable_code}
 use Rattle.image.specs.Built.{column, span, part_at, part_length, name_start, built_image}
-use Rattle.built.proofs.Regions.{part-inside}
+use Rattle.built.proofs.Regions.{part_inside}
 use Rattle.built.proofs.Offsets.{sum_over}
 use Rattle.built.specs.Typed.{all_rows, is_row}
 use Rattle.built.specs.Walk.{total}
-use Rattle.built.proofs.Fields.{tables-inside, name-part, name-length, part-part, nodes-kept, buffers-kept, code-kept, flags-built, id_zero, name_length_kept, p1-kept, p2-kept, offset_zero, first_bit_zero, first_child_kept, child_count_kept, first_buffer_kept, buffer_count_kept, has_bitmap_built, name_place_built, bitmap_place_built, bitmap_length_built, buffer_place_built, buffer_length_built}
+use Rattle.built.proofs.Fields.{tables_inside, name_part, name_length_lem, part_part, nodes_kept, buffers_kept, code_kept, flags_built, id_zero, name_length_kept, p1_kept, p2_kept, offset_zero, first_bit_zero, first_child_kept, child_count_kept, first_buffer_kept, buffer_count_kept, has_bitmap_built, name_place_built, bitmap_place_built, bitmap_length_built, buffer_place_built, buffer_length_built}
 use Rattle.built.proofs.Columns.{sum_step}
-use Rattle.built.proofs.TypedColumns.{unreadable, not-view, not-list_view, not-fixed_list, not-dense, not-sparse, not-dictionary, not-runs, coded_at}
-use Rattle.built.proofs.Lengths.{total_sum, bitmap-length, list-child, struct-child}
-use Rattle.built.proofs.Back.{Fitting, width-kept, sum_within}
+use Rattle.built.proofs.TypedColumns.{unreadable, not_view, not_list_view, not_fixed_list, not_dense, not_sparse, not_dictionary, not_runs, coded_at}
+use Rattle.built.proofs.Lengths.{total_sum, bitmap_length_lem, list_child, struct_child}
+use Rattle.built.proofs.Back.{Fitting, width_kept, sum_within}
 use Rattle.built.proofs.Kept.{no_union, no_map, no_run}
-use Rattle.built.proofs.Sizes.{length-is, boolean-length, fixed-length, text_offsets, list_offsets, text-length, text-offset, list-offset}
-use Rattle.built.proofs.Formed.{built-formed}
+use Rattle.built.proofs.Sizes.{length_is, boolean_length, fixed_length, text_offsets, list_offsets, text_length, text_offset, list_offset}
+use Rattle.built.proofs.Formed.{built_formed}
 
 neither : (x y : Bool) → x ≡ false → y ≡ false → x || y ≡ false
 neither x y p q = rw p q
@@ -48,51 +48,51 @@ not_it : (x : Bool) → x ≡ true → not x ≡ false
 not_it x p = rw p
 
 -- a count as the rule says
-child-counts : (l : Layout) (x : ℕ) → ((n : ℕ) → child_rule l ≡ Exactly n → x ≡ n) → counts (child_rule l) x ≡ true
-child-counts Null x h = eq-eqb x 0 (h 0 refl)
-child-counts Boolean x h = eq-eqb x 0 (h 0 refl)
-child-counts FixedWidth x h = eq-eqb x 0 (h 0 refl)
-child-counts VariableSize x h = eq-eqb x 0 (h 0 refl)
-child-counts View x h = eq-eqb x 0 (h 0 refl)
-child-counts Lists x h = eq-eqb x 1 (h 1 refl)
-child-counts ListView x h = eq-eqb x 1 (h 1 refl)
-child-counts FixedList x h = eq-eqb x 1 (h 1 refl)
-child-counts Struct x h = le-leb 0 x (omega arith)
-child-counts DenseUnion x h = le-leb 0 x (omega arith)
-child-counts SparseUnion x h = le-leb 0 x (omega arith)
-child-counts Dictionary x h = eq-eqb x 1 (h 1 refl)
-child-counts Runs x h = eq-eqb x 2 (h 2 refl)
+child_counts : (l : Layout) (x : ℕ) → ((n : ℕ) → child_rule l ≡ Exactly n → x ≡ n) → counts (child_rule l) x ≡ true
+child_counts Null x h = eq-eqb x 0 (h 0 refl)
+child_counts Boolean x h = eq-eqb x 0 (h 0 refl)
+child_counts FixedWidth x h = eq-eqb x 0 (h 0 refl)
+child_counts VariableSize x h = eq-eqb x 0 (h 0 refl)
+child_counts View x h = eq-eqb x 0 (h 0 refl)
+child_counts Lists x h = eq-eqb x 1 (h 1 refl)
+child_counts ListView x h = eq-eqb x 1 (h 1 refl)
+child_counts FixedList x h = eq-eqb x 1 (h 1 refl)
+child_counts Struct x h = le-leb 0 x (omega arith)
+child_counts DenseUnion x h = le-leb 0 x (omega arith)
+child_counts SparseUnion x h = le-leb 0 x (omega arith)
+child_counts Dictionary x h = eq-eqb x 1 (h 1 refl)
+child_counts Runs x h = eq-eqb x 2 (h 2 refl)
 
-buffer-counts : (l : Layout) (x : ℕ) → ((n : ℕ) → buffer_rule l ≡ Exactly n → x ≡ n) → ((n : ℕ) → buffer_rule l ≡ AtLeast n → n ≤ x) → counts (buffer_rule l) x ≡ true
-buffer-counts Null x h g = eq-eqb x 0 (h 0 refl)
-buffer-counts Boolean x h g = eq-eqb x 1 (h 1 refl)
-buffer-counts FixedWidth x h g = eq-eqb x 1 (h 1 refl)
-buffer-counts VariableSize x h g = eq-eqb x 2 (h 2 refl)
-buffer-counts View x h g = le-leb 1 x (g 1 refl)
-buffer-counts Lists x h g = eq-eqb x 1 (h 1 refl)
-buffer-counts ListView x h g = eq-eqb x 2 (h 2 refl)
-buffer-counts FixedList x h g = eq-eqb x 0 (h 0 refl)
-buffer-counts Struct x h g = eq-eqb x 0 (h 0 refl)
-buffer-counts DenseUnion x h g = eq-eqb x 2 (h 2 refl)
-buffer-counts SparseUnion x h g = eq-eqb x 1 (h 1 refl)
-buffer-counts Dictionary x h g = eq-eqb x 1 (h 1 refl)
-buffer-counts Runs x h g = eq-eqb x 0 (h 0 refl)
+buffer_counts : (l : Layout) (x : ℕ) → ((n : ℕ) → buffer_rule l ≡ Exactly n → x ≡ n) → ((n : ℕ) → buffer_rule l ≡ AtLeast n → n ≤ x) → counts (buffer_rule l) x ≡ true
+buffer_counts Null x h g = eq-eqb x 0 (h 0 refl)
+buffer_counts Boolean x h g = eq-eqb x 1 (h 1 refl)
+buffer_counts FixedWidth x h g = eq-eqb x 1 (h 1 refl)
+buffer_counts VariableSize x h g = eq-eqb x 2 (h 2 refl)
+buffer_counts View x h g = le-leb 1 x (g 1 refl)
+buffer_counts Lists x h g = eq-eqb x 1 (h 1 refl)
+buffer_counts ListView x h g = eq-eqb x 2 (h 2 refl)
+buffer_counts FixedList x h g = eq-eqb x 0 (h 0 refl)
+buffer_counts Struct x h g = eq-eqb x 0 (h 0 refl)
+buffer_counts DenseUnion x h g = eq-eqb x 2 (h 2 refl)
+buffer_counts SparseUnion x h g = eq-eqb x 1 (h 1 refl)
+buffer_counts Dictionary x h g = eq-eqb x 1 (h 1 refl)
+buffer_counts Runs x h g = eq-eqb x 0 (h 0 refl)
 
 -- at most two buffers
-pub two-buffers : (l : Layout) (x code : ℕ) → layout_of code ≡ l → leb code 30 || eqb code 33 || eqb code 34 || eqb code 38 ≡ true → ((n : ℕ) → buffer_rule l ≡ Exactly n → x ≡ n) → x ≤ 2
-two-buffers Null x code e r h = omega (arith, h 0 refl)
-two-buffers Boolean x code e r h = omega (arith, h 1 refl)
-two-buffers FixedWidth x code e r h = omega (arith, h 1 refl)
-two-buffers VariableSize x code e r h = omega (arith, h 2 refl)
-two-buffers View x code e r h = absurd (false≢true (sym (not-view code e) ∙ r))
-two-buffers Lists x code e r h = omega (arith, h 1 refl)
-two-buffers ListView x code e r h = omega (arith, h 2 refl)
-two-buffers FixedList x code e r h = omega (arith, h 0 refl)
-two-buffers Struct x code e r h = omega (arith, h 0 refl)
-two-buffers DenseUnion x code e r h = omega (arith, h 2 refl)
-two-buffers SparseUnion x code e r h = omega (arith, h 1 refl)
-two-buffers Dictionary x code e r h = omega (arith, h 1 refl)
-two-buffers Runs x code e r h = omega (arith, h 0 refl)
+pub two_buffers : (l : Layout) (x code : ℕ) → layout_of code ≡ l → leb code 30 || eqb code 33 || eqb code 34 || eqb code 38 ≡ true → ((n : ℕ) → buffer_rule l ≡ Exactly n → x ≡ n) → x ≤ 2
+two_buffers Null x code e r h = omega (arith, h 0 refl)
+two_buffers Boolean x code e r h = omega (arith, h 1 refl)
+two_buffers FixedWidth x code e r h = omega (arith, h 1 refl)
+two_buffers VariableSize x code e r h = omega (arith, h 2 refl)
+two_buffers View x code e r h = absurd (false≢true (sym (not_view code e) ∙ r))
+two_buffers Lists x code e r h = omega (arith, h 1 refl)
+two_buffers ListView x code e r h = omega (arith, h 2 refl)
+two_buffers FixedList x code e r h = omega (arith, h 0 refl)
+two_buffers Struct x code e r h = omega (arith, h 0 refl)
+two_buffers DenseUnion x code e r h = omega (arith, h 2 refl)
+two_buffers SparseUnion x code e r h = omega (arith, h 1 refl)
+two_buffers Dictionary x code e r h = omega (arith, h 1 refl)
+two_buffers Runs x code e r h = omega (arith, h 0 refl)
 
 -- sums of numbers that agree
 pub sum_kept : (f g : ℕ → ℕ) (n : ℕ) → ((i : ℕ) → i < n → f i ≡ g i) → sum_to f n ≡ sum_to g n
@@ -122,28 +122,28 @@ module _ (s : List ℕ) (rs : Rows) (fit : Fitting s rs) (root : all_rows (is_ro
   abbrev t : List ℕ
   t = built_image s rs
 
-  tables-kept : tables_end t ≡ tables_end s
+  tables_kept : tables_end t ≡ tables_end s
   unfolding tables_end entry_place
-  tables-kept = rw (nodes-kept s rs fit.image fit.bytes fit.short, buffers-kept s rs fit.image fit.bytes fit.short)
+  tables_kept = rw (nodes_kept s rs fit.image fit.bytes fit.short, buffers_kept s rs fit.image fit.bytes fit.short)
 
   no_10 : fault10 t ≡ false
   unfolding fault10
   no_10 =
       let image = fit.image in
       let header : 4 ≤ length (built_image s rs) = four in
-      rw (tables-kept, nodes-kept s rs fit.image fit.bytes fit.short, buffers-kept s rs fit.image fit.bytes fit.short)
+      rw (tables_kept, nodes_kept s rs fit.image fit.bytes fit.short, buffers_kept s rs fit.image fit.bytes fit.short)
       (neither _ _ (neither _ _ (neither _ _ (neither _ _ (neither _ _
       (le-ltb (length (built_image s rs)) 4 header) (le-ltb 16777216 (length (built_image s rs)) fit.short))
-      (ne_eqb (node_count s) 0 (λ e. omega (arith, image.tables.some-nodes)))) (le-ltb 256 (node_count s) image.tables.few-nodes)) (le-ltb 1024 (buffer_total s) image.tables.few-buffers))
-      (le-ltb (length (built_image s rs)) (tables_end s) (tables-inside s rs fit.image)))
+      (ne_eqb (node_count s) 0 (λ e. omega (arith, image.tables.some_nodes)))) (le-ltb 256 (node_count s) image.tables.few_nodes)) (le-ltb 1024 (buffer_total s) image.tables.few_buffers))
+      (le-ltb (length (built_image s rs)) (tables_end s) (tables_inside s rs fit.image)))
     where
       four : 4 ≤ length (built_image s rs)
-      four = omega (arith, tables-inside s rs fit.image, tables_four s)
+      four = omega (arith, tables_inside s rs fit.image, tables_four s)
 
   -- sums over the nodes
-  children-kept : (k : ℕ) → k ≤ node_count s → child_start t k ≡ child_start s k
+  children_kept : (k : ℕ) → k ≤ node_count s → child_start t k ≡ child_start s k
   unfolding child_start
-  children-kept k le = ap suc_of (sum_kept (child_count t) (child_count s) k (λ i lt. child_count_kept s rs fit.image fit.bytes fit.short i (omega arith)))
+  children_kept k le = ap suc_of (sum_kept (child_count t) (child_count s) k (λ i lt. child_count_kept s rs fit.image fit.bytes fit.short i (omega arith)))
     where
       suc_of : ℕ → ℕ
       suc_of n = 1 + n
@@ -156,7 +156,7 @@ module _ (s : List ℕ) (rs : Rows) (fit : Fitting s rs) (root : all_rows (is_ro
   unfolding level_end
   levels_kept zero = refl
   levels_kept (suc d) =
-      rw (levels_kept d, nodes-kept s rs fit.image fit.bytes fit.short, children-kept (level_end s d) (level_within s d))
+      rw (levels_kept d, nodes_kept s rs fit.image fit.bytes fit.short, children_kept (level_end s d) (level_within s d))
 
   module _ (k : ℕ) (lt : k < node_count s) where
     here : Node s k
@@ -168,7 +168,7 @@ module _ (s : List ℕ) (rs : Rows) (fit : Fitting s rs) (root : all_rows (is_ro
     no_11 : fault11 t k ≡ false
     unfolding fault11
     no_11 =
-        rw (has_bitmap_built s rs fit.image fit.bytes fit.short k lt, code-kept s rs fit.image fit.bytes fit.short k lt, p1-kept s rs fit.image fit.bytes fit.short k lt, p2-kept s rs fit.image fit.bytes fit.short k lt, flags-built s rs fit.image fit.bytes fit.short k lt)
+        rw (has_bitmap_built s rs fit.image fit.bytes fit.short k lt, code_kept s rs fit.image fit.bytes fit.short k lt, p1_kept s rs fit.image fit.bytes fit.short k lt, p2_kept s rs fit.image fit.bytes fit.short k lt, flags_built s rs fit.image fit.bytes fit.short k lt)
         (neither _ _ (neither _ _ (neither _ _ (neither _ _
         (le-ltb 43 (code_of s k) here.known.code) (flags (takes_bitmap (layout_of (code_of s k))))) (not_it _ here.known.p1)) (not_it _ here.known.p2))
         (fails_and (takes_bitmap (layout_of (code_of s k))) _ (λ takes. not_it _ takes)))
@@ -181,12 +181,12 @@ module _ (s : List ℕ) (rs : Rows) (fit : Fitting s rs) (root : all_rows (is_ro
     unfolding fault12
     no_12 =
         let image = fit.image in
-        rw (id_zero s rs fit.image fit.bytes fit.short k lt, levels_kept 16, nodes-kept s rs fit.image fit.bytes fit.short, children-kept (node_count s) (omega arith), children-kept k (omega arith), code-kept s rs fit.image fit.bytes fit.short k lt, first_child_kept s rs fit.image fit.bytes fit.short k lt, child_count_kept s rs fit.image fit.bytes fit.short k lt)
+        rw (id_zero s rs fit.image fit.bytes fit.short k lt, levels_kept 16, nodes_kept s rs fit.image fit.bytes fit.short, children_kept (node_count s) (omega arith), children_kept k (omega arith), code_kept s rs fit.image fit.bytes fit.short k lt, first_child_kept s rs fit.image fit.bytes fit.short k lt, child_count_kept s rs fit.image fit.bytes fit.short k lt)
         (neither _ _ (neither _ _ (neither _ _ (neither _ _ (neither _ _ (neither _ _ (neither _ _ (neither _ _
-        (not_it _ (child-counts (layout_of (code_of s k)) (child_count s k) here.tree.exactly))
+        (not_it _ (child_counts (layout_of (code_of s k)) (child_count s k) here.tree.exactly))
         (not_it _ (eq-eqb _ _ here.tree.numbered)))
         (lt-leb (first_child s k) k here.tree.below))
-        (fails_and (eqb k 0) _ (λ zero_is. not_it _ (eq-eqb _ _ image.child-total))))
+        (fails_and (eqb k 0) _ (λ zero_is. not_it _ (eq-eqb _ _ image.child_total))))
         (lt-leb (level_end s 16) k here.tree.shallow))
         (fails_and (is_union (code_of s k)) _ (λ is. absurd (false≢true (sym (no_union s image fit.coded k lt) ∙ is)))))
         refl)
@@ -204,7 +204,7 @@ module _ (s : List ℕ) (rs : Rows) (fit : Fitting s rs) (root : all_rows (is_ro
         cases (inr some) =
             fails_and (not (eqb (name_length s k) 0)) (ltb (length t) (name_place t k + name_length s k)) (λ is.
             rw (name_place_built s rs fit.image fit.bytes fit.short k lt some)
-            (le-ltb (length (built_image s rs)) (name_start s k + name_length s k) (omega (arith, part-inside (name-part s rs fit.image k lt), name-length s k))))
+            (le-ltb (length (built_image s rs)) (name_start s k + name_length s k) (omega (arith, part_inside (name_part s rs fit.image k lt), name_length_lem s k))))
 
     -- a layout that no readable code has
     other : (l : Layout) → unreadable l → layout_of (code_of s k) ≡ l → (P : Type 0) → P
@@ -213,95 +213,95 @@ module _ (s : List ℕ) (rs : Rows) (fit : Fitting s rs) (root : all_rows (is_ro
 
     two : buffer_count s k ≤ 2
     unfolding readable_code
-    two = two-buffers (layout_of (code_of s k)) (buffer_count s k) (code_of s k) refl coded_here here.buffers.exactly
+    two = two_buffers (layout_of (code_of s k)) (buffer_count s k) (code_of s k) refl coded_here here.buffers.exactly
 
     elements_are : elements_of t k ≡ count (column s rs k)
     unfolding elements_of
-    elements_are = rw (length-is s rs fit root k lt, offset_zero s rs fit.image fit.bytes fit.short k lt) (omega arith)
+    elements_are = rw (length_is s rs fit root k lt, offset_zero s rs fit.image fit.bytes fit.short k lt) (omega arith)
 
-    buffer-inside : (j : ℕ) → j < buffer_count s k → buffer_outside t k j ≡ false
+    buffer_inside : (j : ℕ) → j < buffer_count s k → buffer_outside t k j ≡ false
     unfolding buffer_outside outside part_length
-    buffer-inside j few =
+    buffer_inside j few =
         let pair : j < 2 = omega (arith, two) in
-        let there = part-inside (part-part s rs fit.image (3 * k + 1 + j) (omega arith)) in
+        let there = part_inside (part_part s rs fit.image (3 * k + 1 + j) (omega arith)) in
         rw (buffer_place_built s rs fit.image fit.bytes fit.short k lt j pair few, buffer_length_built s rs fit.image fit.bytes fit.short k lt j pair few) (le-ltb (length (built_image s rs)) _ there)
 
-    bitmap-inside : has_bitmap t k && outside t (bitmap_place t k) (bitmap_length t k) ≡ false
+    bitmap_inside : has_bitmap t k && outside t (bitmap_place t k) (bitmap_length t k) ≡ false
     unfolding outside part_length
-    bitmap-inside =
+    bitmap_inside =
         rw (has_bitmap_built s rs fit.image fit.bytes fit.short k lt, bitmap_length_built s rs fit.image fit.bytes fit.short k lt)
         (fails_and (takes_bitmap (layout_of (code_of s k))) (ltb (length t) (bitmap_place t k + length (part_at s rs (3 * k)))) (λ takes.
-        rw (bitmap_place_built s rs fit.image fit.bytes fit.short k lt takes) (le-ltb (length (built_image s rs)) _ (part-inside (part-part s rs fit.image (3 * k) (omega arith))))))
+        rw (bitmap_place_built s rs fit.image fit.bytes fit.short k lt takes) (le-ltb (length (built_image s rs)) _ (part_inside (part_part s rs fit.image (3 * k) (omega arith))))))
 
     whole_elements : (n : ℕ) → buffer_length t k 0 ≡ n * element_width s k → not (whole (buffer_length t k 0) (element_width t k)) ≡ false
     unfolding whole
-    whole_elements n e = rw (width-kept s rs fit k lt, e, mul-mod_left n (element_width s k))
+    whole_elements n e = rw (width_kept s rs fit k lt, e, mul-mod_left n (element_width s k))
 
     even : (l : Layout) → layout_of (code_of s k) ≡ l → not_whole l t k ≡ false
     even Null e = refl
     even Boolean e = refl
     even FixedWidth e = refl
     even VariableSize e = whole_elements _ (text_offsets s rs fit root k lt e)
-    even View e = other View not-view e _
+    even View e = other View not_view e _
     even Lists e = whole_elements _ (list_offsets s rs fit root k lt e)
-    even ListView e = other ListView not-list_view e _
-    even FixedList e = other FixedList not-fixed_list e _
+    even ListView e = other ListView not_list_view e _
+    even FixedList e = other FixedList not_fixed_list e _
     even Struct e = refl
-    even DenseUnion e = other DenseUnion not-dense e _
-    even SparseUnion e = other SparseUnion not-sparse e _
-    even Dictionary e = other Dictionary not-dictionary e _
-    even Runs e = other Runs not-runs e _
+    even DenseUnion e = other DenseUnion not_dense e _
+    even SparseUnion e = other SparseUnion not_sparse e _
+    even Dictionary e = other Dictionary not_dictionary e _
+    even Runs e = other Runs not_runs e _
 
     no_14 : fault14 t k ≡ false
     unfolding fault14
     no_14 =
-        rw (elements_are, nodes-kept s rs fit.image fit.bytes fit.short, buffers-kept s rs fit.image fit.bytes fit.short, starts_kept (node_count s) (omega arith), starts_kept k (omega arith), code-kept s rs fit.image fit.bytes fit.short k lt, first_buffer_kept s rs fit.image fit.bytes fit.short k lt, buffer_count_kept s rs fit.image fit.bytes fit.short k lt)
+        rw (elements_are, nodes_kept s rs fit.image fit.bytes fit.short, buffers_kept s rs fit.image fit.bytes fit.short, starts_kept (node_count s) (omega arith), starts_kept k (omega arith), code_kept s rs fit.image fit.bytes fit.short k lt, first_buffer_kept s rs fit.image fit.bytes fit.short k lt, buffer_count_kept s rs fit.image fit.bytes fit.short k lt)
         (neither _ _ (neither _ _ (neither _ _ (neither _ _ (neither _ _ (neither _ _
-        (not_it _ (buffer-counts (layout_of (code_of s k)) (buffer_count s k) here.buffers.exactly here.buffers.at_least))
+        (not_it _ (buffer_counts (layout_of (code_of s k)) (buffer_count s k) here.buffers.exactly here.buffers.at_least))
         (not_it _ (eq-eqb _ _ here.buffers.numbered)))
-        (fails_and (eqb k 0) _ (λ zero_is. not_it _ (eq-eqb _ _ fit.image.buffer-total))))
-        (any_none (buffer_outside t k) 0 (buffer_count s k) (λ j from end. buffer-inside j (omega arith))))
-        bitmap-inside)
+        (fails_and (eqb k 0) _ (λ zero_is. not_it _ (eq-eqb _ _ fit.image.buffers_total))))
+        (any_none (buffer_outside t k) 0 (buffer_count s k) (λ j from end. buffer_inside j (omega arith))))
+        bitmap_inside)
         (le-ltb 1073741824 (count (column s rs k)) (fit.few k lt)))
         (even (layout_of (code_of s k)) refl))
 
-    long-enough : (n : ℕ) → buffer_length t k 0 ≡ n * element_width s k → under t k 0 n (element_width t k) ≡ false
+    long_enough : (n : ℕ) → buffer_length t k 0 ≡ n * element_width s k → under t k 0 n (element_width t k) ≡ false
     unfolding under
-    long-enough n e = rw (width-kept s rs fit k lt, e) (le-ltb (n * element_width s k) _ (omega arith))
+    long_enough n e = rw (width_kept s rs fit k lt, e) (le-ltb (n * element_width s k) _ (omega arith))
 
     enough : (l : Layout) → layout_of (code_of s k) ≡ l → too_few_elements l t k (count (column s rs k)) ≡ false
     enough Null e = refl
-    enough Boolean e = le-ltb _ _ (boolean-length s rs fit root k lt e)
-    enough FixedWidth e = long-enough _ (fixed-length s rs fit root k lt e)
-    enough VariableSize e = rw (add-one (count (column s rs k))) (long-enough _ (text_offsets s rs fit root k lt e))
-    enough View e = other View not-view e _
-    enough Lists e = rw (add-one (count (column s rs k))) (long-enough _ (list_offsets s rs fit root k lt e))
-    enough ListView e = other ListView not-list_view e _
-    enough FixedList e = other FixedList not-fixed_list e _
+    enough Boolean e = le-ltb _ _ (boolean_length s rs fit root k lt e)
+    enough FixedWidth e = long_enough _ (fixed_length s rs fit root k lt e)
+    enough VariableSize e = rw (add-one (count (column s rs k))) (long_enough _ (text_offsets s rs fit root k lt e))
+    enough View e = other View not_view e _
+    enough Lists e = rw (add-one (count (column s rs k))) (long_enough _ (list_offsets s rs fit root k lt e))
+    enough ListView e = other ListView not_list_view e _
+    enough FixedList e = other FixedList not_fixed_list e _
     enough Struct e = refl
-    enough DenseUnion e = other DenseUnion not-dense e _
-    enough SparseUnion e = other SparseUnion not-sparse e _
-    enough Dictionary e = other Dictionary not-dictionary e _
-    enough Runs e = other Runs not-runs e _
+    enough DenseUnion e = other DenseUnion not_dense e _
+    enough SparseUnion e = other SparseUnion not_sparse e _
+    enough Dictionary e = other Dictionary not_dictionary e _
+    enough Runs e = other Runs not_runs e _
 
-    bits-enough : takes_bitmap (layout_of (code_of s k)) ≡ true → count (column s rs k) ≤ 8 * part_length s rs (3 * k)
-    bits-enough takes =
-        let bits : part_length s rs (3 * k) ≡ (count (column s rs k) + 7) / 8 = rw takes at (bitmap-length s rs k (layout_of (code_of s k)) refl) in
+    bits_enough : takes_bitmap (layout_of (code_of s k)) ≡ true → count (column s rs k) ≤ 8 * part_length s rs (3 * k)
+    bits_enough takes =
+        let bits : part_length s rs (3 * k) ≡ (count (column s rs k) + 7) / 8 = rw takes at (bitmap_length_lem s rs k (layout_of (code_of s k)) refl) in
         omega arith
 
-    bitmap-enough : has_bitmap t k && ltb (8 * bitmap_length t k) (first_bit t k + length_of t k) ≡ false
-    bitmap-enough =
-        rw (has_bitmap_built s rs fit.image fit.bytes fit.short k lt, bitmap_length_built s rs fit.image fit.bytes fit.short k lt, first_bit_zero s rs fit.image fit.bytes fit.short k lt, length-is s rs fit root k lt)
+    bitmap_enough : has_bitmap t k && ltb (8 * bitmap_length t k) (first_bit t k + length_of t k) ≡ false
+    bitmap_enough =
+        rw (has_bitmap_built s rs fit.image fit.bytes fit.short k lt, bitmap_length_built s rs fit.image fit.bytes fit.short k lt, first_bit_zero s rs fit.image fit.bytes fit.short k lt, length_is s rs fit root k lt)
         (fails_and (takes_bitmap (layout_of (code_of s k))) (ltb (8 * part_length s rs (3 * k)) (0 + count (column s rs k))) (λ takes.
-        le-ltb (8 * part_length s rs (3 * k)) (0 + count (column s rs k)) (omega (arith, bits-enough takes))))
+        le-ltb (8 * part_length s rs (3 * k)) (0 + count (column s rs k)) (omega (arith, bits_enough takes))))
 
     no_15 : fault15 t k ≡ false
     unfolding fault15
-    no_15 = rw (elements_are, code-kept s rs fit.image fit.bytes fit.short k lt) (neither _ _ bitmap-enough (enough (layout_of (code_of s k)) refl))
+    no_15 = rw (elements_are, code_kept s rs fit.image fit.bytes fit.short k lt) (neither _ _ bitmap_enough (enough (layout_of (code_of s k)) refl))
 
-    struct-enough : layout_of (code_of s k) ≡ Struct → child_under t k (elements_of t k) ≡ false
+    struct_enough : layout_of (code_of s k) ≡ Struct → child_under t k (elements_of t k) ≡ false
     unfolding child_under rows_under child_end
-    struct-enough e =
+    struct_enough e =
         rw (elements_are, first_child_kept s rs fit.image fit.bytes fit.short k lt, child_count_kept s rs fit.image fit.bytes fit.short k lt)
         (any_none (rows_under t (count (column s rs k))) (first_child s k) (child_count s k) (λ c from end. each c from end))
       where
@@ -309,27 +309,27 @@ module _ (s : List ℕ) (rs : Rows) (fit : Fitting s rs) (root : all_rows (is_ro
         each c from end =
             let node : c < node_count s = omega (arith, here.tree.ends) in
             let is : first_child s k + (c - first_child s k) ≡ c = omega arith in
-            let same : count (column s rs c) ≡ count (column s rs k) = rw is at (struct-child s fit.image fit.coded rs root k lt e (c - first_child s k) (omega arith)) in
-            rw (length-is s rs fit root c node, same) (le-ltb (count (column s rs k)) (count (column s rs k)) (omega arith))
+            let same : count (column s rs c) ≡ count (column s rs k) = rw is at (struct_child s fit.image fit.coded rs root k lt e (c - first_child s k) (omega arith)) in
+            rw (length_is s rs fit root c node, same) (le-ltb (count (column s rs k)) (count (column s rs k)) (omega arith))
 
-    children-enough : (l : Layout) → layout_of (code_of s k) ≡ l → too_few_child_rows l t k ≡ false
-    children-enough Null e = refl
-    children-enough Boolean e = refl
-    children-enough FixedWidth e = refl
-    children-enough VariableSize e = refl
-    children-enough View e = other View not-view e _
-    children-enough Lists e = refl
-    children-enough ListView e = other ListView not-list_view e _
-    children-enough FixedList e = other FixedList not-fixed_list e _
-    children-enough Struct e = struct-enough e
-    children-enough DenseUnion e = other DenseUnion not-dense e _
-    children-enough SparseUnion e = other SparseUnion not-sparse e _
-    children-enough Dictionary e = other Dictionary not-dictionary e _
-    children-enough Runs e = other Runs not-runs e _
+    children_enough : (l : Layout) → layout_of (code_of s k) ≡ l → too_few_child_rows l t k ≡ false
+    children_enough Null e = refl
+    children_enough Boolean e = refl
+    children_enough FixedWidth e = refl
+    children_enough VariableSize e = refl
+    children_enough View e = other View not_view e _
+    children_enough Lists e = refl
+    children_enough ListView e = other ListView not_list_view e _
+    children_enough FixedList e = other FixedList not_fixed_list e _
+    children_enough Struct e = struct_enough e
+    children_enough DenseUnion e = other DenseUnion not_dense e _
+    children_enough SparseUnion e = other SparseUnion not_sparse e _
+    children_enough Dictionary e = other Dictionary not_dictionary e _
+    children_enough Runs e = other Runs not_runs e _
 
     no_16 : fault16 t k ≡ false
     unfolding fault16
-    no_16 = rw (code-kept s rs fit.image fit.bytes fit.short k lt) (children-enough (layout_of (code_of s k)) refl)
+    no_16 = rw (code_kept s rs fit.image fit.bytes fit.short k lt) (children_enough (layout_of (code_of s k)) refl)
 
     -- offsets that are the sums of the spans before
     sums_rise : (end : ℕ) → ((j : ℕ) → j ≤ count (column s rs k) → element_at t k j ≡ sum_over span (column s rs k) j)
@@ -342,60 +342,60 @@ module _ (s : List ℕ) (rs : Rows) (fit : Fitting s rs) (root : all_rows (is_ro
         (λ m from below. rw (are m (omega arith), are (suc m) (omega arith)) (omega (arith, sum_step span (column s rs k) m (omega arith))))
         (λ some. omega arith))
 
-    list-rises : layout_of (code_of s k) ≡ Lists → offsets_rise t k (length_of t (first_child t k)) ≡ true
+    list_rises : layout_of (code_of s k) ≡ Lists → offsets_rise t k (length_of t (first_child t k)) ≡ true
     unfolding child_end
-    list-rises e =
+    list_rises e =
         let one : child_count s k ≡ 1 = here.tree.exactly 1 (rw e) in
         let node : first_child s k < node_count s = omega (arith, here.tree.ends) in
-        let whole = list-child s fit.image fit.coded rs root k lt e in
-        rw (first_child_kept s rs fit.image fit.bytes fit.short k lt, length-is s rs fit root (first_child s k) node) (sums_rise _ (list-offset s rs fit root k lt e) (sym whole))
+        let whole = list_child s fit.image fit.coded rs root k lt e in
+        rw (first_child_kept s rs fit.image fit.bytes fit.short k lt, length_is s rs fit root (first_child s k) node) (sums_rise _ (list_offset s rs fit root k lt e) (sym whole))
 
     in_place : (l : Layout) → layout_of (code_of s k) ≡ l → offset_fault l t k ≡ false
     in_place Null e = refl
     in_place Boolean e = refl
     in_place FixedWidth e = refl
-    in_place VariableSize e = not_it _ (sums_rise (buffer_length t k 1) (text-offset s rs fit root k lt e) (sym (text-length s rs fit root k lt e)))
-    in_place View e = other View not-view e _
-    in_place Lists e = not_it _ (list-rises e)
-    in_place ListView e = other ListView not-list_view e _
-    in_place FixedList e = other FixedList not-fixed_list e _
+    in_place VariableSize e = not_it _ (sums_rise (buffer_length t k 1) (text_offset s rs fit root k lt e) (sym (text_length s rs fit root k lt e)))
+    in_place View e = other View not_view e _
+    in_place Lists e = not_it _ (list_rises e)
+    in_place ListView e = other ListView not_list_view e _
+    in_place FixedList e = other FixedList not_fixed_list e _
     in_place Struct e = refl
-    in_place DenseUnion e = other DenseUnion not-dense e _
-    in_place SparseUnion e = other SparseUnion not-sparse e _
-    in_place Dictionary e = other Dictionary not-dictionary e _
-    in_place Runs e = other Runs not-runs e _
+    in_place DenseUnion e = other DenseUnion not_dense e _
+    in_place SparseUnion e = other SparseUnion not_sparse e _
+    in_place Dictionary e = other Dictionary not_dictionary e _
+    in_place Runs e = other Runs not_runs e _
 
     no_17 : fault17 t k ≡ false
     unfolding fault17
-    no_17 = rw (code-kept s rs fit.image fit.bytes fit.short k lt) (in_place (layout_of (code_of s k)) refl)
+    no_17 = rw (code_kept s rs fit.image fit.bytes fit.short k lt) (in_place (layout_of (code_of s k)) refl)
 
     no_row_fault : (l : Layout) → layout_of (code_of s k) ≡ l → row_fault l t k ≡ false
     no_row_fault Null e = refl
     no_row_fault Boolean e = refl
     no_row_fault FixedWidth e = refl
     no_row_fault VariableSize e = refl
-    no_row_fault View e = other View not-view e _
+    no_row_fault View e = other View not_view e _
     no_row_fault Lists e = refl
-    no_row_fault ListView e = other ListView not-list_view e _
-    no_row_fault FixedList e = other FixedList not-fixed_list e _
+    no_row_fault ListView e = other ListView not_list_view e _
+    no_row_fault FixedList e = other FixedList not_fixed_list e _
     no_row_fault Struct e = refl
-    no_row_fault DenseUnion e = other DenseUnion not-dense e _
-    no_row_fault SparseUnion e = other SparseUnion not-sparse e _
-    no_row_fault Dictionary e = other Dictionary not-dictionary e _
-    no_row_fault Runs e = other Runs not-runs e _
+    no_row_fault DenseUnion e = other DenseUnion not_dense e _
+    no_row_fault SparseUnion e = other SparseUnion not_sparse e _
+    no_row_fault Dictionary e = other Dictionary not_dictionary e _
+    no_row_fault Runs e = other Runs not_runs e _
 
     no_18 : fault18 t k ≡ false
     unfolding fault18
-    no_18 = rw (code-kept s rs fit.image fit.bytes fit.short k lt) (no_row_fault (layout_of (code_of s k)) refl)
+    no_18 = rw (code_kept s rs fit.image fit.bytes fit.short k lt) (no_row_fault (layout_of (code_of s k)) refl)
 
     no_19 : fault19 t k ≡ false
     unfolding fault19 text_row_fault
     no_19 =
-        rw (code-kept s rs fit.image fit.bytes fit.short k lt, length-is s rs fit root k lt)
+        rw (code_kept s rs fit.image fit.bytes fit.short k lt, length_is s rs fit root k lt)
         (fails_and (is_text (code_of s k)) _ (λ text.
         any_none (text_row_fault t k) 0 (count (column s rs k)) (λ i from end.
         fails_and (valid t k i) _ (λ v.
-        rw (offset_zero s rs fit.image fit.bytes fit.short k lt, zero-add i) (not_it _ (built-formed s rs fit root k lt text i (omega arith) v))))))
+        rw (offset_zero s rs fit.image fit.bytes fit.short k lt, zero-add i) (not_it _ (built_formed s rs fit root k lt text i (omega arith) v))))))
 
     -- whatever the number
     no_fault : (number : ℕ) → fault number t k ≡ false
@@ -417,15 +417,15 @@ module _ (s : List ℕ) (rs : Rows) (fit : Fitting s rs) (root : all_rows (is_ro
       cases true e =
           let below : first (fault number t) 0 (node_count t) < node_count t = ltb-true _ _ e in
           let passes = first_passes (fault number t) 0 (node_count t) (omega arith) in
-          let node : first (fault number t) 0 (node_count t) < node_count s = omega (arith, nodes-kept s rs fit.image fit.bytes fit.short) in
+          let node : first (fault number t) 0 (node_count t) < node_count s = omega (arith, nodes_kept s rs fit.image fit.bytes fit.short) in
           absurd (false≢true (sym (no_fault (first (fault number t) 0 (node_count t)) node number) ∙ passes))
 
-  check-rest : (left number : ℕ) → check_from left number t ≡ Accepted
+  check_rest : (left number : ℕ) → check_from left number t ≡ Accepted
   unfolding check_from
-  check-rest zero number = refl
-  check-rest (suc left) number = rw (none_faulty number) (check-rest left (suc number))
+  check_rest zero number = refl
+  check_rest (suc left) number = rw (none_faulty number) (check_rest left (suc number))
 
   -- a built image is accepted
-  pub built-accepted : check_image t ≡ Accepted
+  pub built_accepted : check_image t ≡ Accepted
   unfolding check_image
-  built-accepted = rw no_10 (check-rest (numbers_end - 11) 11)
+  built_accepted = rw no_10 (check_rest (numbers_end - 11) 11)

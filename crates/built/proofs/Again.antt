@@ -26,16 +26,16 @@ use Rattle.laws.specs.Alike.{Heads, Alike}
 use Rattle.laws.proofs.Accepted.{accepted}
 use Rattle.laws.proofs.TypeLaws.{types_sym}
 use Rattle.laws.proofs.Fuel.{level_below}
-use Rattle.laws.proofs.Alike.{types-alike, same_width}
-use Rattle.laws.proofs.Lengths.{bytes-length, range-count, table-count}
-use Rattle.laws.proofs.Sound.{rows_equal-is}
+use Rattle.laws.proofs.Alike.{types_alike, same_width}
+use Rattle.laws.proofs.Lengths.{bytes_length, range_count, table_count}
+use Rattle.laws.proofs.Sound.{rows_equal_is}
 use Rattle.image.specs.Utf8.{well_formed}
 use Rattle.image.specs.Parse.{parsed, readable_code, rows_in}
 use Rattle.image.specs.Built.{built_image}
 use Rattle.built.specs.Typed.{all_rows, each_row, text_fits, as_fixed, as_sized, as_joined, is_value, is_marked, is_row}
 use Rattle.built.specs.Theorems.{ReadRange}
 use Rattle.built.proofs.Typed.{rows_read_back}
-use Rattle.built.proofs.TypedColumns.{text-code, unreadable, not-view, not-list_view, not-fixed_list, not-dense, not-sparse, not-dictionary, not-runs, coded_at}
+use Rattle.built.proofs.TypedColumns.{text_code, unreadable, not_view, not_list_view, not_fixed_list, not_dense, not_sparse, not_dictionary, not_runs, coded_at}
 use Rattle.built.proofs.Back.{Fitting, table_back}
 
 -- rows of a range that each pass
@@ -44,21 +44,21 @@ unfolding range all_rows
 range_passes f g i zero each = refl
 range_passes f g i (suc n) each = and_true (f (g i)) _ (each i (omega arith) (omega arith)) (range_passes f g (suc i) n (λ m from below. each m (omega arith) (omega arith)))
 
-each-range : (f : ℕ → Row → Bool) (c : ℕ) (g : ℕ → Row) (i n : ℕ) → ((m : ℕ) → m < n → f (c + m) (g (i + m)) ≡ true) → each_row f c (range g i n) ≡ true
+each_range : (f : ℕ → Row → Bool) (c : ℕ) (g : ℕ → Row) (i n : ℕ) → ((m : ℕ) → m < n → f (c + m) (g (i + m)) ≡ true) → each_row f c (range g i n) ≡ true
 unfolding range each_row
-each-range f c g i zero each = refl
-each-range f c g i (suc n) each =
+each_range f c g i zero each = refl
+each_range f c g i (suc n) each =
     and_true (f c (g i)) _ (rw (add-zero c, add-zero i) at (each 0 (omega arith)))
-    (each-range f (suc c) g (suc i) n (λ m lt. rw (suc-add c m, suc-add i m, ← add-suc c m, ← add-suc i m) (each (suc m) (omega arith))))
+    (each_range f (suc c) g (suc i) n (λ m lt. rw (suc-add c m, suc-add i m, ← add-suc c m, ← add-suc i m) (each (suc m) (omega arith))))
 
 -- the text of a row that is not null is one that the code allows (19)
-formed-fits : (t : List ℕ) (k : ℕ) → Texts t k → layout_of (code_of t k) ≡ VariableSize → (i : ℕ) → i < length_of t k → valid t k i ≡ true
+formed_fits : (t : List ℕ) (k : ℕ) → Texts t k → layout_of (code_of t k) ≡ VariableSize → (i : ℕ) → i < length_of t k → valid t k i ≡ true
     → text_fits (code_of t k) (variable_text t k (offset_of t k + i)) ≡ true
 unfolding text_at
-formed-fits t k texts is i lt v = cases (eqb (code_of t k) 26 || eqb (code_of t k) 28) refl
+formed_fits t k texts is i lt v = cases (eqb (code_of t k) 26 || eqb (code_of t k) 28) refl
   where
     cases : (b : Bool) → eqb (code_of t k) 26 || eqb (code_of t k) 28 ≡ b → cond b (well_formed (variable_text t k (offset_of t k + i))) true ≡ true
-    cases true e = rw (text-code (code_of t k) is) at (texts.formed (rw e) i lt v)
+    cases true e = rw (text_code (code_of t k) is) at (texts.formed (rw e) i lt v)
     cases false e = refl
 
 -- The value at row i of node k of a table t, as a row of node l of an image s that has its type.
@@ -71,41 +71,41 @@ module _ (s t : List ℕ) (image : AcceptedImage t) (k l : ℕ) (node : k < node
   byte_fits true = refl
   byte_fits false = refl
 
-  list-fits : layout_of (code_of t k) ≡ Lists → (j : ℕ) → j < elements_of t k → ltb (count (range (sub (first_child t k)) (element_at t k j) (element_at t k (suc j) - element_at t k j))) 4294967296
+  list_fits : layout_of (code_of t k) ≡ Lists → (j : ℕ) → j < elements_of t k → ltb (count (range (sub (first_child t k)) (element_at t k j) (element_at t k (suc j) - element_at t k j))) 4294967296
       && all_rows (test (first_child s l)) (range (sub (first_child t k)) (element_at t k j) (element_at t k (suc j) - element_at t k j)) ≡ true
   unfolding child_end elements_of
-  list-fits is j lt =
+  list_fits is j lt =
       let one : child_count t k ≡ 1 = here.tree.exactly 1 (rw is) in
       let rise = (here.places.lists is).rise j lt in
       let within = (here.places.lists is).within (suc j) lt in
       let small = (image.node (first_child t k) (omega (arith, here.tree.ends))).buffers.small in
       let few : element_at t k (suc j) - element_at t k j < 4294967296 = omega arith in
       let short : ltb (count (range (sub (first_child t k)) (element_at t k j) (element_at t k (suc j) - element_at t k j))) 4294967296 ≡ true =
-      rw (range-count (sub (first_child t k)) (element_at t k j) (element_at t k (suc j) - element_at t k j)) (lt-ltb (element_at t k (suc j) - element_at t k j) 4294967296 few) in
+      rw (range_count (sub (first_child t k)) (element_at t k j) (element_at t k (suc j) - element_at t k j)) (lt-ltb (element_at t k (suc j) - element_at t k j) 4294967296 few) in
       and_true _ _ short
       (range_passes (test (first_child s l)) (sub (first_child t k)) (element_at t k j) (element_at t k (suc j) - element_at t k j)
       (λ m from end. rw (add-zero (first_child s l), add-zero (first_child t k)) at (below 0 m (omega arith) (rw (add-zero (first_child t k)) (omega arith)))))
 
-  text-fits : layout_of (code_of t k) ≡ VariableSize → (i : ℕ) → i < length_of t k → valid t k i ≡ true
+  text_fits_lem : layout_of (code_of t k) ≡ VariableSize → (i : ℕ) → i < length_of t k → valid t k i ≡ true
       → as_sized (λ b. ltb (length b) 4294967296 && text_fits (code_of s l) b) (variable_row t k (offset_of t k + i)) ≡ true
   unfolding variable_row elements_of
-  text-fits is i lt v =
+  text_fits_lem is i lt v =
       let j = offset_of t k + i in
       let two : buffer_count t k ≡ 2 = here.buffers.exactly 2 (rw is) in
       let n = element_at t k (suc (offset_of t k + i)) - element_at t k (offset_of t k + i) in
       let few : element_at t k (suc (offset_of t k + i)) - element_at t k (offset_of t k + i) < 4294967296 =
       omega (arith, (here.places.variable_size is).within (suc (offset_of t k + i)) (omega arith), here.buffers.inside 1 (omega arith), image.tables.size) in
       let short : ltb (length (variable_text t k (offset_of t k + i))) 4294967296 ≡ true =
-      rw (bytes-length t (buffer_place t k 1 + element_at t k (offset_of t k + i)) (element_at t k (suc (offset_of t k + i)) - element_at t k (offset_of t k + i)))
+      rw (bytes_length t (buffer_place t k 1 + element_at t k (offset_of t k + i)) (element_at t k (suc (offset_of t k + i)) - element_at t k (offset_of t k + i)))
       (lt-ltb (element_at t k (suc (offset_of t k + i)) - element_at t k (offset_of t k + i)) 4294967296 few) in
-      and_true _ _ short (rw (← heads.code) (formed-fits t k here.texts is i lt v))
+      and_true _ _ short (rw (← heads.code) (formed_fits t k here.texts is i lt v))
 
-  struct-fits : layout_of (code_of t k) ≡ Struct → (i : ℕ) → i < length_of t k
+  struct_fits : layout_of (code_of t k) ≡ Struct → (i : ℕ) → i < length_of t k
       → as_joined (λ rs. eqb (count rs) (child_count s l) && each_row test (first_child s l) rs) (struct_row sub t k (offset_of t k + i)) ≡ true
   unfolding struct_row elements_of child_end
-  struct-fits is i lt =
-      and_true _ _ (eq-eqb _ _ (range-count (λ c. sub c (offset_of t k + i)) (first_child t k) (child_count t k) ∙ heads.count))
-      (each-range test (first_child s l) (λ c. sub c (offset_of t k + i)) (first_child t k) (child_count t k)
+  struct_fits is i lt =
+      and_true _ _ (eq-eqb _ _ (range_count (λ c. sub c (offset_of t k + i)) (first_child t k) (child_count t k) ∙ heads.count))
+      (each_range test (first_child s l) (λ c. sub c (offset_of t k + i)) (first_child t k) (child_count t k)
       (λ m few. below m (offset_of t k + i) few (omega (arith, here.children.struct is (first_child t k + m) (omega arith) (omega arith)))))
 
   -- a layout that no readable code has
@@ -113,50 +113,50 @@ module _ (s t : List ℕ) (image : AcceptedImage t) (k l : ℕ) (node : k < node
   unfolding readable_code
   other y never is r P = absurd (false≢true (sym (never (code_of t k) is) ∙ r))
 
-  value-fits : (y : Layout) → layout_of (code_of t k) ≡ y → (i : ℕ) → i < length_of t k → valid t k i ≡ true → readable_code t k ≡ true
+  value_fits : (y : Layout) → layout_of (code_of t k) ≡ y → (i : ℕ) → i < length_of t k → valid t k i ≡ true → readable_code t k ≡ true
       → is_value y test s l (value_at y sub t k (offset_of t k + i)) ≡ true
   unfolding boolean_row fixed_row list_row elements_of
-  value-fits Null is i lt v r = refl
-  value-fits Boolean is i lt v r = byte_fits (bit_at t (buffer_place t k 0) (offset_of t k + i))
-  value-fits FixedWidth is i lt v r = eq-eqb _ _ (bytes-length t _ _ ∙ same_width t s k l heads.code heads.p1)
-  value-fits VariableSize is i lt v r = text-fits is i lt v
-  value-fits Lists is i lt v r = list-fits is (offset_of t k + i) (omega arith)
-  value-fits Struct is i lt v r = struct-fits is i lt
-  value-fits View is i lt v r = other View not-view is r _
-  value-fits ListView is i lt v r = other ListView not-list_view is r _
-  value-fits FixedList is i lt v r = other FixedList not-fixed_list is r _
-  value-fits DenseUnion is i lt v r = other DenseUnion not-dense is r _
-  value-fits SparseUnion is i lt v r = other SparseUnion not-sparse is r _
-  value-fits Dictionary is i lt v r = other Dictionary not-dictionary is r _
-  value-fits Runs is i lt v r = other Runs not-runs is r _
+  value_fits Null is i lt v r = refl
+  value_fits Boolean is i lt v r = byte_fits (bit_at t (buffer_place t k 0) (offset_of t k + i))
+  value_fits FixedWidth is i lt v r = eq-eqb _ _ (bytes_length t _ _ ∙ same_width t s k l heads.code heads.p1)
+  value_fits VariableSize is i lt v r = text_fits_lem is i lt v
+  value_fits Lists is i lt v r = list_fits is (offset_of t k + i) (omega arith)
+  value_fits Struct is i lt v r = struct_fits is i lt
+  value_fits View is i lt v r = other View not_view is r _
+  value_fits ListView is i lt v r = other ListView not_list_view is r _
+  value_fits FixedList is i lt v r = other FixedList not_fixed_list is r _
+  value_fits DenseUnion is i lt v r = other DenseUnion not_dense is r _
+  value_fits SparseUnion is i lt v r = other SparseUnion not_sparse is r _
+  value_fits Dictionary is i lt v r = other Dictionary not_dictionary is r _
+  value_fits Runs is i lt v r = other Runs not_runs is r _
 
 -- a value is not null
-value-marked : (takes : Bool) (y : Layout) (test : ℕ → Row → Bool) (s : List ℕ) (l : ℕ) (r : Row) → is_value y test s l r ≡ true → is_marked takes (is_value y test s l) r ≡ true
-value-marked takes y test s l null e = absurd (null-not y e)
+value_marked : (takes : Bool) (y : Layout) (test : ℕ → Row → Bool) (s : List ℕ) (l : ℕ) (r : Row) → is_value y test s l r ≡ true → is_marked takes (is_value y test s l) r ≡ true
+value_marked takes y test s l null e = absurd (null_not y e)
   where
-    null-not : (y : Layout) → is_value y test s l null ≡ true → ⊥
-    null-not Null e = false≢true e
-    null-not Boolean e = false≢true e
-    null-not FixedWidth e = false≢true e
-    null-not VariableSize e = false≢true e
-    null-not Lists e = false≢true e
-    null-not Struct e = false≢true e
-    null-not View e = false≢true e
-    null-not ListView e = false≢true e
-    null-not FixedList e = false≢true e
-    null-not DenseUnion e = false≢true e
-    null-not SparseUnion e = false≢true e
-    null-not Dictionary e = false≢true e
-    null-not Runs e = false≢true e
-value-marked takes y test s l (fixed b) e = e
-value-marked takes y test s l (sized b) e = e
-value-marked takes y test s l (joined rs) e = e
-value-marked takes y test s l (counted rs) e = e
-value-marked takes y test s l (tagged id r) e = e
+    null_not : (y : Layout) → is_value y test s l null ≡ true → ⊥
+    null_not Null e = false≢true e
+    null_not Boolean e = false≢true e
+    null_not FixedWidth e = false≢true e
+    null_not VariableSize e = false≢true e
+    null_not Lists e = false≢true e
+    null_not Struct e = false≢true e
+    null_not View e = false≢true e
+    null_not ListView e = false≢true e
+    null_not FixedList e = false≢true e
+    null_not DenseUnion e = false≢true e
+    null_not SparseUnion e = false≢true e
+    null_not Dictionary e = false≢true e
+    null_not Runs e = false≢true e
+value_marked takes y test s l (fixed b) e = e
+value_marked takes y test s l (sized b) e = e
+value_marked takes y test s l (joined rs) e = e
+value_marked takes y test s l (counted rs) e = e
+value_marked takes y test s l (tagged id r) e = e
 
-same-readable : (s t : List ℕ) (k l : ℕ) → code_of t k ≡ code_of s l → readable_code s l ≡ true → readable_code t k ≡ true
+same_readable : (s t : List ℕ) (k l : ℕ) → code_of t k ≡ code_of s l → readable_code s l ≡ true → readable_code t k ≡ true
 unfolding readable_code
-same-readable s t k l e r = rw e r
+same_readable s t k l e r = rw e r
 
 -- The rows of a range, and the image that they are read by when they are written.
 module _ (s t : List ℕ) (i n : ℕ) (w : ReadRange s t i n) where
@@ -178,37 +178,37 @@ module _ (s t : List ℕ) (i n : ℕ) (w : ReadRange s t i n) where
       λ c m few within.
       row_passes d (suc e) (omega arith) (first_child t k + c) (first_child s l + c) (omega (arith, level_below t e k past, tree.numbered)) (omega (arith, tree.ends))
       (omega (arith, (given.node l there).tree.ends, alike.0.count)) (alike.1 c few) m within in
-      let readable-here : readable_code t k ≡ true = same-readable s t k l alike.0.code (coded_at s (given) w.coded none l there) in
+      let readable-here : readable_code t k ≡ true = same_readable s t k l alike.0.code (coded_at s (given) w.coded none l there) in
       rw (← alike.0.code)
       (cases (valid t k r) refl (takes_bitmap (layout_of (code_of t k))) refl
-      (λ v. value-fits s t (table) k l node alike.0 (is_row d s) (row_at d t) below (layout_of (code_of t k)) refl r lt v readable-here))
+      (λ v. value_fits s t (table) k l node alike.0 (is_row d s) (row_at d t) below (layout_of (code_of t k)) refl r lt v readable-here))
     where
       cases : (v : Bool) → valid t k r ≡ v → (takes : Bool) → takes_bitmap (layout_of (code_of t k)) ≡ takes
           → (v ≡ true → is_value (layout_of (code_of t k)) (is_row d s) s l (value_at (layout_of (code_of t k)) (row_at d t) t k (offset_of t k + r)) ≡ true)
           → is_marked takes (is_value (layout_of (code_of t k)) (is_row d s) s l) (masked v (value_at (layout_of (code_of t k)) (row_at d t) t k (offset_of t k + r))) ≡ true
-      cases true is takes bitmap h = value-marked takes (layout_of (code_of t k)) (is_row d s) s l _ (h refl)
+      cases true is takes bitmap h = value_marked takes (layout_of (code_of t k)) (is_row d s) s l _ (h refl)
       cases false is true bitmap h = refl
       cases false is false bitmap h =
           let valid-here : valid t k r ≡ true = (table.node k node).known.all_valid bitmap r in
           cc
 
   -- the rows of the range are rows of the type
-  pub range-typed : all_rows (is_row 16 s 0) (table_rows t i n) ≡ true
+  pub range_typed : all_rows (is_row 16 s 0) (table_rows t i n) ≡ true
   unfolding table_rows level_end
-  range-typed =
-      let some : 0 < node_count t = omega (arith, table.tables.some-nodes) in
-      let there : 0 < node_count s = omega (arith, given.tables.some-nodes) in
+  range_typed =
+      let some : 0 < node_count t = omega (arith, table.tables.some_nodes) in
+      let there : 0 < node_count s = omega (arith, given.tables.some_nodes) in
       range_passes (is_row 16 s 0) (row_at 16 t 0) i n (λ m from end.
-      row_passes 16 0 (omega arith) 0 0 (omega arith) some there (types-alike t s (types_sym s t w.types)) m (omega (arith, w.within)))
+      row_passes 16 0 (omega arith) 0 0 (omega arith) some there (types_alike t s (types_sym s t w.types)) m (omega (arith, w.within)))
 
   -- the written range is that many rows
-  pub range-read : rows_in s n (range_bytes t i n) ≡ parsed (table_rows t i n) []
+  pub range_read : rows_in s n (range_bytes t i n) ≡ parsed (table_rows t i n) []
   unfolding range_bytes
-  range-read = rw (table-count t i n, append-nil (rows_bytes (table_rows t i n))) at (rows_read_back s (table_rows t i n) [] range-typed)
+  range_read = rw (table_count t i n, append-nil (rows_bytes (table_rows t i n))) at (rows_read_back s (table_rows t i n) [] range_typed)
 
   -- "builds a table equal to that range"
   pub range_again : Fitting s (table_rows t i n) → ranges_equal (built_image s (table_rows t i n)) t 0 i n ≡ true
   unfolding ranges_equal
   range_again fit =
-      (rows_equal-is (table_rows (built_image s (table_rows t i n)) 0 n) (table_rows t i n)).1
-      (rw (table-count t i n) at (table_back s (table_rows t i n) fit range-typed))
+      (rows_equal_is (table_rows (built_image s (table_rows t i n)) 0 n) (table_rows t i n)).1
+      (rw (table_count t i n) at (table_back s (table_rows t i n) fit range_typed))

@@ -11,7 +11,7 @@ use lib.Pow.{shr-shr, field, mod-mod-pow}
 use Rattle.image.specs.Bytes.{byte_at, number_bytes, bit_at}
 use Rattle.image.specs.Row.{Row, Rows, none, more}
 use Rattle.image.specs.RowBytes.{count}
-use Rattle.laws.proofs.Lengths.{number-length}
+use Rattle.laws.proofs.Lengths.{number_length}
 use Rattle.image.specs.Built.{bits_number, pack_bits, each_number, nth}
 
 byte_of_number : (w x i : ℕ) → i < w → byte_at (number_bytes w x) i ≡ x / 2 ^ (8 * i) % 256
@@ -37,30 +37,30 @@ bit_of_number w x j lt =
     rw (zero-add (j / 8), byte_of_number w x (j / 8) lt, low_bit (x / 2 ^ (8 * (j / 8))) (j % 8) (omega arith), shr-shr x (8 * (j / 8)) (j % 8), e)
 
 -- a number made of bits, each 0 or 1, has them
-pub bits-number : (xs : List ℕ) (j : ℕ) → ((i : ℕ) → get_or xs i 0 ≤ 1) → bits_number xs / 2 ^ j % 2 ≡ get_or xs j 0
+pub bits_number_lem : (xs : List ℕ) (j : ℕ) → ((i : ℕ) → get_or xs i 0 ≤ 1) → bits_number xs / 2 ^ j % 2 ≡ get_or xs j 0
 unfolding bits_number
-bits-number [] j small = rw (zero-div (2 ^ j))
-bits-number (x ∷ xs) zero small = omega (arith, small 0)
-bits-number (x ∷ xs) (suc j) small =
+bits_number_lem [] j small = rw (zero-div (2 ^ j))
+bits_number_lem (x ∷ xs) zero small = omega (arith, small 0)
+bits_number_lem (x ∷ xs) (suc j) small =
     let e : suc j ≡ 1 + j = omega arith in
     let half : (x + 2 * bits_number xs) / 2 ≡ bits_number xs = omega (arith, small 0) in
-    rw (e, ← shr-shr (x + 2 * bits_number xs) 1 j) (ap (λ (n : ℕ). n / 2 ^ j % 2) half ∙ bits-number xs j (λ i. small (suc i)))
+    rw (e, ← shr-shr (x + 2 * bits_number xs) 1 j) (ap (λ (n : ℕ). n / 2 ^ j % 2) half ∙ bits_number_lem xs j (λ i. small (suc i)))
 
 pub pack_length : (xs : List ℕ) → length (pack_bits xs) ≡ (length xs + 7) / 8
 unfolding pack_bits
-pack_length xs = number-length _ _
+pack_length xs = number_length _ _
 
 -- bit j of packed bits
 pub pack_bit : (xs : List ℕ) (j : ℕ) → ((i : ℕ) → get_or xs i 0 ≤ 1) → j < length xs → bit_at (pack_bits xs) 0 j ≡ eqb (get_or xs j 0) 1
 unfolding pack_bits
 pack_bit xs j small lt =
-    bit_of_number ((length xs + 7) / 8) (bits_number xs) j (omega arith) ∙ ap (λ (n : ℕ). eqb n 1) (bits-number xs j small)
+    bit_of_number ((length xs + 7) / 8) (bits_number xs) j (omega arith) ∙ ap (λ (n : ℕ). eqb n 1) (bits_number_lem xs j small)
 
 -- the numbers that rows have
-pub each-length : (f : Row → ℕ) (rs : Rows) → length (each_number f rs) ≡ count rs
+pub each_length : (f : Row → ℕ) (rs : Rows) → length (each_number f rs) ≡ count rs
 unfolding each_number count
-each-length f none = refl
-each-length f (more r rs) = ap suc (each-length f rs)
+each_length f none = refl
+each_length f (more r rs) = ap suc (each_length f rs)
 
 pub each_at : (f : Row → ℕ) (rs : Rows) (j : ℕ) → j < count rs → get_or (each_number f rs) j 0 ≡ f (nth rs j)
 unfolding each_number count nth
@@ -77,4 +77,4 @@ each_bits f (more r rs) small (suc i) = each_bits f rs (λ i lt. small (suc i) (
 -- the bit of row j, of bits that rows have
 pub row_bit : (f : Row → ℕ) (rs : Rows) → ((i : ℕ) → i < count rs → f (nth rs i) ≤ 1) → (j : ℕ) → j < count rs → bit_at (pack_bits (each_number f rs)) 0 j ≡ eqb (f (nth rs j)) 1
 row_bit f rs small j lt =
-    pack_bit (each_number f rs) j (each_bits f rs small) (rw (each-length f rs) lt) ∙ ap (λ (n : ℕ). eqb n 1) (each_at f rs j lt)
+    pack_bit (each_number f rs) j (each_bits f rs small) (rw (each_length f rs) lt) ∙ ap (λ (n : ℕ). eqb n 1) (each_at f rs j lt)

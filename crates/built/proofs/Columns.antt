@@ -14,7 +14,7 @@ use Rattle.image.specs.Record.{node_count, first_child, child_count, child_start
 use Rattle.image.specs.Element.{child_end}
 use Rattle.image.specs.Row.{Row, Rows, none, more}
 use Rattle.image.specs.RowBytes.{count}
-use Rattle.image.proofs.Ranges.{first_at_most, first-before, first_passes, sum_grows}
+use Rattle.image.proofs.Ranges.{first_at_most, first_before, first_passes, sum_grows}
 use Rattle.laws.specs.Accepted.{AcceptedImage}
 use Rattle.image.specs.Row.{rows_then}
 use Rattle.image.specs.Built.{from_each, nth, ends_past, parent_of, rows_to_child, under_null, child_column, column_at, column}
@@ -24,22 +24,22 @@ use Rattle.built.proofs.Offsets.{sum_over}
 
 module _ (s : List ℕ) (image : AcceptedImage s) where
   -- the children of an earlier node end before those of a later one start
-  pub ends-before : (q p : ℕ) → q < p → p < node_count s → child_end s q ≤ first_child s p
+  pub ends_before : (q p : ℕ) → q < p → p < node_count s → child_end s q ≤ first_child s p
   unfolding child_end child_start sum_to
-  ends-before q p lt node =
+  ends_before q p lt node =
       let sums : sum_to (child_count s) (suc q) ≤ sum_to (child_count s) p = sum_grows (child_count s) (suc q) p lt in
       omega (arith, (image.node q (omega arith)).tree.numbered, (image.node p node).tree.numbered)
 
   -- each node but the root has an earlier parent
-  pub parent-before : (k : ℕ) → k < node_count s → 0 < k → parent_of s k < k
+  pub parent_before : (k : ℕ) → k < node_count s → 0 < k → parent_of s k < k
   unfolding parent_of ends_past child_end child_start sum_to
-  parent-before (suc k) node some =
+  parent_before (suc k) node some =
       let mine = (image.node (suc k) node).tree in
       let before = (image.node k (omega arith)).tree in
       let past : suc k < child_end s k = omega (arith, mine.numbered, mine.below, before.numbered) in
       let le : parent_of s (suc k) ≤ k = first_at_most (ends_past s (suc k)) 0 (suc k) k (omega arith) (lt-ltb (suc k) (child_end s k) past) in
       omega arith
-  parent-before zero node some = absurd (omega arith)
+  parent_before zero node some = absurd (omega arith)
 
   -- and it is the node whose child it is
   pub parent_is : (p i : ℕ) → p < node_count s → i < child_count s p → parent_of s (first_child s p + i) ≡ p
@@ -53,65 +53,65 @@ module _ (s : List ℕ) (image : AcceptedImage s) where
       cases (inl e) = e
       cases (inr lt) =
           let passes = first_passes (ends_past s (first_child s p + i)) 0 (first_child s p + i) (omega (arith, (image.node p node).tree.below)) in
-          absurd (omega (arith, ltb-true (first_child s p + i) (child_end s (parent_of s (first_child s p + i))) passes, ends-before (parent_of s (first_child s p + i)) p lt node))
+          absurd (omega (arith, ltb-true (first_child s p + i) (child_end s (parent_of s (first_child s p + i))) passes, ends_before (parent_of s (first_child s p + i)) p lt node))
 
   -- a node is one of its parent's children
   pub parent_starts : (k : ℕ) → k < node_count s → 0 < k → first_child s (parent_of s k) ≤ k
   unfolding parent_of ends_past child_end child_start sum_to
-  parent_starts k node some = cases (parent_of s k) refl (parent-before k node some)
+  parent_starts k node some = cases (parent_of s k) refl (parent_before k node some)
     where
       cases : (p : ℕ) → parent_of s k ≡ p → parent_of s k < k → first_child s p ≤ k
       cases zero is lt = omega (arith, (image.node 0 (omega arith)).tree.numbered)
       cases (suc q) is lt =
-          let fails = first-before (ends_past s k) 0 k q (omega arith) (omega arith) in
+          let fails = first_before (ends_past s k) 0 k q (omega arith) (omega arith) in
           omega (arith, ltb-false k (child_end s q) fails, (image.node (suc q) (omega arith)).tree.numbered, (image.node q (omega arith)).tree.numbered)
 
-  pub parent-ends : (k : ℕ) → k < node_count s → 0 < k → k < child_end s (parent_of s k)
+  pub parent_ends : (k : ℕ) → k < node_count s → 0 < k → k < child_end s (parent_of s k)
   unfolding parent_of ends_past
-  parent-ends k node some =
-      let before = parent-before k node some in
+  parent_ends k node some =
+      let before = parent_before k node some in
       ltb-true k _ (first_passes (ends_past s k) 0 k (omega arith))
 
   -- The rows of a child.
 
   -- the first argument may be larger
-  column-more : (rs : Rows) (d e k : ℕ) → k ≤ d → k ≤ e → k < node_count s → column_at d s rs k ≡ column_at e s rs k
+  column_more : (rs : Rows) (d e k : ℕ) → k ≤ d → k ≤ e → k < node_count s → column_at d s rs k ≡ column_at e s rs k
   unfolding column_at
-  column-more rs zero zero k ld le node = refl
-  column-more rs zero (suc e) k ld le node =
+  column_more rs zero zero k ld le node = refl
+  column_more rs zero (suc e) k ld le node =
       let root : k ≡ 0 = omega arith in
       rw root
-  column-more rs (suc d) zero k ld le node =
+  column_more rs (suc d) zero k ld le node =
       let root : k ≡ 0 = omega arith in
       rw root
-  column-more rs (suc d) (suc e) zero ld le node = refl
-  column-more rs (suc d) (suc e) (suc k) ld le node =
-      let p : parent_of s (suc k) < suc k = parent-before (suc k) node (omega arith) in
+  column_more rs (suc d) (suc e) zero ld le node = refl
+  column_more rs (suc d) (suc e) (suc k) ld le node =
+      let p : parent_of s (suc k) < suc k = parent_before (suc k) node (omega arith) in
       let other : eqb (suc k) 0 ≡ false = ne_eqb (suc k) 0 (λ e. omega arith) in
       rw other
-      (ap (child_column s (parent_of s (suc k)) (suc k)) (column-more rs d e (parent_of s (suc k)) (omega arith) (omega arith) (omega arith)))
+      (ap (child_column s (parent_of s (suc k)) (suc k)) (column_more rs d e (parent_of s (suc k)) (omega arith) (omega arith) (omega arith)))
 
   column_step : (rs : Rows) (k : ℕ) → 0 < k → k < node_count s → column s rs k ≡ child_column s (parent_of s k) k (column s rs (parent_of s k))
   unfolding column column_at
   column_step rs zero some node = absurd (omega arith)
   column_step rs (suc k) some node =
-      let p : parent_of s (suc k) < suc k = parent-before (suc k) node some in
+      let p : parent_of s (suc k) < suc k = parent_before (suc k) node some in
       let other : eqb (suc k) 0 ≡ false = ne_eqb (suc k) 0 (λ e. omega arith) in
       rw other
-      (ap (child_column s (parent_of s (suc k)) (suc k)) (column-more rs k (parent_of s (suc k)) (parent_of s (suc k)) (omega arith) (omega arith) (omega arith)))
+      (ap (child_column s (parent_of s (suc k)) (suc k)) (column_more rs k (parent_of s (suc k)) (parent_of s (suc k)) (omega arith) (omega arith) (omega arith)))
 
-  pub column-child : (rs : Rows) (p i : ℕ) → p < node_count s → i < child_count s p → column s rs (first_child s p + i) ≡ from_each (rows_to_child (under_null s p (first_child s p + i)) i) (column s rs p)
+  pub column_child : (rs : Rows) (p i : ℕ) → p < node_count s → i < child_count s p → column s rs (first_child s p + i) ≡ from_each (rows_to_child (under_null s p (first_child s p + i)) i) (column s rs p)
   unfolding child_column child_end
-  column-child rs p i node few =
+  column_child rs p i node few =
       let there : first_child s p + i < node_count s = omega (arith, (image.node p node).tree.ends) in
       let some : 0 < first_child s p + i = omega (arith, (image.node p node).tree.below) in
       let step = column_step rs (first_child s p + i) some there in
       let back : first_child s p + i - first_child s p ≡ i = omega arith in
       rw (parent_is p i node few, back) at step
 
-pub column-root : (s : List ℕ) (rs : Rows) → column s rs 0 ≡ rs
+pub column_root : (s : List ℕ) (rs : Rows) → column s rs 0 ≡ rs
 unfolding column column_at
-column-root s rs = refl
+column_root s rs = refl
 
 -- Rows from each row.
 
@@ -134,19 +134,19 @@ join_right (more r rs) qs i =
     rw e (join_right rs qs i)
 
 module _ (f : Row → Rows) where
-  pub from-count : (rs : Rows) → count (from_each f rs) ≡ sum_over (λ r. count (f r)) rs (count rs)
+  pub from_count : (rs : Rows) → count (from_each f rs) ≡ sum_over (λ r. count (f r)) rs (count rs)
   unfolding from_each count sum_over
-  from-count none = refl
-  from-count (more r rs) = count_join (f r) (from_each f rs) ∙ rw (from-count rs)
+  from_count none = refl
+  from_count (more r rs) = count_join (f r) (from_each f rs) ∙ rw (from_count rs)
 
   -- row m of those that row j gives
-  pub from-nth : (rs : Rows) (j m : ℕ) → j < count rs → m < count (f (nth rs j)) → nth (from_each f rs) (sum_over (λ r. count (f r)) rs j + m) ≡ nth (f (nth rs j)) m
+  pub from_nth : (rs : Rows) (j m : ℕ) → j < count rs → m < count (f (nth rs j)) → nth (from_each f rs) (sum_over (λ r. count (f r)) rs j + m) ≡ nth (f (nth rs j)) m
   unfolding from_each count sum_over nth
-  from-nth none j m lt few = absurd (omega arith)
-  from-nth (more r rs) zero m lt few = rw (zero-add m) (join_left (f r) (from_each f rs) m few)
-  from-nth (more r rs) (suc j) m lt few =
+  from_nth none j m lt few = absurd (omega arith)
+  from_nth (more r rs) zero m lt few = rw (zero-add m) (join_left (f r) (from_each f rs) m few)
+  from_nth (more r rs) (suc j) m lt few =
       let e : count (f r) + sum_over (λ r. count (f r)) rs j + m ≡ count (f r) + (sum_over (λ r. count (f r)) rs j + m) = omega arith in
-      rw e (join_right (f r) (from_each f rs) (sum_over (λ r. count (f r)) rs j + m) ∙ from-nth rs j m (omega arith) few)
+      rw e (join_right (f r) (from_each f rs) (sum_over (λ r. count (f r)) rs j + m) ∙ from_nth rs j m (omega arith) few)
 
 -- sums over rows on which two functions agree
 pub sum_same : (f g : Row → ℕ) (rs : Rows) (j : ℕ) → ((i : ℕ) → i < count rs → f (nth rs i) ≡ g (nth rs i)) → sum_over f rs j ≡ sum_over g rs j

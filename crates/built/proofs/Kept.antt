@@ -18,14 +18,14 @@ use Rattle.image.specs.Faults.{union_over, under_union}
 use Rattle.image.specs.Types.{name_of, types_agree_at, types_agree}
 use Rattle.image.specs.Row.{Rows}
 use Rattle.image.proofs.Bools.{and_left, and_right, when_true}
-use Rattle.image.proofs.Ranges.{every-below, any_none}
+use Rattle.image.proofs.Ranges.{every_below, any_none}
 use Rattle.laws.specs.Accepted.{AcceptedImage}
 use Rattle.laws.proofs.TypeLaws.{of_level}
 use Rattle.image.specs.Parse.{readable_code, readable}
 use Rattle.image.specs.Built.{built_image}
 use Rattle.built.specs.Theorems.{NodeKept}
-use Rattle.built.proofs.Regions.{part-whole}
-use Rattle.built.proofs.Fields.{name-part, name-length, code-kept, flags-built, id_zero, name_length_kept, p1-kept, p2-kept, first_child_kept, child_count_kept, name_place_built}
+use Rattle.built.proofs.Regions.{part_whole}
+use Rattle.built.proofs.Fields.{name_part, name_length_lem, code_kept, flags_built, id_zero, name_length_kept, p1_kept, p2_kept, first_child_kept, child_count_kept, name_place_built}
 use Rattle.built.proofs.TypedColumns.{code_readable}
 use Rattle.built.proofs.Back.{Fitting}
 
@@ -41,8 +41,8 @@ module _ (s : List ℕ) (image : AcceptedImage s) (coded : readable s ≡ true) 
   plain_at : (k : ℕ) → k < node_count s → plain (code_of s k) ≡ true
   unfolding readable_code readable
   plain_at k lt =
-      when_true (code_readable (code_of s k)) _ (every-below (λ c. not (code_readable c) || plain c) 44 plain_codes (code_of s k) (omega (arith, (image.node k lt).known.code)))
-      (every-below (readable_code s) (node_count s) coded k lt)
+      when_true (code_readable (code_of s k)) _ (every_below (λ c. not (code_readable c) || plain c) 44 plain_codes (code_of s k) (omega (arith, (image.node k lt).known.code)))
+      (every_below (readable_code s) (node_count s) coded k lt)
 
   pub no_union : (k : ℕ) → k < node_count s → is_union (code_of s k) ≡ false
   no_union k lt = not-true _ (and_left _ _ (and_left _ _ (plain_at k lt)))
@@ -59,19 +59,19 @@ module _ (s : List ℕ) (image : AcceptedImage s) (coded : readable s ≡ true) 
   without_id k lt = (image.node k lt).tree.without_id (any_none (union_over s k) 0 k (λ j from end. rw (no_union j (omega arith))))
 
 module _ (s : List ℕ) (rs : Rows) (fit : Fitting s rs) where
-  name-kept : (k : ℕ) → k < node_count s → name_of (built_image s rs) k ≡ name_of s k
+  name_kept : (k : ℕ) → k < node_count s → name_of (built_image s rs) k ≡ name_of s k
   unfolding name_of bytes_at
-  name-kept k lt = rw (name_length_kept s rs fit.image fit.bytes fit.short k lt) (cases (eq-zero-or-pos (name_length s k)))
+  name_kept k lt = rw (name_length_kept s rs fit.image fit.bytes fit.short k lt) (cases (eq-zero-or-pos (name_length s k)))
     where
       cases : (name_length s k ≡ 0) ⊎ (0 < name_length s k) → bytes_at (built_image s rs) (name_place (built_image s rs) k) (name_length s k) ≡ bytes_at s (name_place s k) (name_length s k)
       cases (inl none) = rw none
       cases (inr some) =
-          let there = part-whole (name-part s rs fit.image k lt) in
-          rw (name_place_built s rs fit.image fit.bytes fit.short k lt some) (rw (name-length s k) at there)
+          let there = part_whole (name_part s rs fit.image k lt) in
+          rw (name_place_built s rs fit.image fit.bytes fit.short k lt some) (rw (name_length_lem s k) at there)
 
-  flag-kept : (k : ℕ) → k < node_count s → nullable (built_image s rs) k ≡ nullable s k
+  flag_kept : (k : ℕ) → k < node_count s → nullable (built_image s rs) k ≡ nullable s k
   unfolding nullable
-  flag-kept k lt = rw (flags-built s rs fit.image fit.bytes fit.short k lt) (cases (takes_bitmap (layout_of (code_of s k))))
+  flag_kept k lt = rw (flags_built s rs fit.image fit.bytes fit.short k lt) (cases (takes_bitmap (layout_of (code_of s k))))
     where
       cases : (b : Bool) → eqb ((flags_of s k % 2 + cond b 2 0) % 2) 1 ≡ eqb (flags_of s k % 2) 1
       cases true =
@@ -84,11 +84,11 @@ module _ (s : List ℕ) (rs : Rows) (fit : Fitting s rs) where
   pub node_kept : (k : ℕ) → k < node_count s → NodeKept s (built_image s rs) k
   node_kept k lt =
       record {
-        code = code-kept s rs fit.image fit.bytes fit.short k lt;
-        p1 = p1-kept s rs fit.image fit.bytes fit.short k lt;
-        p2 = p2-kept s rs fit.image fit.bytes fit.short k lt;
-        name = name-kept k lt;
-        flag = flag-kept k lt;
+        code = code_kept s rs fit.image fit.bytes fit.short k lt;
+        p1 = p1_kept s rs fit.image fit.bytes fit.short k lt;
+        p2 = p2_kept s rs fit.image fit.bytes fit.short k lt;
+        name = name_kept k lt;
+        flag = flag_kept k lt;
         id = id_zero s rs fit.image fit.bytes fit.short k lt ∙ sym (without_id s fit.image fit.coded k lt);
         first = first_child_kept s rs fit.image fit.bytes fit.short k lt;
         children = child_count_kept s rs fit.image fit.bytes fit.short k lt;
@@ -109,6 +109,6 @@ module _ (s : List ℕ) (rs : Rows) (fit : Fitting s rs) where
       })
 
   -- the types agree
-  pub types-kept : types_agree s (built_image s rs) ≡ true
+  pub types_kept : types_agree s (built_image s rs) ≡ true
   unfolding types_agree
-  types-kept = types_at 16 false 0 (omega (arith, fit.image.tables.some-nodes))
+  types_kept = types_at 16 false 0 (omega (arith, fit.image.tables.some_nodes))

@@ -25,8 +25,8 @@ use Rattle.image.specs.Parse.{Parsed, failed, parsed, made, and_then, bytes_in, 
 pub behind : (x y b : List ℕ) → x ++ y ≡ b → AllBytes b → AllBytes y
 behind x y b e all = λ i. rw (← get_or-append-add x y i 0, e) (all (length x + i))
 
-pub tail-bytes : (x : ℕ) (b : List ℕ) → AllBytes (x ∷ b) → AllBytes b
-tail-bytes x b all = λ i. all (suc i)
+pub tail_bytes : (x : ℕ) (b : List ℕ) → AllBytes (x ∷ b) → AllBytes b
+tail_bytes x b all = λ i. all (suc i)
 
 -- bytes are those of the number that they make
 pub number_of_bytes : (x y : List ℕ) → AllBytes (x ++ y) → number_bytes (length x) (number_at (length x) x 0) ≡ x
@@ -36,33 +36,33 @@ number_of_bytes (a ∷ x) y all =
     let n = number_at (length x) x 0 in
     let low : (a + 256 * n) % 256 ≡ a = omega (arith, all 0) in
     let high : (a + 256 * n) / 256 ≡ n = omega (arith, all 0) in
-    rw (behind_first (length x) a 0 x, low, high, number_of_bytes x y (tail-bytes a (x ++ y) all))
+    rw (behind_first (length x) a 0 x, low, high, number_of_bytes x y (tail_bytes a (x ++ y) all))
 
 -- a reader that fails gives nothing
-pub failed-not : {A : Type 0} {x : A} {b : List ℕ} → failed ≡ parsed x b → ⊥
-failed-not e =
+pub failed_not : {A : Type 0} {x : A} {b : List ℕ} → failed ≡ parsed x b → ⊥
+failed_not e =
     let z : ◌≡◌ {A = ℕ} 0 1 = cc in
     omega arith
 
 -- Readers that are made of others.
 module _ {A B : Type 0} where
   pub made_back : (g : A → B) (p : Parsed A) (y : B) (rest : List ℕ) → made g p ≡ parsed y rest → (x : A) × (p ≡ parsed x rest) × (g x ≡ y)
-  made_back g failed y rest e = absurd (failed-not e)
+  made_back g failed y rest e = absurd (failed_not e)
   made_back g (parsed x b) y rest e = (x, cc, cc)
 
   pub then_back : (p : Parsed A) (f : A → List ℕ → Parsed B) (y : B) (rest : List ℕ) → and_then p f ≡ parsed y rest → (x : A) × (mid : List ℕ) × (p ≡ parsed x mid) × (f x mid ≡ parsed y rest)
-  then_back failed f y rest e = absurd (failed-not e)
+  then_back failed f y rest e = absurd (failed_not e)
   then_back (parsed x mid) f y rest e = (x, mid, refl, e)
 
 -- only the branch that does not fail
 module _ {A : Type 0} where
   pub unless_back : (t : Bool) (p : Parsed A) (y : A) (rest : List ℕ) → cond t failed p ≡ parsed y rest → (t ≡ false) × (p ≡ parsed y rest)
-  unless_back true p y rest e = absurd (failed-not e)
+  unless_back true p y rest e = absurd (failed_not e)
   unless_back false p y rest e = (refl, e)
 
   pub when_back : (t : Bool) (p : Parsed A) (y : A) (rest : List ℕ) → cond t p failed ≡ parsed y rest → (t ≡ true) × (p ≡ parsed y rest)
   when_back true p y rest e = (refl, e)
-  when_back false p y rest e = absurd (failed-not e)
+  when_back false p y rest e = absurd (failed_not e)
 
 -- n bytes
 pub bytes_back : (n : ℕ) (b x rest : List ℕ) → bytes_in n b ≡ parsed x rest → (x ++ rest ≡ b) × (length x ≡ n)
@@ -196,7 +196,7 @@ marked_back bitmap value (zero ∷ v) all h r rest e =
     let front : r ≡ null = cc in
     let back : rest ≡ v = cc in
     rw (front, back)
-marked_back bitmap value (suc zero ∷ v) all h r rest e = h v (tail-bytes 1 v all) r rest e
+marked_back bitmap value (suc zero ∷ v) all h r rest e = h v (tail_bytes 1 v all) r rest e
 marked_back bitmap value (suc (suc x) ∷ v) all h r rest e = cc
 
 pub row_in_back : (d : ℕ) (s : List ℕ) (k : ℕ) → Writes (row_in d s k)

@@ -29,14 +29,14 @@ use Rattle.cases.specs.Cases
 use Rattle.cases.specs.Cases.{cases}
 
 -- the test of two lists is their equality
-pub same-equal : (xs ys : List ℕ) → same_bytes xs ys ≡ true → xs ≡ ys
+pub same_equal : (xs ys : List ℕ) → same_bytes xs ys ≡ true → xs ≡ ys
 unfolding same_bytes
-same-equal [] [] e = refl
-same-equal [] (y ∷ ys) e = absurd (false≢true e)
-same-equal (x ∷ xs) [] e = absurd (false≢true e)
-same-equal (x ∷ xs) (y ∷ ys) e =
+same_equal [] [] e = refl
+same_equal [] (y ∷ ys) e = absurd (false≢true e)
+same_equal (x ∷ xs) [] e = absurd (false≢true e)
+same_equal (x ∷ xs) (y ∷ ys) e =
     let first = eqb-true x y (and_left (eqb x y) (same_bytes xs ys) e) in
-    let rest = same-equal xs ys (and_right (eqb x y) (same_bytes xs ys) e) in
+    let rest = same_equal xs ys (and_right (eqb x y) (same_bytes xs ys) e) in
     cc
 
 -- each case passes the test of its answer against the expected one
@@ -48,7 +48,7 @@ passes (c ∷ cs) = same_bytes (answer c.call) c.expected && passes cs
 pub each_holds : (cs : List Case) → passes cs ≡ true → (c : Case) → Memᴰ c cs → Holds c
 unfolding passes
 each_holds (x ∷ xs) e c (Memᴰ.head h) =
-    subst Holds (sym h) (same-equal (answer x.call) x.expected (and_left _ (passes xs) e))
+    subst Holds (sym h) (same_equal (answer x.call) x.expected (and_left _ (passes xs) e))
 each_holds (x ∷ xs) e c (Memᴰ.tail m) =
     each_holds xs (and_right (same_bytes (answer x.call) x.expected) (passes xs) e) c m
 

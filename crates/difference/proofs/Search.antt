@@ -12,8 +12,8 @@ use Rattle.image.proofs.Bools.{fails_and}
 use Rattle.values.specs.Pairs.{all, pair_differs, first_unequal, same_row, range_equal, same_mask}
 use Rattle.values.specs.Parts.{Sides}
 use Rattle.values.proofs.Steps.{Passed, all_split, all_snoc, by_rows}
-use Rattle.values.proofs.FirstUnequal.{unequal_fails, unequal-is, unequal-some, unequal-end, unequal_among}
-use Rattle.equal.proofs.Nulls.{range-masks}
+use Rattle.values.proofs.FirstUnequal.{unequal_fails, unequal_is, unequal_some, unequal_end, unequal_among}
+use Rattle.equal.proofs.Nulls.{range_masks}
 
 -- the first `low` pairs pass, the first `high` do not all
 pub record Between (p : ℕ → ℕ → Bool) (i j n low high : ℕ) : Type 0 where
@@ -46,7 +46,7 @@ module _ (p : ℕ → ℕ → Bool) (i j : ℕ) where
     between_none {low} {high} b one =
         let e : high ≡ low + 1 = omega (arith, b.below) in
         let f : all p i j low && p (i + low) (j + low) ≡ false = sym (all_snoc p i j low) ∙ (rw e at b.fails) in
-        unequal-is p i j n low (omega (arith, b.below, b.within)) b.passes (λ lt. rw b.passes at f)
+        unequal_is p i j n low (omega (arith, b.below, b.within)) b.passes (λ lt. rw b.passes at f)
 
 -- a block is no longer than what is left
 pub block_within : (k left : ℕ) {r : ℕ} → r ≡ min left (max 1 k) → r ≤ left
@@ -56,13 +56,13 @@ block_within k left e = omega arith
 abbrev pub same_rows : List ℕ → List ℕ → ℕ → ℕ → Bool
 same_rows a b = same_row (row_at max_depth a 0) (row_at max_depth b 0)
 
-pub all-rows : (a b : List ℕ) (i j n : ℕ) → all (same_rows a b) i j n ≡ ranges_equal a b i j n
+pub all_rows_lem : (a b : List ℕ) (i j n : ℕ) → all (same_rows a b) i j n ≡ ranges_equal a b i j n
 unfolding ranges_equal table_rows
-all-rows a b i j n = by_rows (row_at max_depth a 0) (row_at max_depth b 0) i j n
+all_rows_lem a b i j n = by_rows (row_at max_depth a 0) (row_at max_depth b 0) i j n
 
-pub first-row : (a b : List ℕ) (i j n : ℕ) → first_unequal (same_rows a b) i j n ≡ first_difference a b i j n
+pub first_row : (a b : List ℕ) (i j n : ℕ) → first_unequal (same_rows a b) i j n ≡ first_difference a b i j n
 unfolding first_unequal first_difference pair_differs rows_differ same_row
-first-row a b i j n = refl
+first_row a b i j n = refl
 
 module _ (a b : List ℕ) (i j n : ℕ) where
   -- what a comparison of rows said
@@ -70,25 +70,25 @@ module _ (a b : List ℕ) (i j n : ℕ) where
   rows_said e is = by_rows (row_at max_depth a 0) (row_at max_depth b 0) i j n ∙ sym e ∙ is
 
   -- of n rows that are not all equal one is the first
-  pub rows-between : ranges_equal a b i j n ≡ false → Between (same_rows a b) i j n 0 n
-  rows-between e =
-      let fails : all (same_rows a b) i j n ≡ false = all-rows a b i j n ∙ e in
-      between_first (same_rows a b) i j n (omega (arith, unequal-some (same_rows a b) i j n fails)) (omega arith) fails
+  pub rows_between : ranges_equal a b i j n ≡ false → Between (same_rows a b) i j n 0 n
+  rows_between e =
+      let fails : all (same_rows a b) i j n ≡ false = all_rows_lem a b i j n ∙ e in
+      between_first (same_rows a b) i j n (omega (arith, unequal_some (same_rows a b) i j n fails)) (omega arith) fails
 
   -- all rows are equal
-  pub rows-nowhere : (k : ℕ) → n ≤ k → Passed (same_rows a b) i j n k → n ≡ first_difference a b i j n
-  rows-nowhere k le kept = unequal-end (same_rows a b) i j n k kept le ∙ first-row a b i j n
+  pub rows_nowhere : (k : ℕ) → n ≤ k → Passed (same_rows a b) i j n k → n ≡ first_difference a b i j n
+  rows_nowhere k le kept = unequal_end (same_rows a b) i j n k kept le ∙ first_row a b i j n
 
   -- m rows after k that are equal are not, and r is the first of them that is not
   module _ {k m r : ℕ} (le : m ≤ n - k) (kept : Passed (same_rows a b) i j n k) (fails : all (same_rows a b) (i + k) (j + k) m ≡ false) (e : r ≡ first_difference a b (i + k) (j + k) m) where
-    is-first : r ≡ first_unequal (same_rows a b) (i + k) (j + k) m
-    is-first = e ∙ sym (first-row a b (i + k) (j + k) m)
+    is_first : r ≡ first_unequal (same_rows a b) (i + k) (j + k) m
+    is_first = e ∙ sym (first_row a b (i + k) (j + k) m)
 
     pub row_inside : r < m
-    row_inside = rw is-first (unequal-some (same_rows a b) (i + k) (j + k) m fails)
+    row_inside = rw is_first (unequal_some (same_rows a b) (i + k) (j + k) m fails)
 
-    pub row-found : k + r ≡ first_difference a b i j n
-    row-found = unequal_among (same_rows a b) i j n k kept m le is-first row_inside ∙ first-row a b i j n
+    pub row_found : k + r ≡ first_difference a b i j n
+    row_found = unequal_among (same_rows a b) i j n k kept m le is_first row_inside ∙ first_row a b i j n
 
 -- rows inside a range
 pub sides_inside : {a b : List ℕ} {k l i j n d : ℕ} → Sides a b k l i j n d → (x m : ℕ) → x + m ≤ n → Sides a b k l (i + x) (j + x) m d
@@ -99,12 +99,12 @@ sides_inside r x m le = record {
 }
 
 -- a row of which one side is null and the other is not is unequal
-pub nulls-between : {a b : List ℕ} {i j n r : ℕ} → Sides a b 0 0 i j n max_depth → r ≡ first_unequal (same_mask a 0 b 0) i j n → r < n
+pub nulls_between : {a b : List ℕ} {i j n r : ℕ} → Sides a b 0 0 i j n max_depth → r ≡ first_unequal (same_mask a 0 b 0) i j n → r < n
     → Between (same_rows a b) i j n 0 (r + 1)
-nulls-between {a} {b} {i} {j} {n} {r} sides e lt =
+nulls_between {a} {b} {i} {j} {n} {r} sides e lt =
     let zi : i + 0 ≡ i = omega arith in
     let zj : j + 0 ≡ j = omega arith in
     let some : Sides a b 0 0 i j (r + 1) max_depth = rw (zi, zj) at (sides_inside sides 0 (r + 1) (omega arith)) in
     let here : same_mask a 0 b 0 (i + r) (j + r) ≡ false = rw e (unequal_fails (same_mask a 0 b 0) i j n (omega arith)) in
     let masks : all (same_mask a 0 b 0) i j (r + 1) ≡ false = all_snoc (same_mask a 0 b 0) i j r ∙ fails_and (all (same_mask a 0 b 0) i j r) _ (λ before. here) in
-    between_first (same_rows a b) i j n (omega arith) (omega arith) (by_rows (row_at max_depth a 0) (row_at max_depth b 0) i j (r + 1) ∙ sym (range-masks some (λ z. omega arith) masks))
+    between_first (same_rows a b) i j n (omega arith) (omega arith) (by_rows (row_at max_depth a 0) (row_at max_depth b 0) i j (r + 1) ∙ sym (range_masks some (λ z. omega arith) masks))

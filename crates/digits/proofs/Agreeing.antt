@@ -27,11 +27,11 @@ use Rattle.laws.proofs.Rounding.{same_whole_lem}
 use Rattle.values.specs.declared.primitive.Columns.{Columns}
 use Rattle.values.specs.Pairs.{all, same_row, same_mask, range_equal, masked_row}
 use Rattle.values.specs.Parts.{Sides, ColumnsAt}
-use Rattle.values.proofs.Steps.{all-by, by_rows}
+use Rattle.values.proofs.Steps.{all_by, by_rows}
 use Rattle.values.proofs.Blocks.{all_at, all_weaker}
 use Rattle.values.proofs.MaskedRows.{mask_at, masked_ahead, masked_row_lem}
-use Rattle.values.proofs.Fixed.{masked-fixed}
-use Rattle.values.proofs.ValidElements.{left-inside, right-inside, place_of}
+use Rattle.values.proofs.Fixed.{masked_fixed}
+use Rattle.values.proofs.ValidElements.{left_inside, right_inside, place_of}
 use Rattle.digits.specs.Parts.{TwoNumbers, Numbers, Columned}
 use Rattle.digits.proofs.Sizes.{agreed_at}
 
@@ -97,20 +97,20 @@ module _ (p : ℕ) (a b : List ℕ) (i j : ℕ) (mask : valid a 0 i ≡ valid b 
 
 module _ {a b : List ℕ} {i j n : ℕ} (r : Numbers a b i j n) where
   widths : element_width a 0 ≡ element_width b 0
-  widths = (masked-fixed r.rows).width
+  widths = (masked_fixed r.rows).width
 
   -- m of these rows from row h on
   pub numbers_ahead : {h m : ℕ} → h ≤ n → m ≤ n - h → Numbers a b (i + h) (j + h) m
   numbers_ahead le rest = record { rows = masked_ahead r.rows le rest; width = r.width }
 
-  pub numbers-row : {h : ℕ} → h < n → Numbers a b (i + h) (j + h) 1
-  numbers-row lt = record { rows = masked_row_lem r.rows lt; width = r.width }
+  pub numbers_row : {h : ℕ} → h < n → Numbers a b (i + h) (j + h) 1
+  numbers_row lt = record { rows = masked_row_lem r.rows lt; width = r.width }
 
   -- rows that are equal agree
   pub equal_agree : (p : ℕ) → range_equal (masked_row fixed_row a 0) (masked_row fixed_row b 0) i j n ≡ true → true ≡ all (kept_agree p a b) i j n
   equal_agree p e =
       let rows : all (same_row (masked_row fixed_row a 0) (masked_row fixed_row b 0)) i j n ≡ true = by_rows _ _ i j n ∙ e in
-      sym (all-by (kept_agree p a b) i j n (λ h lt. row_agrees p a b (i + h) (j + h) (mask_at r.rows h lt) widths (all_at _ i j n rows h lt)))
+      sym (all_by (kept_agree p a b) i j n (λ h lt. row_agrees p a b (i + h) (j + h) (mask_at r.rows h lt) widths (all_at _ i j n rows h lt)))
 
   -- columns that are not of 4 bytes are of 8
   pub wide : {v : Columns} → ColumnsAt a b 0 0 v → (v.width ≡ 4 → ⊥) → v.width ≡ 8
@@ -118,14 +118,14 @@ module _ {a b : List ℕ} {i j n : ℕ} (r : Numbers a b i j n) where
 
 -- One row of each, as its number is read.
 module _ {a b : List ℕ} {i j w : ℕ} {v : Columns} {m : Mask} (r : Numbers a b i j 1) (y : Columned a b v w m) where
-  left-width : w ≡ element_width a 0
-  left-width = y.width ∙ y.places.width
+  left_width : w ≡ element_width a 0
+  left_width = y.width ∙ y.places.width
 
-  right-width : w ≡ element_width b 0
-  right-width = left-width ∙ widths r
+  right_width : w ≡ element_width b 0
+  right_width = left_width ∙ widths r
 
   width : (w ≡ 4) ⊎ (w ≡ 8)
-  width = rw left-width r.width
+  width = rw left_width r.width
 
   packed : (end place row : ℕ) → place + row * v.width + 1 * v.width ≤ end → Packed end place w (row + 1)
   unfolding is_width
@@ -134,24 +134,24 @@ module _ {a b : List ℕ} {i j w : ℕ} {v : Columns} {m : Mask} (r : Numbers a 
       let f : place + row * w + 1 * w ≤ end = rw y.width inside in
       record { width = ⊎_elim (λ (h : w ≡ 4). rw h) (λ (h : w ≡ 8). rw h) width; inside = omega arith }
 
-  pub left-packed : Packed (length a) v.left w (i + 1)
-  left-packed = packed (length a) v.left i (left-inside r.rows y.places)
+  pub left_packed : Packed (length a) v.left w (i + 1)
+  left_packed = packed (length a) v.left i (left_inside r.rows y.places)
 
-  pub right-packed : Packed (length b) v.right w (j + 1)
-  right-packed = packed (length b) v.right j (right-inside r.rows y.places)
+  pub right_packed : Packed (length b) v.right w (j + 1)
+  right_packed = packed (length b) v.right j (right_inside r.rows y.places)
 
-  one-mask : valid a 0 i ≡ valid b 0 j
-  one-mask =
+  one_mask : valid a 0 i ≡ valid b 0 j
+  one_mask =
       let u : i + 0 ≡ i = omega arith in
       let t : j + 0 ≡ j = omega arith in
       rw (u, t) at (mask_at r.rows 0 (omega arith))
 
   pub nulls_agree : (p : ℕ) → valid a 0 i ≡ false → true ≡ kept_agree p a b i j
-  nulls_agree p e = sym (null_agree p a b i j one-mask e)
+  nulls_agree p e = sym (null_agree p a b i j one_mask e)
 
   module _ {x z : ℕ} (ex : Read (number_at w a (v.left + i * w)) (8 * w) x) (ez : Read (number_at w b (v.right + j * w)) (8 * w) z) where
-    pub two-numbers : TwoNumbers w x z
-    two-numbers = record {
+    pub two_numbers : TwoNumbers w x z
+    two_numbers = record {
       some = ⊎_elim (λ (h : w ≡ 4). omega arith) (λ (h : w ≡ 8). omega arith) width;
       narrow = ⊎_elim (λ (h : w ≡ 4). omega arith) (λ (h : w ≡ 8). omega arith) width;
       left = ex.small;
@@ -161,8 +161,8 @@ module _ {a b : List ℕ} {i j w : ℕ} {v : Columns} {m : Mask} (r : Numbers a 
     -- neither is null
     pub read_agree : (p : ℕ) {t : Bool} → valid a 0 i ≡ true → t ≡ agreed_at p w x z → t ≡ kept_agree p a b i j
     read_agree p is e =
-        e ∙ numbers_decide p a b i j one-mask left-width right-width is
-        (place_of a 0 i y.places.left left-width) (place_of b 0 j y.places.right right-width) ex.value ez.value
+        e ∙ numbers_decide p a b i j one_mask left_width right_width is
+        (place_of a 0 i y.places.left left_width) (place_of b 0 j y.places.right right_width) ex.value ez.value
 
     -- numbers that are the same, under nulls or not
     pub same_agree : (p : ℕ) → x ≡ z → true ≡ kept_agree p a b i j
@@ -184,9 +184,9 @@ module _ (s : List ℕ) (d : ℕ) where
   too_many_lem many = rw (lt-ltb 9 d many) (sym (or-true (not (eqb (code_of s 0) 15 || eqb (code_of s 0) 16))))
 
   module _ {root : ℕ} (few : d ≤ 9) (is : Read (code_of s 0) 8 root) where
-    pub is-decimal32 : root ≡ 15 → false ≡ not_digits s d
+    pub is_decimal32 : root ≡ 15 → false ≡ not_digits s d
     unfolding not_digits
-    is-decimal32 e = rw (← is.value, e, le-ltb 9 d few)
+    is_decimal32 e = rw (← is.value, e, le-ltb 9 d few)
 
     pub else_decimal64 : (root ≡ 15 → ⊥) → not (eqb root 16) ≡ not_digits s d
     unfolding not_digits
@@ -207,22 +207,22 @@ module _ (a : List ℕ) (d : ℕ) (fit : not_digits a d ≡ false) where
   unfolding not_digits
   told = decimal (code_of a 0) d fit
 
-  pub decimal-root : (code_of a 0 ≡ 15) ⊎ (code_of a 0 ≡ 16)
-  decimal-root = told.0
+  pub decimal_root : (code_of a 0 ≡ 15) ⊎ (code_of a 0 ≡ 16)
+  decimal_root = told.0
 
-  pub few-digits : d ≤ 9
-  few-digits = told.1
+  pub few_digits : d ≤ 9
+  few_digits = told.1
 
-  pub decimal-layout : layout_of (code_of a 0) ≡ FixedWidth
+  pub decimal_layout : layout_of (code_of a 0) ≡ FixedWidth
   unfolding layout_of entry_of entries
-  decimal-layout = ⊎_elim (λ (h : code_of a 0 ≡ 15). rw h) (λ (h : code_of a 0 ≡ 16). rw h) told.0
+  decimal_layout = ⊎_elim (λ (h : code_of a 0 ≡ 15). rw h) (λ (h : code_of a 0 ≡ 16). rw h) told.0
 
-  decimal-width : (element_width a 0 ≡ 4) ⊎ (element_width a 0 ≡ 8)
+  decimal_width : (element_width a 0 ≡ 4) ⊎ (element_width a 0 ≡ 8)
   unfolding element_width width_of entry_of entries
-  decimal-width = ⊎_elim (λ (h : code_of a 0 ≡ 15). inl (rw h)) (λ (h : code_of a 0 ≡ 16). inr (rw h)) told.0
+  decimal_width = ⊎_elim (λ (h : code_of a 0 ≡ 15). inl (rw h)) (λ (h : code_of a 0 ≡ 16). inr (rw h)) told.0
 
   pub numbers_of : {b : List ℕ} {i j n : ℕ} → Sides a b 0 0 i j n max_depth → all (same_mask a 0 b 0) i j n ≡ true → Numbers a b i j n
   numbers_of r masks = record {
-    rows = record { left = r.left; right = r.right; layout = decimal-layout; code = r.alike.0.code; p1 = r.alike.0.p1; masks = masks };
-    width = decimal-width;
+    rows = record { left = r.left; right = r.right; layout = decimal_layout; code = r.alike.0.code; p1 = r.alike.0.p1; masks = masks };
+    width = decimal_width;
   }

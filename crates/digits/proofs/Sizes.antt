@@ -11,7 +11,7 @@ use borrow.Author.Tests.{leb-true}
 use Rattle.image.specs.TypeCode.{sign_bit}
 use Rattle.image.specs.Digits.{midway, nearest, divided, whole_number, same_whole}
 use Rattle.image.proofs.CodeTable.{agree}
-use Rattle.laws.proofs.Rounding.{divided-same}
+use Rattle.laws.proofs.Rounding.{divided_same}
 use Rattle.digits.specs.Parts.{Power, TwoNumbers}
 
 -- the ten powers
@@ -54,13 +54,13 @@ module _ {w x y sign : ℕ} (n : TwoNumbers w x y) (is : sign ≡ sign_bit w) wh
   twice = rw is (sign_twice w n.some n.narrow)
 
   -- both are below the double of the sign bit
-  pub left-fits : (x < 2 * sign) × (sign ≤ 2 ^ 63)
-  left-fits = (rw twice n.left, rw is (sign_top w n.some n.narrow))
+  pub left_fits : (x < 2 * sign) × (sign ≤ 2 ^ 63)
+  left_fits = (rw twice n.left, rw is (sign_top w n.some n.narrow))
 
-  pub right-fits : (y < 2 * sign) × (sign ≤ 2 ^ 63)
-  right-fits = (rw twice n.right, rw is (sign_top w n.some n.narrow))
+  pub right_fits : (y < 2 * sign) × (sign ≤ 2 ^ 63)
+  right_fits = (rw twice n.right, rw is (sign_top w n.some n.narrow))
 
   -- u and v are their sizes, divided
   module _ {p i j u v : ℕ} (some : 0 < p) (ei : i ≡ size sign x) (eu : u ≡ nearest midway i p) (ej : j ≡ size sign y) (ev : v ≡ nearest midway j p) where
     pub sizes_decide : eqb u v && (beq (ltb x sign) (ltb y sign) || eqb u 0) ≡ agreed_at p w x y
-    sizes_decide = sym (divided-same midway p w x y some ∙ rw (← is, ← twice, ← ei, ← ej, ← eu, ← ev, nots_same (ltb x sign) (ltb y sign)))
+    sizes_decide = sym (divided_same midway p w x y some ∙ rw (← is, ← twice, ← ei, ← ej, ← eu, ← ev, nots_same (ltb x sign) (ltb y sign)))

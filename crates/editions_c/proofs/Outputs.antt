@@ -20,9 +20,9 @@ use Rattle.answers.specs.Numbers.{written_numbers}
 use Rattle.editions_c.specs.Outputs.{most, used, unused}
 
 -- the value of a write into a buffer of less than 2 ^ 56 bytes
-answer-small : (s : List ℕ) (i n : ℕ) (out : List ℕ) {r : Written} → r ≡ write_answer s i n out → length out < 2 ^ 56 → (written_numbers r).value < 2 ^ 56
+answer_small : (s : List ℕ) (i n : ℕ) (out : List ℕ) {r : Written} → r ≡ write_answer s i n out → length out < 2 ^ 56 → (written_numbers r).value < 2 ^ 56
 unfolding write_answer write_range
-answer-small s i n out e few = rw e (cases (check_image s) (exceeds s i n) (ltb (length out) (length (range_bytes s i n))) refl)
+answer_small s i n out e few = rw e (cases (check_image s) (exceeds s i n) (ltb (length out) (length (range_bytes s i n))) refl)
   where
     cases : (c : Checked) (beyond long : Bool) → ltb (length out) (length (range_bytes s i n)) ≡ long
         → (written_numbers (after_check c (cond beyond OutOfRange (cond long TooLong (Bytes (length (range_bytes s i n))))))).value < 2 ^ 56
@@ -34,17 +34,17 @@ answer-small s i n out e few = rw e (cases (check_image s) (exceeds s i n) (ltb 
         omega arith
 
 -- the length that is lent
-pub short-used : (n : ℕ) → n < 72057594037927935 → n ≡ min n most
+pub short_used : (n : ℕ) → n < 72057594037927935 → n ≡ min n most
 unfolding most
-short-used n lt = omega arith
+short_used n lt = omega arith
 
-pub long-used : (n : ℕ) → 72057594037927935 ≤ n → 72057594037927935 ≡ min n most
+pub long_used : (n : ℕ) → 72057594037927935 ≤ n → 72057594037927935 ≡ min n most
 unfolding most
-long-used n le = omega arith
+long_used n le = omega arith
 
-most-small : (n : ℕ) → min n most < 2 ^ 56
+most_small : (n : ℕ) → min n most < 2 ^ 56
 unfolding most
-most-small n = omega arith
+most_small n = omega arith
 
 -- the part that is lent, and the rest
 at_most : (out : List ℕ) (m : ℕ) → (take (min (length out) m) out ≡ take m out) × (drop (min (length out) m) out ≡ drop m out)
@@ -60,20 +60,20 @@ at_most out m = cases (ltb m (length out)) refl
         let e : min (length out) m ≡ length out = omega arith in
         rw e (take_all (length out) out (omega arith) ∙ sym (take_all m out le), drop_of_length-le out {i = length out} (omega arith) ∙ sym (drop_of_length-le out le))
 
-pub lent-used : (out : List ℕ) {end : ℕ} → end ≡ min (length out) most → take end out ≡ used out
+pub lent_used : (out : List ℕ) {end : ℕ} → end ≡ min (length out) most → take end out ≡ used out
 unfolding used
-lent-used out e = rw e (at_most out most).0
+lent_used out e = rw e (at_most out most).0
 
-left-unused : (out : List ℕ) {end : ℕ} → end ≡ min (length out) most → drop end out ≡ unused out
+left_unused : (out : List ℕ) {end : ℕ} → end ≡ min (length out) most → drop end out ≡ unused out
 unfolding unused
-left-unused out e = rw e (at_most out most).1
+left_unused out e = rw e (at_most out most).1
 
-pub lent-small : (s : List ℕ) (i n : ℕ) (out : List ℕ) {end : ℕ} {r : Written} → end ≡ min (length out) most → r ≡ write_answer s i n (take end out) → (written_numbers r).value < 2 ^ 56
-lent-small s i n out {end = end} ee er =
+pub lent_small : (s : List ℕ) (i n : ℕ) (out : List ℕ) {end : ℕ} {r : Written} → end ≡ min (length out) most → r ≡ write_answer s i n (take end out) → (written_numbers r).value < 2 ^ 56
+lent_small s i n out {end = end} ee er =
     let few : length (take end out) ≤ end = rw (length-take end out) (omega arith) in
-    answer-small s i n (take end out) er (omega (arith, most-small (length out)))
+    answer_small s i n (take end out) er (omega (arith, most_small (length out)))
 
 -- the buffer after a write: what was written into the part that is lent, and the rest
 pub lent_output : (s : List ℕ) (i n : ℕ) (out : List ℕ) {end : ℕ} {after : List ℕ} → end ≡ min (length out) most → after ≡ write_output s i n (take end out)
     → after ++ drop end out ≡ write_output s i n (used out) ++ unused out
-lent_output s i n out {end = end} ee ea = rw (← lent-used out ee, ← left-unused out ee) (ap (λ (x : List ℕ). x ++ drop end out) ea)
+lent_output s i n out {end = end} ee ea = rw (← lent_used out ee, ← left_unused out ee) (ap (λ (x : List ℕ). x ++ drop end out) ea)

@@ -18,10 +18,10 @@ use Rattle.image.specs.Equality.{row_equal}
 use Rattle.values.specs.Pairs.{same_row, range_equal}
 use Rattle.accepted.specs.Parts.{Side}
 use Rattle.values.specs.Parts.{Sides, Parts}
-use Rattle.accepted.proofs.Nodes.{part-node, part_at_lem, length-small}
+use Rattle.accepted.proofs.Nodes.{part_node, part_at_lem, length_small}
 use Rattle.accepted.proofs.ChildRows.{key_below}
-use Rattle.equal.proofs.Rows.{one-row}
-use Rattle.equal.proofs.Child.{layout-right, count_left, first_sides}
+use Rattle.equal.proofs.Rows.{one_row}
+use Rattle.equal.proofs.Child.{layout_right, count_left, first_sides}
 
 pub key_row : (A B : ℕ → ℕ → Row) (a b : List ℕ) (k l x y : ℕ)
     → range_equal (A (first_child a k)) (B (first_child b l)) (element_at a k x) (element_at b l y) 1 ≡ same_row (dictionary_row A a k) (dictionary_row B b l) x y
@@ -29,12 +29,12 @@ unfolding same_row dictionary_row row_equal range
 key_row A B a b k l x y = refl
 
 module _ {a b : List ℕ} {k l i j n d : ℕ} (r : Parts a b k l i j n d) (keys : layout_of (code_of a k) ≡ Dictionary) where
-  pub key-narrow : element_width a k ≤ 8
-  key-narrow = (part-node r.left).widths.keys keys
+  pub key_narrow : element_width a k ≤ 8
+  key_narrow = (part_node r.left).widths.keys keys
 
   -- the values children, as they are read
-  pub key-nodes : {ca cb : ℕ} → Read (first_child a k) 16 ca → Read (first_child b l) 16 cb → Side a ca 0 0 × Side b cb 0 0
-  key-nodes fa fb =
+  pub key_nodes : {ca cb : ℕ} → Read (first_child a k) 16 ca → Read (first_child b l) 16 cb → Side a ca 0 0 × Side b cb 0 0
+  key_nodes fa fb =
       let one : child_count a k ≡ 1 = count_left r 1 (rw keys) in
       let sides : Sides a b (first_child a k) (first_child b l) 0 0 0 d = first_sides r 0 0 0 (omega arith) (omega arith) (omega arith) in
       rw (fa.value, fb.value) (sides.left, sides.right)
@@ -45,21 +45,21 @@ module _ {a b : List ℕ} {k l i j n d : ℕ} (r : Parts a b k l i j n d) (keys 
     key_requires =
         let one : child_count a k ≡ 1 = count_left r 1 (rw keys) in
         let left : element_at a k (i + h) < length_of a (first_child a k) = key_below (part_at_lem r.left h lt) keys in
-        let right : element_at b l (j + h) < length_of b (first_child b l) = key_below (part_at_lem r.right h lt) (layout-right r keys) in
+        let right : element_at b l (j + h) < length_of b (first_child b l) = key_below (part_at_lem r.right h lt) (layout_right r keys) in
         rw (fa.value, fb.value, ex, ey) (first_sides r _ _ 1 (omega arith) (omega arith) (omega arith))
 
-    pub key-small : (x < 1073741824) × (y < 1073741824)
-    key-small = (
-      omega (arith, key_requires.left.rows, length-small a ca key_requires.left.image key_requires.left.node),
-      omega (arith, key_requires.right.rows, length-small b cb key_requires.right.image key_requires.right.node),
+    pub key_small : (x < 1073741824) × (y < 1073741824)
+    key_small = (
+      omega (arith, key_requires.left.rows, length_small a ca key_requires.left.image key_requires.left.node),
+      omega (arith, key_requires.right.rows, length_small b cb key_requires.right.image key_requires.right.node),
     )
 
-    pub key-answer : range_equal (row_at d a ca) (row_at d b cb) x y 1 ≡ same_row (dictionary_row (row_at d a) a k) (dictionary_row (row_at d b) b l) (i + h) (j + h)
-    key-answer = rw (fa.value, fb.value, ex, ey) (key_row (row_at d a) (row_at d b) a b k l (i + h) (j + h))
+    pub key_answer : range_equal (row_at d a ca) (row_at d b cb) x y 1 ≡ same_row (dictionary_row (row_at d a) a k) (dictionary_row (row_at d b) b l) (i + h) (j + h)
+    key_answer = rw (fa.value, fb.value, ex, ey) (key_row (row_at d a) (row_at d b) a b k l (i + h) (j + h))
 
     -- the rows that the keys name
-    pub key-same : same_row (row_at d a ca) (row_at d b cb) x y ≡ same_row (dictionary_row (row_at d a) a k) (dictionary_row (row_at d b) b l) (i + h) (j + h)
-    key-same = sym (one-row (row_at d a ca) (row_at d b cb) x y) ∙ key-answer
+    pub key_same : same_row (row_at d a ca) (row_at d b cb) x y ≡ same_row (dictionary_row (row_at d a) a k) (dictionary_row (row_at d b) b l) (i + h) (j + h)
+    key_same = sym (one_row (row_at d a ca) (row_at d b cb) x y) ∙ key_answer
 
 -- a pair of keys as one number, above 0
 abbrev pub pair_of : ℕ → ℕ → ℕ
@@ -70,16 +70,16 @@ pub record KeptPairs (g h : ℕ → Row) (table : List ℕ) : Type 0 where
   pub sized : length table ≡ 1024
   pub equal : (p x y : ℕ) → p < 1024 → y < 4294967296 → get_or table p 0 ≡ pair_of x y → same_row g h x y ≡ true
 
-pub kept-none : (g h : ℕ → Row) → KeptPairs g h (replicate 1024 0)
-kept-none g h = record {
+pub kept_none : (g h : ℕ → Row) → KeptPairs g h (replicate 1024 0)
+kept_none g h = record {
   sized = length-replicate {A = ℕ} 1024 0;
   equal = λ p x y lt small e. absurd (omega (arith, get_or-replicate {A = ℕ} 1024 p 0 0 lt));
 }
 
 module _ {g h : ℕ → Row} {table : List ℕ} (r : KeptPairs g h table) (x y : ℕ) (small : y < 4294967296) where
   -- a pair that stands in the table
-  pub kept-equal : get_or table (x % 1024) 0 ≡ pair_of x y → same_row g h x y ≡ true
-  kept-equal e = r.equal (x % 1024) x y (omega arith) small e
+  pub kept_equal : get_or table (x % 1024) 0 ≡ pair_of x y → same_row g h x y ≡ true
+  kept_equal e = r.equal (x % 1024) x y (omega arith) small e
 
   -- one pair more
   pub kept_more : same_row g h x y ≡ true → KeptPairs g h (set table (x % 1024) (pair_of x y))

@@ -16,8 +16,8 @@ use Rattle.values.specs.Parts.{Sides, Parts}
 use Rattle.values.proofs.Steps.{by_rows}
 use Rattle.values.proofs.Blocks.{blocks}
 use Rattle.values.proofs.Fixed.{times, next, whole}
-use Rattle.accepted.proofs.ChildRows.{fixed_list-within, fixed_list-small}
-use Rattle.equal.proofs.Child.{layout-right, count_left, first_sides}
+use Rattle.accepted.proofs.ChildRows.{fixed_list_within, fixed_list_small}
+use Rattle.equal.proofs.Child.{layout_right, count_left, first_sides}
 
 module _ (A B : ℕ → ℕ → Row) (a b : List ℕ) (k l : ℕ) (same : p1_of a k ≡ p1_of b l) where
   row : (x y : ℕ) → same_row (fixed_list_row A a k) (fixed_list_row B b l) x y ≡ all (same_row (A (first_child a k)) (B (first_child b l))) (0 + x * p1_of a k) (0 + y * p1_of a k) (p1_of a k)
@@ -38,18 +38,18 @@ module _ (A B : ℕ → ℕ → Row) (a b : List ℕ) (k l : ℕ) (same : p1_of 
 
 module _ {a b : List ℕ} {k l i j n d : ℕ} (r : Parts a b k l i j n d) (lists : layout_of (code_of a k) ≡ FixedList) {w : ℕ} (ew : Read (p1_of a k) 32 w) where
   -- no product wraps
-  pub fixed_list-left : i * w + n * w ≤ 1073741824
-  fixed_list-left = rw ew.value (fixed_list-small r.left lists)
+  pub fixed_list_left : i * w + n * w ≤ 1073741824
+  fixed_list_left = rw ew.value (fixed_list_small r.left lists)
 
-  pub fixed_list-right : j * w + n * w ≤ 1073741824
-  fixed_list-right = rw (ew.value, r.alike.0.p1) (fixed_list-small r.right (layout-right r lists))
+  pub fixed_list_right : j * w + n * w ≤ 1073741824
+  fixed_list_right = rw (ew.value, r.alike.0.p1) (fixed_list_small r.right (layout_right r lists))
 
   module _ {ca cb : ℕ} (fa : Read (first_child a k) 16 ca) (fb : Read (first_child b l) 16 cb) where
     pub fixed_list_requires : Sides a b ca cb (i * w) (j * w) (n * w) d
     fixed_list_requires =
         let one : child_count a k ≡ 1 = count_left r 1 (rw lists) in
-        let right : j * p1_of a k + n * p1_of a k ≤ length_of b (first_child b l) = rw r.alike.0.p1 (fixed_list-within r.right (layout-right r lists)) in
-        rw (fa.value, fb.value, ew.value) (first_sides r _ _ _ (omega arith) (fixed_list-within r.left lists) right)
+        let right : j * p1_of a k + n * p1_of a k ≤ length_of b (first_child b l) = rw r.alike.0.p1 (fixed_list_within r.right (layout_right r lists)) in
+        rw (fa.value, fb.value, ew.value) (first_sides r _ _ _ (omega arith) (fixed_list_within r.left lists) right)
 
-    pub fixed_list-answer : range_equal (row_at d a ca) (row_at d b cb) (i * w) (j * w) (n * w) ≡ range_equal (fixed_list_row (row_at d a) a k) (fixed_list_row (row_at d b) b l) i j n
-    fixed_list-answer = rw (fa.value, fb.value, ew.value) (fixed_list_block (row_at d a) (row_at d b) a b k l r.alike.0.p1 i j n)
+    pub fixed_list_answer : range_equal (row_at d a ca) (row_at d b cb) (i * w) (j * w) (n * w) ≡ range_equal (fixed_list_row (row_at d a) a k) (fixed_list_row (row_at d b) b l) i j n
+    fixed_list_answer = rw (fa.value, fb.value, ew.value) (fixed_list_block (row_at d a) (row_at d b) a b k l r.alike.0.p1 i j n)

@@ -14,9 +14,9 @@ use Rattle.image.specs.Row.{Row, list_view_row, row_at}
 use Rattle.image.specs.Equality.{row_equal}
 use Rattle.values.specs.Pairs.{same_row, range_equal}
 use Rattle.values.specs.Parts.{Sides, Parts}
-use Rattle.accepted.proofs.Nodes.{part-node}
+use Rattle.accepted.proofs.Nodes.{part_node}
 use Rattle.equal.proofs.Rows.{lengths_differ}
-use Rattle.equal.proofs.Child.{layout-right, count_left, first_sides}
+use Rattle.equal.proofs.Child.{layout_right, count_left, first_sides}
 
 -- views of unequal sizes
 pub sizes_differ : (A B : ℕ → ℕ → Row) (a b : List ℕ) (k l x y : ℕ) → (size_at a k x ≡ size_at b l y → ⊥) → same_row (list_view_row A a k) (list_view_row B b l) x y ≡ false
@@ -24,22 +24,22 @@ unfolding same_row list_view_row row_equal
 sizes_differ A B a b k l x y ne = lengths_differ (A (first_child a k)) (B (first_child b l)) _ _ _ _ ne
 
 -- views of one size
-pub view-row : (A B : ℕ → ℕ → Row) (a b : List ℕ) (k l x y : ℕ) → size_at a k x ≡ size_at b l y
+pub view_row_lem : (A B : ℕ → ℕ → Row) (a b : List ℕ) (k l x y : ℕ) → size_at a k x ≡ size_at b l y
     → range_equal (A (first_child a k)) (B (first_child b l)) (element_at a k x) (element_at b l y) (size_at a k x) ≡ same_row (list_view_row A a k) (list_view_row B b l) x y
 unfolding same_row list_view_row row_equal
-view-row A B a b k l x y e = rw (← e)
+view_row_lem A B a b k l x y e = rw (← e)
 
 module _ {a b : List ℕ} {k l i j n d : ℕ} (r : Parts a b k l i j n d) (views : layout_of (code_of a k) ≡ ListView) where
-  pub view-narrow : element_width a k ≤ 8
-  view-narrow = (part-node r.left).widths.list-view views
+  pub view_narrow : element_width a k ≤ 8
+  view_narrow = (part_node r.left).widths.list_view views
 
   -- view h of the range, as it is read
   module _ (h : ℕ) (lt : h < n) where
     view_sides : size_at a k (i + h) ≡ size_at b l (j + h) → Sides a b (first_child a k) (first_child b l) (element_at a k (i + h)) (element_at b l (j + h)) (size_at a k (i + h)) d
     view_sides e =
         let one : child_count a k ≡ 1 = count_left r 1 (rw views) in
-        let left : element_at a k (i + h) + size_at a k (i + h) ≤ length_of a (first_child a k) = (part-node r.left).places.list-view views (i + h) (omega (arith, r.left.high)) in
-        let right : element_at b l (j + h) + size_at b l (j + h) ≤ length_of b (first_child b l) = (part-node r.right).places.list-view (layout-right r views) (j + h) (omega (arith, r.right.high)) in
+        let left : element_at a k (i + h) + size_at a k (i + h) ≤ length_of a (first_child a k) = (part_node r.left).places.list_view views (i + h) (omega (arith, r.left.high)) in
+        let right : element_at b l (j + h) + size_at b l (j + h) ≤ length_of b (first_child b l) = (part_node r.right).places.list_view (layout_right r views) (j + h) (omega (arith, r.right.high)) in
         first_sides r _ _ _ (omega arith) left (rw e right)
 
     pub view_differs : {z u : ℕ} → z ≡ size_at a k (i + h) → u ≡ size_at b l (j + h) → (z ≡ u → ⊥) → same_row (list_view_row (row_at d a) a k) (list_view_row (row_at d b) b l) (i + h) (j + h) ≡ false
@@ -49,5 +49,5 @@ module _ {a b : List ℕ} {k l i j n d : ℕ} (r : Parts a b k l i j n d) (views
       pub view_requires : Sides a b ca cb x y z d
       view_requires = rw (fa.value, fb.value, ex, ey, ez) (view_sides (sym ez ∙ same ∙ eu))
 
-      pub view-answer : range_equal (row_at d a ca) (row_at d b cb) x y z ≡ same_row (list_view_row (row_at d a) a k) (list_view_row (row_at d b) b l) (i + h) (j + h)
-      view-answer = rw (fa.value, fb.value, ex, ey, ez) (view-row (row_at d a) (row_at d b) a b k l (i + h) (j + h) (sym ez ∙ same ∙ eu))
+      pub view_answer : range_equal (row_at d a ca) (row_at d b cb) x y z ≡ same_row (list_view_row (row_at d a) a k) (list_view_row (row_at d b) b l) (i + h) (j + h)
+      view_answer = rw (fa.value, fb.value, ex, ey, ez) (view_row_lem (row_at d a) (row_at d b) a b k l (i + h) (j + h) (sym ez ∙ same ∙ eu))

@@ -21,9 +21,9 @@ use Rattle.values.specs.Pairs.{all, same_row, range_equal, span_at, same_span}
 use Rattle.values.specs.Parts.{Sides, Parts, Spans}
 use Rattle.values.proofs.Steps.{by_rows}
 use Rattle.values.proofs.Blocks.{all_at, all_weaker, Rise, blocks}
-use Rattle.accepted.proofs.Nodes.{part-node, part_small, part_offsets}
+use Rattle.accepted.proofs.Nodes.{part_node, part_small, part_offsets}
 use Rattle.equal.proofs.Rows.{lengths_differ}
-use Rattle.equal.proofs.Child.{layout-right, widths-same, count_left, first_sides}
+use Rattle.equal.proofs.Child.{layout_right, widths_same, count_left, first_sides}
 
 -- lists of unequal lengths differ
 span_differs : (A B : ℕ → ℕ → Row) (a b : List ℕ) (k l x y : ℕ) → same_span a k b l x y ≡ false → same_row (list_row A a k) (list_row B b l) x y ≡ false
@@ -36,14 +36,14 @@ spans_differ A B a b k l i j n e =
     ∙ all_weaker (same_span a k b l) (same_row (list_row A a k) (list_row B b l)) i j n (λ h lt. span_differs A B a b k l (i + h) (j + h)) e)
 
 -- lists equally long
-span-is : (a b : List ℕ) (k l x y : ℕ) → same_span a k b l x y ≡ true → element_at a k (suc x) - element_at a k x ≡ element_at b l (suc y) - element_at b l y
+span_is : (a b : List ℕ) (k l x y : ℕ) → same_span a k b l x y ≡ true → element_at a k (suc x) - element_at a k x ≡ element_at b l (suc y) - element_at b l y
 unfolding same_span span_at
-span-is a b k l x y e = eqb-true _ _ e
+span_is a b k l x y e = eqb-true _ _ e
 
-list-row : (A B : ℕ → ℕ → Row) (a b : List ℕ) (k l x y : ℕ) → element_at a k (suc x) - element_at a k x ≡ element_at b l (suc y) - element_at b l y
+list_row_lem : (A B : ℕ → ℕ → Row) (a b : List ℕ) (k l x y : ℕ) → element_at a k (suc x) - element_at a k x ≡ element_at b l (suc y) - element_at b l y
     → same_row (list_row A a k) (list_row B b l) x y ≡ all (same_row (A (first_child a k)) (B (first_child b l))) (0 + element_at a k x) (0 + element_at b l y) (element_at a k (suc x) - element_at a k x)
 unfolding same_row list_row row_equal
-list-row A B a b k l x y e =
+list_row_lem A B a b k l x y e =
     rw (← e, zero-add (element_at a k x), zero-add (element_at b l y))
     (sym (by_rows (A (first_child a k)) (B (first_child b l)) (element_at a k x) (element_at b l y) (element_at a k (suc x) - element_at a k x)))
 
@@ -68,78 +68,78 @@ far f g i j (suc n) rf rg same =
     record { left = rw x (omega arith); right = rw y (omega arith); same = rw (x, y) (omega arith) }
 
 module _ {a b : List ℕ} {k l i j n d : ℕ} (r : Parts a b k l i j n d) (lists : layout_of (code_of a k) ≡ Lists) where
-  rise-left : Rise (element_at a k) i n
-  rise-left h le lt = ((part-node r.left).places.lists lists).rise h (omega (arith, r.left.high))
+  rise_left : Rise (element_at a k) i n
+  rise_left h le lt = ((part_node r.left).places.lists lists).rise h (omega (arith, r.left.high))
 
-  rise-right : Rise (element_at b l) j n
-  rise-right h le lt = ((part-node r.right).places.lists (layout-right r lists)).rise h (omega (arith, r.right.high))
+  rise_right : Rise (element_at b l) j n
+  rise_right h le lt = ((part_node r.right).places.lists (layout_right r lists)).rise h (omega (arith, r.right.high))
 
   offsets_left : element_place a k i + (n + 1) * element_width a k ≤ length a
   offsets_left =
-      let node = part-node r.left in
+      let node = part_node r.left in
       let one : buffer_count a k ≡ 1 = node.buffers.exactly 1 (rw lists) in
       part_offsets r.left (omega arith) (node.enough.lists lists)
 
   offsets_right : element_place b l j + (n + 1) * element_width b l ≤ length b
   offsets_right =
-      let node = part-node r.right in
-      let one : buffer_count b l ≡ 1 = node.buffers.exactly 1 (rw (layout-right r lists)) in
-      part_offsets r.right (omega arith) (node.enough.lists (layout-right r lists))
+      let node = part_node r.right in
+      let one : buffer_count b l ≡ 1 = node.buffers.exactly 1 (rw (layout_right r lists)) in
+      part_offsets r.right (omega arith) (node.enough.lists (layout_right r lists))
 
   -- what the comparison of lengths asks for
-  pub list-spans : Spans a b k l i j n
-  list-spans = record {
+  pub list_spans : Spans a b k l i j n
+  list_spans = record {
     whole = list_offset_width _ _ lists;
-    same = widths-same r;
-    left = rise-left;
-    right = rise-right;
-    left-small = omega (arith, part_small r.left);
-    right-small = omega (arith, part_small r.right);
-    left-inside = offsets_left;
-    right-inside = offsets_right;
+    same = widths_same r;
+    left = rise_left;
+    right = rise_right;
+    left_small = omega (arith, part_small r.left);
+    right_small = omega (arith, part_small r.right);
+    left_inside = offsets_left;
+    right_inside = offsets_right;
   }
 
   -- offsets are read within a word
   pub list_narrow_left : element_width a k ≤ 8
-  list_narrow_left = (part-node r.left).widths.lists lists
+  list_narrow_left = (part_node r.left).widths.lists lists
 
   pub list_narrow_right : element_width b l ≤ 8
-  list_narrow_right = rw (← widths-same r) list_narrow_left
+  list_narrow_right = rw (← widths_same r) list_narrow_left
 
   module _ (same : all (same_span a k b l) i j n ≡ true) where
-    spans-same : (h : ℕ) → h < n → element_at a k (suc (i + h)) - element_at a k (i + h) ≡ element_at b l (suc (j + h)) - element_at b l (j + h)
-    spans-same h lt = span-is a b k l (i + h) (j + h) (all_at (same_span a k b l) i j n same h lt)
+    spans_same : (h : ℕ) → h < n → element_at a k (suc (i + h)) - element_at a k (i + h) ≡ element_at b l (suc (j + h)) - element_at b l (j + h)
+    spans_same h lt = span_is a b k l (i + h) (j + h) (all_at (same_span a k b l) i j n same h lt)
 
     -- all child rows as one range
     pub list_block : (A B : ℕ → ℕ → Row) → range_equal (A (first_child a k)) (B (first_child b l)) (element_at a k i) (element_at b l j) (element_at a k (i + n) - element_at a k i) ≡ range_equal (list_row A a k) (list_row B b l) i j n
     list_block A B =
         sym (sym (by_rows (list_row A a k) (list_row B b l) i j n)
-        ∙ blocks (same_row (A (first_child a k)) (B (first_child b l))) (same_row (list_row A a k) (list_row B b l)) (element_at a k) (element_at b l) 0 0 i j n rise-left rise-right spans-same
-        (λ h lt. list-row A B a b k l (i + h) (j + h) (spans-same h lt))
+        ∙ blocks (same_row (A (first_child a k)) (B (first_child b l))) (same_row (list_row A a k) (list_row B b l)) (element_at a k) (element_at b l) 0 0 i j n rise_left rise_right spans_same
+        (λ h lt. list_row_lem A B a b k l (i + h) (j + h) (spans_same h lt))
         ∙ rw (zero-add (element_at a k i), zero-add (element_at b l j)) (by_rows (A (first_child a k)) (B (first_child b l)) (element_at a k i) (element_at b l j) (element_at a k (i + n) - element_at a k i)))
 
     ends : Far (element_at a k) (element_at b l) i j n
-    ends = far (element_at a k) (element_at b l) i j n rise-left rise-right spans-same
+    ends = far (element_at a k) (element_at b l) i j n rise_left rise_right spans_same
 
-    pub list-rises : element_at a k i ≤ element_at a k (i + n)
-    list-rises = ends.left
+    pub list_rises : element_at a k i ≤ element_at a k (i + n)
+    list_rises = ends.left
 
     -- what the comparison of child rows asks for
     pub list_sides : Sides a b (first_child a k) (first_child b l) (element_at a k i) (element_at b l j) (element_at a k (i + n) - element_at a k i) d
     list_sides =
         let one : child_count a k ≡ 1 = count_left r 1 (rw lists) in
         let e = ends in
-        let left : element_at a k (i + n) ≤ length_of a (first_child a k) = ((part-node r.left).places.lists lists).within (i + n) r.left.high in
-        let right : element_at b l (j + n) ≤ length_of b (first_child b l) = ((part-node r.right).places.lists (layout-right r lists)).within (j + n) r.right.high in
+        let left : element_at a k (i + n) ≤ length_of a (first_child a k) = ((part_node r.left).places.lists lists).within (i + n) r.left.high in
+        let right : element_at b l (j + n) ≤ length_of b (first_child b l) = ((part_node r.right).places.lists (layout_right r lists)).within (j + n) r.right.high in
         first_sides r (element_at a k i) (element_at b l j) (element_at a k (i + n) - element_at a k i) (omega arith) (omega arith) (omega arith)
 
     -- the same of what was read
     module _ {ca cb from to start : ℕ} (fa : Read (first_child a k) 16 ca) (fb : Read (first_child b l) 16 cb) (ef : from ≡ element_at a k i) (et : to ≡ element_at a k (i + n)) (es : start ≡ element_at b l j) where
       pub list_order : from ≤ to
-      list_order = omega (arith, list-rises)
+      list_order = omega (arith, list_rises)
 
       pub list_requires : Sides a b ca cb from start (to - from) d
       list_requires = rw (fa.value, fb.value, ef, et, es) list_sides
 
-      pub list-answer : range_equal (row_at d a ca) (row_at d b cb) from start (to - from) ≡ range_equal (list_row (row_at d a) a k) (list_row (row_at d b) b l) i j n
-      list-answer = rw (fa.value, fb.value, ef, et, es) (list_block (row_at d a) (row_at d b))
+      pub list_answer : range_equal (row_at d a ca) (row_at d b cb) from start (to - from) ≡ range_equal (list_row (row_at d a) a k) (list_row (row_at d b) b l) i j n
+      list_answer = rw (fa.value, fb.value, ef, et, es) (list_block (row_at d a) (row_at d b))

@@ -21,7 +21,7 @@ use Rattle.values.specs.Pairs.{all, same_row, range_equal, same_mask, masked_row
 use Rattle.values.specs.Parts.{Sides, Parts, Masked}
 use Rattle.values.proofs.Steps.{by_rows, all_moved}
 use Rattle.values.proofs.Blocks.{all_at, all_weaker}
-use Rattle.accepted.proofs.Nodes.{side-small}
+use Rattle.accepted.proofs.Nodes.{side_small}
 use Rattle.equal.proofs.Rows.{RowsLeft, rows_more, rows_jump, rows_jump_fail}
 
 -- no value of a layout that takes a bitmap is null
@@ -67,22 +67,22 @@ bit_right true true e is = refl
 bit_right true false e is = e
 bit_right false y e is = cc
 
-beq-true : (x y : Bool) → x ≡ true → y ≡ true → beq x y ≡ true
-beq-true true true e f = refl
-beq-true true false e f = f
-beq-true false y e f = cc
+beq_true : (x y : Bool) → x ≡ true → y ≡ true → beq x y ≡ true
+beq_true true true e f = refl
+beq_true true false e f = f
+beq_true false y e f = cc
 
 module _ (a b : List ℕ) (k l d : ℕ) where
   -- both rows null
-  null-row : (i j : ℕ) → same_mask a k b l i j ≡ true → valid a k i ≡ false → same_row (row_at (suc d) a k) (row_at (suc d) b l) i j ≡ true
+  null_row : (i j : ℕ) → same_mask a k b l i j ≡ true → valid a k i ≡ false → same_row (row_at (suc d) a k) (row_at (suc d) b l) i j ≡ true
   unfolding same_mask same_row row_at
-  null-row i j same is = both_null (valid a k i) (valid b l j) _ _ same is
+  null_row i j same is = both_null (valid a k i) (valid b l j) _ _ same is
 
   -- neither row null
-  valid-row : (i j : ℕ) → same_mask a k b l i j ≡ true → valid a k i ≡ true
+  valid_row : (i j : ℕ) → same_mask a k b l i j ≡ true → valid a k i ≡ true
       → same_row (row_at (suc d) a k) (row_at (suc d) b l) i j ≡ same_row (value_at (layout_of (code_of a k)) (row_at d a) a k) (value_at (layout_of (code_of b l)) (row_at d b) b l) (offset_of a k + i) (offset_of b l + j)
   unfolding same_mask same_row row_at
-  valid-row i j same is = both_valid (valid a k i) (valid b l j) _ _ same is
+  valid_row i j same is = both_valid (valid a k i) (valid b l j) _ _ same is
 
   right_valid : (i j : ℕ) → same_mask a k b l i j ≡ true → valid a k i ≡ true → valid b l j ≡ true
   unfolding same_mask
@@ -94,9 +94,9 @@ module _ (a b : List ℕ) (k l d : ℕ) where
   mask_differs ta tb i j e =
       bits_differ (valid a k i) (valid b l j) _ _ (λ h. (value_not_null (layout_of (code_of a k)) ta (row_at d a) a k _, value_not_null (layout_of (code_of b l)) tb (row_at d b) b l _)) e
 
-  masks-true : ((i : ℕ) → valid a k i ≡ true) → ((j : ℕ) → valid b l j ≡ true) → (i j : ℕ) → same_mask a k b l i j ≡ true
+  masks_true : ((i : ℕ) → valid a k i ≡ true) → ((j : ℕ) → valid b l j ≡ true) → (i j : ℕ) → same_mask a k b l i j ≡ true
   unfolding same_mask
-  masks-true va vb i j = beq-true (valid a k i) (valid b l j) (va i) (vb j)
+  masks_true va vb i j = beq_true (valid a k i) (valid b l j) (va i) (vb j)
 
 -- ranges whose masks differ
 pub masks_differ : {a b : List ℕ} {k l i j n d : ℕ} → Sides a b k l i j n (suc d) → all (same_mask a k b l) i j n ≡ false → false ≡ range_equal (row_at (suc d) a k) (row_at (suc d) b l) i j n
@@ -110,7 +110,7 @@ masks_differ {a} {b} {k} {l} {i} {j} {n} {d} r e =
     cases : (x : Bool) → takes_bitmap (layout_of (code_of a k)) ≡ x → (i j : ℕ) → same_mask a k b l i j ≡ false → same_row (row_at (suc d) a k) (row_at (suc d) b l) i j ≡ false
     cases true is i j e = mask_differs a b k l d is (ap takes_bitmap right ∙ is) i j e
     cases false is i j e =
-        let same = masks-true a b k l d ((r.left.image.node k r.left.node).known.all_valid is) ((r.right.image.node l r.right.node).known.all_valid (ap takes_bitmap right ∙ is)) i j in
+        let same = masks_true a b k l d ((r.left.image.node k r.left.node).known.all_valid is) ((r.right.image.node l r.right.node).known.all_valid (ap takes_bitmap right ∙ is)) i j in
         cc
 
 -- A run of m rows from row h of a range on, none of them null, where the masks agree.
@@ -151,46 +151,46 @@ module _ {a b : List ℕ} {k l i j n d : ℕ} (r : Sides a b k l i j n (suc d)) 
     }
 
     -- their values are compared
-    pub run-answer : range_equal (value_at (layout_of (code_of a k)) (row_at d a) a k) (value_at (layout_of (code_of b l)) (row_at d b) b l) (oa + (i + h)) (ob + (j + h)) m ≡ range_equal (row_at (suc d) a k) (row_at (suc d) b l) (i + h) (j + h) m
-    run-answer =
+    pub run_answer : range_equal (value_at (layout_of (code_of a k)) (row_at d a) a k) (value_at (layout_of (code_of b l)) (row_at d b) b l) (oa + (i + h)) (ob + (j + h)) m ≡ range_equal (row_at (suc d) a k) (row_at (suc d) b l) (i + h) (j + h) m
+    run_answer =
         rw (ra.value, rb.value)
         (sym (sym (by_rows (row_at (suc d) a k) (row_at (suc d) b l) (i + h) (j + h) m)
         ∙ all_moved (same_row (row_at (suc d) a k) (row_at (suc d) b l)) (same_row (value_at (layout_of (code_of a k)) (row_at d a) a k) (value_at (layout_of (code_of b l)) (row_at d b) b l)) (i + h) (j + h) (offset_of a k + (i + h)) (offset_of b l + (j + h)) m
         (λ x lt.
         let u : offset_of a k + (i + h) + x ≡ offset_of a k + (i + h + x) = omega arith in
         let v : offset_of b l + (j + h) + x ≡ offset_of b l + (j + h + x) = omega arith in
-        rw (u, v) (valid-row a b k l d (i + h + x) (j + h + x) (mask_at x lt) (some x lt)))
+        rw (u, v) (valid_row a b k l d (i + h + x) (j + h + x) (mask_at x lt) (some x lt)))
         ∙ by_rows (value_at (layout_of (code_of a k)) (row_at d a) a k) (value_at (layout_of (code_of b l)) (row_at d b) b l) (offset_of a k + (i + h)) (offset_of b l + (j + h)) m))
 
 -- rows are few
 pub sides_left : {a b : List ℕ} {k l i j n d : ℕ} → Sides a b k l i j n d → offset_of a k + i + n ≤ 1073741824
-sides_left {a} {k = k} {i = i} {n = n} r = side-small a k i n r.left
+sides_left {a} {k = k} {i = i} {n = n} r = side_small a k i n r.left
 
 pub sides_right : {a b : List ℕ} {k l i j n d : ℕ} → Sides a b k l i j n d → offset_of b l + j + n ≤ 1073741824
-sides_right {b = b} {l = l} {j = j} {n = n} r = side-small b l j n r.right
+sides_right {b = b} {l = l} {j = j} {n = n} r = side_small b l j n r.right
 
 -- The loop over runs of rows that are not null: m rows from row h on are not null, up to the first that is.
 module _ {a b : List ℕ} {k l i j n d h m : ℕ} (r : Sides a b k l i j n (suc d)) (masks : all (same_mask a k b l) i j n ≡ true) (kept : RowsLeft (row_at (suc d) a k) (row_at (suc d) b l) i j n h) (lead : Leading (valid a k) (i + h) (n - h) m) where
   -- row h is null
-  pub null-more : h < n → m ≡ 0 → RowsLeft (row_at (suc d) a k) (row_at (suc d) b l) i j n (h + 1)
-  null-more lt none =
+  pub null_more : h < n → m ≡ 0 → RowsLeft (row_at (suc d) a k) (row_at (suc d) b l) i j n (h + 1)
+  null_more lt none =
       let z : i + h + 0 ≡ i + h = omega arith in
       let is : valid a k (i + h) ≡ false = rw (none, z) at (lead.stops (omega arith)) in
-      rows_more kept lt (null-row a b k l d (i + h) (j + h) (all_at (same_mask a k b l) i j n masks h lt) is)
+      rows_more kept lt (null_row a b k l d (i + h) (j + h) (all_at (same_mask a k b l) i j n masks h lt) is)
 
-  run-within : h + m ≤ n
-  run-within = omega (arith, lead.within, kept.pairs.within)
+  run_within : h + m ≤ n
+  run_within = omega (arith, lead.within, kept.pairs.within)
 
   module _ {oa ob : ℕ} (ra : Read (offset_of a k) 32 oa) (rb : Read (offset_of b l) 32 ob) where
     pub valid_requires : Parts a b k l (oa + (i + h)) (ob + (j + h)) m d
-    valid_requires = run_requires r masks h m run-within lead.holds ra rb
+    valid_requires = run_requires r masks h m run_within lead.holds ra rb
 
     -- the run is equal, or not
-    pub valid-more : range_equal (value_at (layout_of (code_of a k)) (row_at d a) a k) (value_at (layout_of (code_of b l)) (row_at d b) b l) (oa + (i + h)) (ob + (j + h)) m ≡ true → RowsLeft (row_at (suc d) a k) (row_at (suc d) b l) i j n (h + m)
-    valid-more e = rows_jump kept m lead.within (sym (run-answer r masks h m run-within lead.holds ra rb) ∙ e)
+    pub valid_more : range_equal (value_at (layout_of (code_of a k)) (row_at d a) a k) (value_at (layout_of (code_of b l)) (row_at d b) b l) (oa + (i + h)) (ob + (j + h)) m ≡ true → RowsLeft (row_at (suc d) a k) (row_at (suc d) b l) i j n (h + m)
+    valid_more e = rows_jump kept m lead.within (sym (run_answer r masks h m run_within lead.holds ra rb) ∙ e)
 
     pub valid_fail : range_equal (value_at (layout_of (code_of a k)) (row_at d a) a k) (value_at (layout_of (code_of b l)) (row_at d b) b l) (oa + (i + h)) (ob + (j + h)) m ≡ false → false ≡ range_equal (row_at (suc d) a k) (row_at (suc d) b l) i j n
-    valid_fail e = rows_jump_fail kept m lead.within (sym (run-answer r masks h m run-within lead.holds ra rb) ∙ e)
+    valid_fail e = rows_jump_fail kept m lead.within (sym (run_answer r masks h m run_within lead.holds ra rb) ∙ e)
 
 -- rows of nodes without children: `value` gives the values of their layout
 module _ {a b : List ℕ} {k l i j n d : ℕ} (r : Sides a b k l i j n (suc d)) {x : Layout} (layout : layout_of (code_of a k) ≡ x) where
@@ -198,15 +198,15 @@ module _ {a b : List ℕ} {k l i j n d : ℕ} (r : Sides a b k l i j n (suc d)) 
   masked_requires masks = record { left = r.left; right = r.right; layout = layout; code = r.alike.0.code; p1 = r.alike.0.p1; masks = masks }
 
   module _ (value : List ℕ → ℕ → ℕ → Row) (known : (A : ℕ → ℕ → Row) (s : List ℕ) (k j : ℕ) → value s k j ≡ value_at x A s k j) where
-    leaf-row : (s : List ℕ) (k i : ℕ) → layout_of (code_of s k) ≡ x → masked_row value s k i ≡ row_at (suc d) s k i
+    leaf_row : (s : List ℕ) (k i : ℕ) → layout_of (code_of s k) ≡ x → masked_row value s k i ≡ row_at (suc d) s k i
     unfolding masked_row row_at
-    leaf-row s k i e = rw (e, ← known (row_at d s) s k (offset_of s k + i))
+    leaf_row s k i e = rw (e, ← known (row_at d s) s k (offset_of s k + i))
 
-    pub masked-answer : range_equal (masked_row value a k) (masked_row value b l) i j n ≡ range_equal (row_at (suc d) a k) (row_at (suc d) b l) i j n
-    masked-answer =
+    pub masked_answer : range_equal (masked_row value a k) (masked_row value b l) i j n ≡ range_equal (row_at (suc d) a k) (row_at (suc d) b l) i j n
+    masked_answer =
         rw (
-          range_same (masked_row value a k) (row_at (suc d) a k) i n (λ x le lt. leaf-row a k x layout),
-          range_same (masked_row value b l) (row_at (suc d) b l) j n (λ x le lt. leaf-row b l x (ap layout_of (sym r.alike.0.code) ∙ layout)),
+          range_same (masked_row value a k) (row_at (suc d) a k) i n (λ x le lt. leaf_row a k x layout),
+          range_same (masked_row value b l) (row_at (suc d) b l) j n (λ x le lt. leaf_row b l x (ap layout_of (sym r.alike.0.code) ∙ layout)),
         )
 
 -- A range at any depth.
@@ -231,11 +231,11 @@ module _ {a b : List ℕ} {k l i j n d : ℕ} (r : Sides a b k l i j n d) (deep 
   pub range_sides : Sides a b k l i j n (suc (d - 1))
   range_sides = rw less r
 
-  pub range-rows : range_equal (row_at (suc (d - 1)) a k) (row_at (suc (d - 1)) b l) i j n ≡ range_equal (row_at d a k) (row_at d b l) i j n
-  range-rows = rw less
+  pub range_rows : range_equal (row_at (suc (d - 1)) a k) (row_at (suc (d - 1)) b l) i j n ≡ range_equal (row_at d a k) (row_at d b l) i j n
+  range_rows = rw less
 
-  pub range-masks : all (same_mask a k b l) i j n ≡ false → false ≡ range_equal (row_at d a k) (row_at d b l) i j n
-  range-masks e = masks_differ range_sides e ∙ range-rows
+  pub range_masks : all (same_mask a k b l) i j n ≡ false → false ≡ range_equal (row_at d a k) (row_at d b l) i j n
+  range_masks e = masks_differ range_sides e ∙ range_rows
 
   -- no row null
   module _ (masks : all (same_mask a k b l) i j n ≡ true) (some : every (valid a k) i n ≡ true) {oa ob : ℕ} (ra : Read (offset_of a k) 32 oa) (rb : Read (offset_of b l) 32 ob) where
@@ -248,8 +248,8 @@ module _ {a b : List ℕ} {k l i j n d : ℕ} (r : Sides a b k l i j n d) (deep 
         let zj : j + 0 ≡ j = omega arith in
         rw (zi, zj) at (run_requires range_sides masks 0 n (omega arith) some_at ra rb)
 
-    pub range-answer : range_equal (value_at (layout_of (code_of a k)) (row_at (d - 1) a) a k) (value_at (layout_of (code_of b l)) (row_at (d - 1) b) b l) (oa + i) (ob + j) n ≡ range_equal (row_at d a k) (row_at d b l) i j n
-    range-answer =
+    pub range_answer : range_equal (value_at (layout_of (code_of a k)) (row_at (d - 1) a) a k) (value_at (layout_of (code_of b l)) (row_at (d - 1) b) b l) (oa + i) (ob + j) n ≡ range_equal (row_at d a k) (row_at d b l) i j n
+    range_answer =
         let zi : i + 0 ≡ i = omega arith in
         let zj : j + 0 ≡ j = omega arith in
-        rw (zi, zj) at (run-answer range_sides masks 0 n (omega arith) some_at ra rb) ∙ range-rows
+        rw (zi, zj) at (run_answer range_sides masks 0 n (omega arith) some_at ra rb) ∙ range_rows

@@ -6,12 +6,12 @@ use Prim.Native.Nat.{ℕ, zero, suc, ◌+◌, ◌-◌, ◌<◌, ◌≤◌}
 use Rattle.image.specs.Row.{Row, range}
 use Rattle.image.specs.Equality.{row_equal, rows_equal}
 use Rattle.values.specs.Pairs.{same_row, range_equal}
-use Rattle.values.proofs.Steps.{Left, left-none, left-more, left_fails, left-done, left-rest, left_jump, jump_fails, by_rows}
+use Rattle.values.proofs.Steps.{Left, left_none, left_more, left_fails, left_done, left_rest, left_jump, jump_fails, by_rows}
 
 -- one row
-pub one-row : (g h : ℕ → Row) (i j : ℕ) → range_equal g h i j 1 ≡ same_row g h i j
+pub one_row : (g h : ℕ → Row) (i j : ℕ) → range_equal g h i j 1 ≡ same_row g h i j
 unfolding range row_equal same_row
-one-row g h i j = and_true (row_equal (g i) (h j))
+one_row g h i j = and_true (row_equal (g i) (h j))
   where
     and_true : (x : Bool) → x && true ≡ x
     and_true true = refl
@@ -34,24 +34,24 @@ pub record RowsLeft (g h : ℕ → Row) (i j n k : ℕ) : Type 0 where
   pub pairs : Left (same_row g h) i j n k
 
 pub rows_none : (g h : ℕ → Row) (i j n : ℕ) → RowsLeft g h i j n 0
-rows_none g h i j n = record { pairs = left-none (same_row g h) i j n }
+rows_none g h i j n = record { pairs = left_none (same_row g h) i j n }
 
 module _ {g h : ℕ → Row} {i j n k : ℕ} (r : RowsLeft g h i j n k) where
   -- row k is equal, and one row more is passed
   pub rows_more : k < n → same_row g h (i + k) (j + k) ≡ true → RowsLeft g h i j n (k + 1)
-  rows_more lt e = record { pairs = left-more (same_row g h) i j n k lt r.pairs e }
+  rows_more lt e = record { pairs = left_more (same_row g h) i j n k lt r.pairs e }
 
   -- row k differs
   pub rows_fail : k < n → same_row g h (i + k) (j + k) ≡ false → false ≡ range_equal g h i j n
   rows_fail lt e = left_fails (same_row g h) i j n k lt r.pairs e ∙ by_rows g h i j n
 
   -- all rows are passed
-  pub rows-done : n ≤ k → true ≡ range_equal g h i j n
-  rows-done le = left-done (same_row g h) i j n k le r.pairs ∙ by_rows g h i j n
+  pub rows_done : n ≤ k → true ≡ range_equal g h i j n
+  rows_done le = left_done (same_row g h) i j n k le r.pairs ∙ by_rows g h i j n
 
   -- the rows that are left are the answer
-  pub rows-rest : {x : Bool} → x ≡ range_equal g h (i + k) (j + k) (n - k) → x ≡ range_equal g h i j n
-  rows-rest e = left-rest (same_row g h) i j n k r.pairs (e ∙ sym (by_rows g h (i + k) (j + k) (n - k))) ∙ by_rows g h i j n
+  pub rows_rest : {x : Bool} → x ≡ range_equal g h (i + k) (j + k) (n - k) → x ≡ range_equal g h i j n
+  rows_rest e = left_rest (same_row g h) i j n k r.pairs (e ∙ sym (by_rows g h (i + k) (j + k) (n - k))) ∙ by_rows g h i j n
 
   -- the m rows from row k on are equal, or not
   pub rows_jump : (m : ℕ) → m ≤ n - k → range_equal g h (i + k) (j + k) m ≡ true → RowsLeft g h i j n (k + m)

@@ -16,9 +16,9 @@ use Rattle.image.specs.Equality.{row_equal}
 use Rattle.values.specs.Pairs.{all, range_equal}
 use Rattle.values.specs.Parts.{Sides, Parts}
 use Rattle.accepted.specs.Parts.{Part}
-use Rattle.values.proofs.Steps.{Left, left-none, left-more, left_fails, left-done}
-use Rattle.accepted.proofs.Nodes.{part-node}
-use Rattle.equal.proofs.Child.{layout-right, child_sides}
+use Rattle.values.proofs.Steps.{Left, left_none, left_more, left_fails, left_done}
+use Rattle.accepted.proofs.Nodes.{part_node}
+use Rattle.equal.proofs.Child.{layout_right, child_sides}
 
 -- the ranges of two children are equal
 unfoldable pub same_column : (ℕ → ℕ → Row) → (ℕ → ℕ → Row) → ℕ → ℕ → ℕ → ℕ → ℕ → Bool
@@ -59,16 +59,16 @@ pub record ColumnsLeft (A B : ℕ → ℕ → Row) (i j n f e m c : ℕ) : Type 
   pub pairs : Left (same_column A B i j n) f e m c
 
 pub columns_start : (A B : ℕ → ℕ → Row) (i j n f e m : ℕ) → ColumnsLeft A B i j n f e m 0
-columns_start A B i j n f e m = record { pairs = left-none (same_column A B i j n) f e m }
+columns_start A B i j n f e m = record { pairs = left_none (same_column A B i j n) f e m }
 
 -- the children of a Struct and of a sparse union are long enough
-long-child : {s : List ℕ} {k j n : ℕ} → Part s k j n → (layout_of (code_of s k) ≡ Struct) ⊎ (layout_of (code_of s k) ≡ SparseUnion) → (c : ℕ) → first_child s k ≤ c → c < child_end s k → elements_of s k ≤ length_of s c
-long-child r (inl e) c low high = (part-node r).children.struct e c low high
-long-child r (inr e) c low high = (part-node r).children.sparse e c low high
+long_child : {s : List ℕ} {k j n : ℕ} → Part s k j n → (layout_of (code_of s k) ≡ Struct) ⊎ (layout_of (code_of s k) ≡ SparseUnion) → (c : ℕ) → first_child s k ≤ c → c < child_end s k → elements_of s k ≤ length_of s c
+long_child r (inl e) c low high = (part_node r).children.struct e c low high
+long_child r (inr e) c low high = (part_node r).children.sparse e c low high
 
 right_kind : {a b : List ℕ} {k l i j n d : ℕ} → Parts a b k l i j n d → (layout_of (code_of a k) ≡ Struct) ⊎ (layout_of (code_of a k) ≡ SparseUnion) → (layout_of (code_of b l) ≡ Struct) ⊎ (layout_of (code_of b l) ≡ SparseUnion)
-right_kind r (inl e) = inl (layout-right r e)
-right_kind r (inr e) = inr (layout-right r e)
+right_kind r (inl e) = inl (layout_right r e)
+right_kind r (inr e) = inr (layout_right r e)
 
 module _ {a b : List ℕ} {k l i j n d : ℕ} (r : Parts a b k l i j n d) (kind : (layout_of (code_of a k) ≡ Struct) ⊎ (layout_of (code_of a k) ≡ SparseUnion)) where
   whole : {ca cb m : ℕ} → ca ≡ first_child a k → cb ≡ first_child b l → m ≡ child_count a k → all (same_column (row_at d a) (row_at d b) i j n) ca cb m ≡ range_equal (struct_row (row_at d a) a k) (struct_row (row_at d b) b l) i j n
@@ -82,17 +82,17 @@ module _ {a b : List ℕ} {k l i j n d : ℕ} (r : Parts a b k l i j n d) (kind 
         let below : c < child_count a k = omega (arith, fm.value) in
         let other : c < child_count b l = omega (arith, r.alike.0.count) in
         rw (fa.value, fb.value) (child_sides r c i j n below
-        (omega (arith, r.left.high, long-child r.left kind (first_child a k + c) (omega arith) (omega arith)))
-        (omega (arith, r.right.high, long-child r.right (right_kind r kind) (first_child b l + c) (omega arith) (omega arith))))
+        (omega (arith, r.left.high, long_child r.left kind (first_child a k + c) (omega arith) (omega arith)))
+        (omega (arith, r.right.high, long_child r.right (right_kind r kind) (first_child b l + c) (omega arith) (omega arith))))
 
     module _ (kept : ColumnsLeft (row_at d a) (row_at d b) i j n ca cb m c) where
       pub columns_more_left : c < m → range_equal (row_at d a (ca + c)) (row_at d b (cb + c)) i j n ≡ true → ColumnsLeft (row_at d a) (row_at d b) i j n ca cb m (c + 1)
       unfolding same_column
-      columns_more_left lt e = record { pairs = left-more (same_column (row_at d a) (row_at d b) i j n) ca cb m c lt kept.pairs e }
+      columns_more_left lt e = record { pairs = left_more (same_column (row_at d a) (row_at d b) i j n) ca cb m c lt kept.pairs e }
 
       pub columns_fail : c < m → range_equal (row_at d a (ca + c)) (row_at d b (cb + c)) i j n ≡ false → false ≡ range_equal (struct_row (row_at d a) a k) (struct_row (row_at d b) b l) i j n
       unfolding same_column
       columns_fail lt e = left_fails (same_column (row_at d a) (row_at d b) i j n) ca cb m c lt kept.pairs e ∙ whole fa.value fb.value fm.value
 
       pub columns_done : m ≤ c → true ≡ range_equal (struct_row (row_at d a) a k) (struct_row (row_at d b) b l) i j n
-      columns_done le = left-done (same_column (row_at d a) (row_at d b) i j n) ca cb m c le kept.pairs ∙ whole fa.value fb.value fm.value
+      columns_done le = left_done (same_column (row_at d a) (row_at d b) i j n) ca cb m c le kept.pairs ∙ whole fa.value fb.value fm.value

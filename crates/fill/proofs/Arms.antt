@@ -20,48 +20,48 @@ use Rattle.image.specs.RowBytes.{count}
 use Rattle.image.specs.Parse.{Parsed, failed, parsed, rows_of, row_of_each, value_in, row_in}
 use Rattle.image.specs.Built.{span, gap_row, from_each}
 use Rattle.laws.proofs.Accepted.{accepted}
-use Rattle.laws.proofs.Lengths.{bytes-length}
+use Rattle.laws.proofs.Lengths.{bytes_length}
 use Rattle.built.specs.Walk.{own, over_nodes, over_each, deeper, gives, total, the_row, the_rows}
-use Rattle.built.proofs.Parsed.{failed-not}
+use Rattle.built.proofs.Parsed.{failed_not}
 use Rattle.built.proofs.Walk.{then_none}
 use Rattle.fill.specs.Filling.{Filling, Room, Rooms, Ready, Reads, Getting, Filled, StructFilled, ListFilled, ToWalk, Walked, RowWalk, RowWalked, RowsWalk, RowsWalked, row_gives, gap_gives}
-use Rattle.fill.proofs.Steps.{filled_none, filled_as, filled_then, rooms_as, rooms-first, rooms-rest, ready-after}
-use Rattle.fill.proofs.Reading.{Mark, a-null, a-value, read_deep, read-inside, read_mark, read-null, read-boolean, read-fixed, read-text, read-list, read-struct}
-use Rattle.fill.proofs.Walks.{the_rows_lem, rows-count, Going, going_start, going_row, going_more, going_done, GapsLeft, gaps_start, gaps_more, gaps_done}
+use Rattle.fill.proofs.Steps.{filled_none, filled_as, filled_then, rooms_as, rooms_first, rooms_rest, ready_after}
+use Rattle.fill.proofs.Reading.{Mark, a_null, a_value, read_deep, read_inside, read_mark, read_null, read_boolean, read_fixed, read_text, read_list, read_struct}
+use Rattle.fill.proofs.Walks.{the_rows_lem, rows_count, Going, going_start, going_row, going_more, going_done, GapsLeft, gaps_start, gaps_more, gaps_done}
 
 -- a row's own node first, and then those below
-gives-first : (d : ℕ) (s : List ℕ) (k : ℕ) (r : Row) (j : ℕ) → 0 < d → gives d s k r j ≡ rows_then (own r k j) (deeper (λ c q. gives (d - 1) s c q j) s k r)
+gives_first : (d : ℕ) (s : List ℕ) (k : ℕ) (r : Row) (j : ℕ) → 0 < d → gives d s k r j ≡ rows_then (own r k j) (deeper (λ c q. gives (d - 1) s c q j) s k r)
 unfolding gives
-gives-first zero s k r j deep = absurd (omega arith)
-gives-first (suc d) s k r j deep =
+gives_first zero s k r j deep = absurd (omega arith)
+gives_first (suc d) s k r j deep =
     let e : suc d - 1 ≡ d = omega arith in
     rw e
 
-own-count : (r : Row) (k : ℕ) → count (own r k k) ≡ 1
+own_count : (r : Row) (k : ℕ) → count (own r k k) ≡ 1
 unfolding count
-own-count r k = rw (eq-eqb k k refl)
+own_count r k = rw (eq-eqb k k refl)
 
-own-total : (r : Row) (k : ℕ) → total (own r k k) ≡ span r
+own_total : (r : Row) (k : ℕ) → total (own r k k) ≡ span r
 unfolding total
-own-total r k = rw (eq-eqb k k refl) (omega arith)
+own_total r k = rw (eq-eqb k k refl) (omega arith)
 
 module _ {s places : List ℕ} {f : Filling} {d k : ℕ} (ready : Ready s places f) (node : k < node_count s) (deep : 0 < d) (r : Row) (rooms : Rooms s places (λ j. gives d s k r j) f) where
   both : Rooms s places (λ j. rows_then (own r k j) (deeper (λ c q. gives (d - 1) s c q j) s k r)) f
-  both = rooms_as rooms (λ j lt. gives-first d s k r j deep)
+  both = rooms_as rooms (λ j lt. gives_first d s k r j deep)
 
   pub row_getting : Getting s places f k (span r)
   row_getting =
-      let room = (rooms-first (λ j. own r k j) (λ j. deeper (λ c q. gives (d - 1) s c q j) s k r) both).room k node in
-      record { ready = ready; node = node; room = rw (own-count r k, own-total r k) at room }
+      let room = (rooms_first (λ j. own r k j) (λ j. deeper (λ c q. gives (d - 1) s c q j) s k r) both).room k node in
+      record { ready = ready; node = node; room = rw (own_count r k, own_total r k) at room }
 
-  pub below-rooms : {f' : Filling} → Filled s places (own r k) f f' → Rooms s places (λ j. deeper (λ c q. gives (d - 1) s c q j) s k r) f'
-  below-rooms t = rooms-rest both t
+  pub below_rooms : {f' : Filling} → Filled s places (own r k) f f' → Rooms s places (λ j. deeper (λ c q. gives (d - 1) s c q j) s k r) f'
+  below_rooms t = rooms_rest both t
 
-  pub row-filled : {f' f'' : Filling} → Filled s places (own r k) f f' → Filled s places (λ j. deeper (λ c q. gives (d - 1) s c q j) s k r) f' f'' → Filled s places (λ j. gives d s k r j) f f''
-  row-filled t u = filled_as (filled_then t u) (λ j lt. sym (gives-first d s k r j deep))
+  pub row_filled : {f' f'' : Filling} → Filled s places (own r k) f f' → Filled s places (λ j. deeper (λ c q. gives (d - 1) s c q j) s k r) f' f'' → Filled s places (λ j. gives d s k r j) f f''
+  row_filled t u = filled_as (filled_then t u) (λ j lt. sym (gives_first d s k r j deep))
 
-  pub leaf-filled : {f' : Filling} → ((j : ℕ) → deeper (λ c q. gives (d - 1) s c q j) s k r ≡ none) → Filled s places (own r k) f f' → Filled s places (λ j. gives d s k r j) f f'
-  leaf-filled leaf t = filled_as t (λ j lt. sym (gives-first d s k r j deep ∙ ap (rows_then (own r k j)) (leaf j) ∙ then_none (own r k j)))
+  pub leaf_filled : {f' : Filling} → ((j : ℕ) → deeper (λ c q. gives (d - 1) s c q j) s k r ≡ none) → Filled s places (own r k) f f' → Filled s places (λ j. gives d s k r j) f f'
+  leaf_filled leaf t = filled_as t (λ j lt. sym (gives_first d s k r j deep ∙ ap (rows_then (own r k j)) (leaf j) ∙ then_none (own r k j)))
 
 -- The layouts that the last arm has; of them only a Struct is read.
 abbrev pub last_arm : Layout → Bool
@@ -79,20 +79,20 @@ last_arm SparseUnion = true
 last_arm Dictionary = true
 last_arm Runs = true
 
-only-struct : (row : ℕ → List ℕ → Parsed Row) (s : List ℕ) (k : ℕ) (x : List ℕ) (r : Row) (rest : List ℕ) (l : Layout) → last_arm l ≡ true → value_in l row s k x ≡ parsed r rest → l ≡ Struct
-only-struct row s k x r rest Null a e = absurd (false≢true a)
-only-struct row s k x r rest Boolean a e = absurd (false≢true a)
-only-struct row s k x r rest FixedWidth a e = absurd (false≢true a)
-only-struct row s k x r rest VariableSize a e = absurd (false≢true a)
-only-struct row s k x r rest View a e = absurd (failed-not e)
-only-struct row s k x r rest Lists a e = absurd (false≢true a)
-only-struct row s k x r rest ListView a e = absurd (failed-not e)
-only-struct row s k x r rest FixedList a e = absurd (failed-not e)
-only-struct row s k x r rest Struct a e = refl
-only-struct row s k x r rest DenseUnion a e = absurd (failed-not e)
-only-struct row s k x r rest SparseUnion a e = absurd (failed-not e)
-only-struct row s k x r rest Dictionary a e = absurd (failed-not e)
-only-struct row s k x r rest Runs a e = absurd (failed-not e)
+only_struct : (row : ℕ → List ℕ → Parsed Row) (s : List ℕ) (k : ℕ) (x : List ℕ) (r : Row) (rest : List ℕ) (l : Layout) → last_arm l ≡ true → value_in l row s k x ≡ parsed r rest → l ≡ Struct
+only_struct row s k x r rest Null a e = absurd (false≢true a)
+only_struct row s k x r rest Boolean a e = absurd (false≢true a)
+only_struct row s k x r rest FixedWidth a e = absurd (false≢true a)
+only_struct row s k x r rest VariableSize a e = absurd (false≢true a)
+only_struct row s k x r rest View a e = absurd (failed_not e)
+only_struct row s k x r rest Lists a e = absurd (false≢true a)
+only_struct row s k x r rest ListView a e = absurd (failed_not e)
+only_struct row s k x r rest FixedList a e = absurd (failed_not e)
+only_struct row s k x r rest Struct a e = refl
+only_struct row s k x r rest DenseUnion a e = absurd (failed_not e)
+only_struct row s k x r rest SparseUnion a e = absurd (failed_not e)
+only_struct row s k x r rest Dictionary a e = absurd (failed_not e)
+only_struct row s k x r rest Runs a e = absurd (failed_not e)
 
 same_rows_rest : {x y : Rows} {u v : List ℕ} → parsed x u ≡ parsed y v → u ≡ v
 same_rows_rest e = cc
@@ -106,7 +106,7 @@ module _ {s places b : List ℕ} {f : Filling} {d k at : ℕ} (start : RowWalk s
   row_deep = read_deep d s k b at (the_row p) start.walk.reads.rest start.walk.reads.is
 
   pub row_inside : at + 1 ≤ length b
-  row_inside = read-inside d s k b at (the_row p) start.walk.reads.rest start.walk.reads.is
+  row_inside = read_inside d s k b at (the_row p) start.walk.reads.rest start.walk.reads.is
 
   -- the walk is done at a place, where the rest stands
   walked_to : {f' : Filling} (e : ℕ) → start.walk.reads.rest ≡ drop e b → Filled s places (row_gives d s k p) f f' → RowWalked s places b d k at f f' e
@@ -114,18 +114,18 @@ module _ {s places b : List ℕ} {f : Filling} {d k at : ℕ} (start : RowWalk s
 
   -- a null
   module _ (is : byte_at b at ≡ 0) where
-    null-told : (the_row p ≡ gap_row s k) × (start.walk.reads.rest ≡ drop (at + 1) b)
-    null-told = cases (read_mark d s k b at (the_row p) start.walk.reads.rest start.walk.reads.is)
+    null_told : (the_row p ≡ gap_row s k) × (start.walk.reads.rest ≡ drop (at + 1) b)
+    null_told = cases (read_mark d s k b at (the_row p) start.walk.reads.rest start.walk.reads.is)
       where
         cases : Mark d s k b at (the_row p) start.walk.reads.rest → (the_row p ≡ gap_row s k) × (start.walk.reads.rest ≡ drop (at + 1) b)
-        cases (a-null zero-mark takes empty behind) = (rw (empty, takes), behind)
-        cases (a-value one_mark value) = absurd (omega arith)
+        cases (a_null zero-mark takes empty behind) = (rw (empty, takes), behind)
+        cases (a_value one_mark value) = absurd (omega arith)
 
-    pub null-rooms : Rooms s places (gap_gives d s k) f
-    null-rooms = rooms_as start.walk.rooms (λ j lt. ap (λ (r : Row). gives d s k r j) null-told.0)
+    pub null_rooms : Rooms s places (gap_gives d s k) f
+    null_rooms = rooms_as start.walk.rooms (λ j lt. ap (λ (r : Row). gives d s k r j) null_told.0)
 
     pub null_walked : {f' : Filling} → Filled s places (gap_gives d s k) f f' → RowWalked s places b d k at f f' (at + 1)
-    null_walked t = walked_to (at + 1) null-told.1 (filled_as t (λ j lt. ap (λ (r : Row). gives d s k r j) (sym null-told.0)))
+    null_walked t = walked_to (at + 1) null_told.1 (filled_as t (λ j lt. ap (λ (r : Row). gives d s k r j) (sym null_told.0)))
 
   -- a value
   module _ (other : byte_at b at ≡ 0 → ⊥) where
@@ -133,18 +133,18 @@ module _ {s places b : List ℕ} {f : Filling} {d k at : ℕ} (start : RowWalk s
     value_mark = cases (read_mark d s k b at (the_row p) start.walk.reads.rest start.walk.reads.is)
       where
         cases : Mark d s k b at (the_row p) start.walk.reads.rest → byte_at b at ≡ 1
-        cases (a-null zero-mark takes empty behind) = absurd (other zero-mark)
-        cases (a-value one_mark value) = one_mark
+        cases (a_null zero-mark takes empty behind) = absurd (other zero-mark)
+        cases (a_value one_mark value) = one_mark
 
     value_read : (l : Layout) → layout_of (code_of s k) ≡ l → value_in l (row_in (d - 1) s) s k (drop (at + 1) b) ≡ parsed (the_row p) start.walk.reads.rest
     value_read l e = cases (read_mark d s k b at (the_row p) start.walk.reads.rest start.walk.reads.is)
       where
         cases : Mark d s k b at (the_row p) start.walk.reads.rest → value_in l (row_in (d - 1) s) s k (drop (at + 1) b) ≡ parsed (the_row p) start.walk.reads.rest
-        cases (a-null zero-mark takes empty behind) = absurd (other zero-mark)
-        cases (a-value one_mark value) = rw (← e) value
+        cases (a_null zero-mark takes empty behind) = absurd (other zero-mark)
+        cases (a_value one_mark value) = rw (← e) value
 
     pub struct_left : last_arm (layout_of (code_of s k)) ≡ true → layout_of (code_of s k) ≡ Struct
-    struct_left last = only-struct (row_in (d - 1) s) s k (drop (at + 1) b) (the_row p) start.walk.reads.rest (layout_of (code_of s k)) last (value_read (layout_of (code_of s k)) refl)
+    struct_left last = only_struct (row_in (d - 1) s) s k (drop (at + 1) b) (the_row p) start.walk.reads.rest (layout_of (code_of s k)) last (value_read (layout_of (code_of s k)) refl)
 
     -- a row x without child rows
     module _ (x : Row) (is : the_row p ≡ x) where
@@ -158,11 +158,11 @@ module _ {s places b : List ℕ} {f : Filling} {d k at : ℕ} (start : RowWalk s
       x_filled t = filled_as t (λ j lt. ap (λ (r : Row). gives d s k r j) (sym is))
 
       x_walked : {f' : Filling} (e : ℕ) → start.walk.reads.rest ≡ drop e b → ((j : ℕ) → deeper (λ c q. gives (d - 1) s c q j) s k x ≡ none) → Filled s places (own x k) f f' → RowWalked s places b d k at f f' e
-      x_walked e behind leaf t = walked_to e behind (x_filled (leaf-filled start.walk.ready start.node row_deep x x_rooms leaf t))
+      x_walked e behind leaf t = walked_to e behind (x_filled (leaf_filled start.walk.ready start.node row_deep x x_rooms leaf t))
 
     module _ (e : layout_of (code_of s k) ≡ Null) where
       empty_told : (the_row p ≡ fixed []) × (start.walk.reads.rest ≡ drop (at + 1) b)
-      empty_told = read-null (row_in (d - 1) s) s k b (at + 1) row_inside (the_row p) start.walk.reads.rest (value_read Null e)
+      empty_told = read_null (row_in (d - 1) s) s k b (at + 1) row_inside (the_row p) start.walk.reads.rest (value_read Null e)
 
       pub empty_getting : Getting s places f k 0
       empty_getting = x_getting (fixed []) empty_told.0
@@ -174,7 +174,7 @@ module _ {s places b : List ℕ} {f : Filling} {d k at : ℕ} (start : RowWalk s
 
     module _ (e : layout_of (code_of s k) ≡ Boolean) where
       bit_told : (at + 1 + 1 ≤ length b) × (byte_at b (at + 1) ≤ 1) × (the_row p ≡ fixed (byte_at b (at + 1) ∷ [])) × (start.walk.reads.rest ≡ drop (at + 1 + 1) b)
-      bit_told = read-boolean (row_in (d - 1) s) s k b (at + 1) row_inside (the_row p) start.walk.reads.rest (value_read Boolean e)
+      bit_told = read_boolean (row_in (d - 1) s) s k b (at + 1) row_inside (the_row p) start.walk.reads.rest (value_read Boolean e)
 
       pub bit_inside : at + 1 + 1 ≤ length b
       bit_inside = bit_told.0
@@ -190,10 +190,10 @@ module _ {s places b : List ℕ} {f : Filling} {d k at : ℕ} (start : RowWalk s
 
     module _ (e : layout_of (code_of s k) ≡ FixedWidth) where
       fixed_told : (at + 1 + element_width s k ≤ length b) × (the_row p ≡ fixed (bytes_at b (at + 1) (element_width s k))) × (start.walk.reads.rest ≡ drop (at + 1 + element_width s k) b)
-      fixed_told = read-fixed (row_in (d - 1) s) s k b (at + 1) row_inside (the_row p) start.walk.reads.rest (value_read FixedWidth e)
+      fixed_told = read_fixed (row_in (d - 1) s) s k b (at + 1) row_inside (the_row p) start.walk.reads.rest (value_read FixedWidth e)
 
-      pub fixed-inside : at + 1 + element_width s k ≤ length b
-      fixed-inside = fixed_told.0
+      pub fixed_inside : at + 1 + element_width s k ≤ length b
+      fixed_inside = fixed_told.0
 
       pub fixed_getting : Getting s places f k 0
       fixed_getting = x_getting (fixed (bytes_at b (at + 1) (element_width s k))) fixed_told.1
@@ -201,83 +201,83 @@ module _ {s places b : List ℕ} {f : Filling} {d k at : ℕ} (start : RowWalk s
       fixed_walked : {f' : Filling} → Filled s places (own (fixed (bytes_at b (at + 1) (element_width s k))) k) f f' → RowWalked s places b d k at f f' (at + 1 + element_width s k)
       fixed_walked t = x_walked (fixed (bytes_at b (at + 1) (element_width s k))) fixed_told.1 (at + 1 + element_width s k) fixed_told.2 (λ j. refl) t
 
-      pub fixed-done : {w : ℕ} {f' : Filling} → w ≡ element_width s k → Filled s places (own (fixed (bytes_at b (at + 1) w)) k) f f' → RowWalked s places b d k at f f' (at + 1 + w)
-      fixed-done wide t = rw wide (fixed_walked (rw wide at t))
+      pub fixed_done : {w : ℕ} {f' : Filling} → w ≡ element_width s k → Filled s places (own (fixed (bytes_at b (at + 1) w)) k) f f' → RowWalked s places b d k at f f' (at + 1 + w)
+      fixed_done wide t = rw wide (fixed_walked (rw wide at t))
 
     module _ (e : layout_of (code_of s k) ≡ VariableSize) where
-      text-told : (at + 1 + 4 ≤ length b) × (at + 1 + 4 + number_at 4 b (at + 1) ≤ length b) × (the_row p ≡ sized (bytes_at b (at + 1 + 4) (number_at 4 b (at + 1)))) × (start.walk.reads.rest ≡ drop (at + 1 + 4 + number_at 4 b (at + 1)) b)
-      text-told = read-text (row_in (d - 1) s) s k b (at + 1) row_inside (the_row p) start.walk.reads.rest (value_read VariableSize e)
+      text_told : (at + 1 + 4 ≤ length b) × (at + 1 + 4 + number_at 4 b (at + 1) ≤ length b) × (the_row p ≡ sized (bytes_at b (at + 1 + 4) (number_at 4 b (at + 1)))) × (start.walk.reads.rest ≡ drop (at + 1 + 4 + number_at 4 b (at + 1)) b)
+      text_told = read_text (row_in (d - 1) s) s k b (at + 1) row_inside (the_row p) start.walk.reads.rest (value_read VariableSize e)
 
       five : at + 1 + 4 ≡ at + 5
       five = omega arith
 
-      pub text-inside : at + 5 + number_at 4 b (at + 1) ≤ length b
-      text-inside = omega (arith, text-told.1)
+      pub text_inside : at + 5 + number_at 4 b (at + 1) ≤ length b
+      text_inside = omega (arith, text_told.1)
 
-      text-is : the_row p ≡ sized (bytes_at b (at + 5) (number_at 4 b (at + 1)))
-      text-is = text-told.2 ∙ rw five
+      text_is : the_row p ≡ sized (bytes_at b (at + 5) (number_at 4 b (at + 1)))
+      text_is = text_told.2 ∙ rw five
 
       pub text_getting : Getting s places f k (number_at 4 b (at + 1))
-      text_getting = rw (bytes-length b (at + 5) (number_at 4 b (at + 1))) at (x_getting (sized (bytes_at b (at + 5) (number_at 4 b (at + 1)))) text-is)
+      text_getting = rw (bytes_length b (at + 5) (number_at 4 b (at + 1))) at (x_getting (sized (bytes_at b (at + 5) (number_at 4 b (at + 1)))) text_is)
 
       text_walked : {f' : Filling} → Filled s places (own (sized (bytes_at b (at + 5) (number_at 4 b (at + 1)))) k) f f' → RowWalked s places b d k at f f' (at + 5 + number_at 4 b (at + 1))
-      text_walked t = x_walked (sized (bytes_at b (at + 5) (number_at 4 b (at + 1)))) text-is (at + 5 + number_at 4 b (at + 1)) (text-told.3 ∙ rw five) (λ j. refl) t
+      text_walked t = x_walked (sized (bytes_at b (at + 5) (number_at 4 b (at + 1)))) text_is (at + 5 + number_at 4 b (at + 1)) (text_told.3 ∙ rw five) (λ j. refl) t
 
-      pub text-done : {n : ℕ} {f' : Filling} → n ≡ number_at 4 b (at + 1) → Filled s places (own (sized (bytes_at b (at + 5) n)) k) f f' → RowWalked s places b d k at f f' (at + 5 + n)
-      text-done many t = rw many (text_walked (rw many at t))
+      pub text_done : {n : ℕ} {f' : Filling} → n ≡ number_at 4 b (at + 1) → Filled s places (own (sized (bytes_at b (at + 5) n)) k) f f' → RowWalked s places b d k at f f' (at + 5 + n)
+      text_done many t = rw many (text_walked (rw many at t))
 
     -- a list: its rows behind its count
     module _ (e : layout_of (code_of s k) ≡ Lists) where
       abbrev items : Parsed Rows
       items = rows_of (row_in (d - 1) s (first_child s k)) (number_at 4 b (at + 1)) (drop (at + 5) b)
 
-      list-told : (at + 1 + 4 ≤ length b) × ((qs : Rows) × (rows_of (row_in (d - 1) s (first_child s k)) (number_at 4 b (at + 1)) (drop (at + 1 + 4) b) ≡ parsed qs start.walk.reads.rest) × (the_row p ≡ counted qs))
-      list-told = read-list (row_in (d - 1) s) s k b (at + 1) row_inside (the_row p) start.walk.reads.rest (value_read Lists e)
+      list_told : (at + 1 + 4 ≤ length b) × ((qs : Rows) × (rows_of (row_in (d - 1) s (first_child s k)) (number_at 4 b (at + 1)) (drop (at + 1 + 4) b) ≡ parsed qs start.walk.reads.rest) × (the_row p ≡ counted qs))
+      list_told = read_list (row_in (d - 1) s) s k b (at + 1) row_inside (the_row p) start.walk.reads.rest (value_read Lists e)
 
       items_are : items ≡ parsed (the_rows items) start.walk.reads.rest
       items_are =
           let five : at + 1 + 4 ≡ at + 5 = omega arith in
-          let read : items ≡ parsed list-told.1.0 start.walk.reads.rest = rw (← five) list-told.1.1 in
+          let read : items ≡ parsed list_told.1.0 start.walk.reads.rest = rw (← five) list_told.1.1 in
           read ∙ ap (λ (x : Rows). parsed x start.walk.reads.rest) (sym (the_rows_lem read))
 
-      list-is : the_row p ≡ counted (the_rows items)
-      list-is =
+      list_is : the_row p ≡ counted (the_rows items)
+      list_is =
           let five : at + 1 + 4 ≡ at + 5 = omega arith in
-          let read : items ≡ parsed list-told.1.0 start.walk.reads.rest = rw (← five) list-told.1.1 in
-          list-told.1.2 ∙ ap counted (sym (the_rows_lem read))
+          let read : items ≡ parsed list_told.1.0 start.walk.reads.rest = rw (← five) list_told.1.1 in
+          list_told.1.2 ∙ ap counted (sym (the_rows_lem read))
 
       pub items_count : count (the_rows items) ≡ number_at 4 b (at + 1)
-      items_count = rows-count (row_in (d - 1) s (first_child s k)) (number_at 4 b (at + 1)) (drop (at + 5) b) (the_rows items) start.walk.reads.rest items_are
+      items_count = rows_count (row_in (d - 1) s (first_child s k)) (number_at 4 b (at + 1)) (drop (at + 5) b) (the_rows items) start.walk.reads.rest items_are
 
       pub list_inside : at + 5 ≤ length b
-      list_inside = omega (arith, list-told.0)
+      list_inside = omega (arith, list_told.0)
 
       pub list_getting : Getting s places f k (number_at 4 b (at + 1))
-      list_getting = rw items_count at (x_getting (counted (the_rows items)) list-is)
+      list_getting = rw items_count at (x_getting (counted (the_rows items)) list_is)
 
-      pub list-child : first_child s k < node_count s
+      pub list_child : first_child s k < node_count s
       unfolding child_end
-      list-child = omega (arith, ((accepted s start.walk.ready.accepted).node k start.node).tree.exactly 1 (rw e), ((accepted s start.walk.ready.accepted).node k start.node).tree.ends)
+      list_child = omega (arith, ((accepted s start.walk.ready.accepted).node k start.node).tree.exactly 1 (rw e), ((accepted s start.walk.ready.accepted).node k start.node).tree.ends)
 
       module _ {f' : Filling} (t : ListFilled s places k (number_at 4 b (at + 1)) f f') where
         listed : Filled s places (own (counted (the_rows items)) k) f f'
         listed = t.by (the_rows items) items_count
 
-        pub list-walk : RowsWalk s places b (d - 1) (first_child s k) (number_at 4 b (at + 1)) (at + 5) f'
-        list-walk =
+        pub list_walk : RowsWalk s places b (d - 1) (first_child s k) (number_at 4 b (at + 1)) (at + 5) f'
+        list_walk =
             record {
-              node = list-child;
+              node = list_child;
               walk = record {
-                ready = ready-after start.walk.ready listed;
+                ready = ready_after start.walk.ready listed;
                 reads = record { rest = start.walk.reads.rest; is = items_are };
-                rooms = below-rooms start.walk.ready start.node row_deep (counted (the_rows items)) (x_rooms (counted (the_rows items)) list-is) listed;
+                rooms = below_rooms start.walk.ready start.node row_deep (counted (the_rows items)) (x_rooms (counted (the_rows items)) list_is) listed;
               };
             }
 
         pub list_walked : {f'' : Filling} {z : ℕ} → RowsWalked s places b (d - 1) (first_child s k) (number_at 4 b (at + 1)) (at + 5) f' f'' z → RowWalked s places b d k at f f'' z
         list_walked {f''} {z} v =
             walked_to z (same_rows_rest (sym items_are ∙ v.done.follows))
-            (x_filled (counted (the_rows items)) list-is (row-filled start.walk.ready start.node row_deep (counted (the_rows items)) (x_rooms (counted (the_rows items)) list-is) listed v.done.filled))
+            (x_filled (counted (the_rows items)) list_is (row_filled start.walk.ready start.node row_deep (counted (the_rows items)) (x_rooms (counted (the_rows items)) list_is) listed v.done.filled))
 
     -- a Struct: a row of each child
     module _ (e : layout_of (code_of s k) ≡ Struct) where
@@ -285,7 +285,7 @@ module _ {s places b : List ℕ} {f : Filling} {d k at : ℕ} (start : RowWalk s
       fields = row_of_each (row_in (d - 1) s) (first_child s k) (child_count s k) (drop (at + 1) b)
 
       struct_told : (qs : Rows) × (fields ≡ parsed qs start.walk.reads.rest) × (the_row p ≡ joined qs)
-      struct_told = read-struct (row_in (d - 1) s) s k b (at + 1) row_inside (the_row p) start.walk.reads.rest (value_read Struct e)
+      struct_told = read_struct (row_in (d - 1) s) s k b (at + 1) row_inside (the_row p) start.walk.reads.rest (value_read Struct e)
 
       fields_are : fields ≡ parsed (the_rows fields) start.walk.reads.rest
       fields_are = struct_told.1 ∙ ap (λ (x : Rows). parsed x start.walk.reads.rest) (sym (the_rows_lem struct_told.1))
@@ -297,19 +297,19 @@ module _ {s places b : List ℕ} {f : Filling} {d k at : ℕ} (start : RowWalk s
       struct_getting = x_getting (joined (the_rows fields)) struct_is
 
       module _ {f' : Filling} (t : StructFilled s places k f f') where
-        pub struct-walk : {first n : ℕ} → first ≡ first_child s k → n ≡ child_count s k → Going (row_in (d - 1) s) (λ m q j. gives (d - 1) s m q j) s places b first n fields f' f' (at + 1) 0
-        struct-walk a c =
+        pub struct_walk : {first n : ℕ} → first ≡ first_child s k → n ≡ child_count s k → Going (row_in (d - 1) s) (λ m q j. gives (d - 1) s m q j) s places b first n fields f' f' (at + 1) 0
+        struct_walk a c =
             going_start (at + 1) (rw (a, c))
             (record {
-              ready = ready-after start.walk.ready (t.by (the_rows fields));
+              ready = ready_after start.walk.ready (t.by (the_rows fields));
               reads = record { rest = start.walk.reads.rest; is = fields_are };
-              rooms = rw a (below-rooms start.walk.ready start.node row_deep (joined (the_rows fields)) (x_rooms (joined (the_rows fields)) struct_is) (t.by (the_rows fields)));
+              rooms = rw a (below_rooms start.walk.ready start.node row_deep (joined (the_rows fields)) (x_rooms (joined (the_rows fields)) struct_is) (t.by (the_rows fields)));
             })
 
         pub struct_walked : {f'' : Filling} {z first : ℕ} → first ≡ first_child s k → Walked s places b fields (the_rows fields) (λ j. over_each (λ m q. gives (d - 1) s m q j) first (the_rows fields)) f' f'' z → RowWalked s places b d k at f f'' z
         struct_walked {f''} {z} a v =
             walked_to z (same_rows_rest (sym fields_are ∙ v.follows))
-            (x_filled (joined (the_rows fields)) struct_is (row-filled start.walk.ready start.node row_deep (joined (the_rows fields)) (x_rooms (joined (the_rows fields)) struct_is) (t.by (the_rows fields)) (rw a at v.filled)))
+            (x_filled (joined (the_rows fields)) struct_is (row_filled start.walk.ready start.node row_deep (joined (the_rows fields)) (x_rooms (joined (the_rows fields)) struct_is) (t.by (the_rows fields)) (rw a at v.filled)))
 
 -- The row under a null of a Struct.
 gap_span : (s : List ℕ) (k : ℕ) → span (gap_row s k) ≡ 0
@@ -346,7 +346,7 @@ module _ {s places : List ℕ} {f : Filling} {d k : ℕ} (ready : Ready s places
   gap_getting = rw (gap_span s k) at (row_getting ready node deep (gap_row s k) rooms)
 
   pub gap_only : {f' : Filling} → (code_of s k ≡ 38 → ⊥) → Filled s places (own (gap_row s k) k) f f' → Filled s places (gap_gives d s k) f f'
-  gap_only other t = leaf-filled ready node deep (gap_row s k) rooms (λ j. gap_alone (λ c q. gives (d - 1) s c q j) s k other) t
+  gap_only other t = leaf_filled ready node deep (gap_row s k) rooms (λ j. gap_alone (λ c q. gives (d - 1) s c q j) s k other) t
 
 -- no depth is left, or some is
 pub gap_zero : (s places : List ℕ) (f : Filling) (d k : ℕ) → d ≡ 0 → Filled s places (gap_gives d s k) f f
@@ -363,14 +363,14 @@ module _ {s places : List ℕ} {f mid : Filling} {d k first n : ℕ} (ready : Re
   same_gaps j = gap_below (λ c q. gives (d - 1) s c q j) s k code ∙ rw (starts, many)
 
   pub gap_loop : GapsLeft s places (d - 1) first n mid mid 0
-  gap_loop = gaps_start (ready-after ready put) (rooms_as (below-rooms ready node deep (gap_row s k) rooms put) (λ j lt. same_gaps j))
+  gap_loop = gaps_start (ready_after ready put) (rooms_as (below_rooms ready node deep (gap_row s k) rooms put) (λ j lt. same_gaps j))
 
   pub gap_child : {i : ℕ} → i < n → first + i < node_count s
   unfolding child_end
   gap_child lt = omega (arith, starts, many, ((accepted s ready.accepted).node k node).tree.ends)
 
   pub gap_end : {f' : Filling} {i : ℕ} → GapsLeft s places (d - 1) first n mid f' i → n ≤ i → Filled s places (gap_gives d s k) f f'
-  gap_end left le = row-filled ready node deep (gap_row s k) rooms put (filled_as (gaps_done left le) (λ j lt. sym (same_gaps j)))
+  gap_end left le = row_filled ready node deep (gap_row s k) rooms put (filled_as (gaps_done left le) (λ j lt. sym (same_gaps j)))
 
 -- The loop over a Struct's fields, from what its node holds then.
 pub record FieldsLeft (s places b : List ℕ) (d k at first n : ℕ) (mid f : Filling) (next i : ℕ) : Type 0 where
@@ -381,28 +381,28 @@ one_mark a b = omega arith
 
 module _ {s places b : List ℕ} {f mid : Filling} {d k at first n : ℕ} (start : RowWalk s places b d k at f) (layout : layout_of (code_of s k) ≡ Struct) (mark : byte_at b at ≡ 1) (starts : first ≡ first_child s k) (many : n ≡ child_count s k) (put : StructFilled s places k f mid) where
   pub fields_start : FieldsLeft s places b d k at first n mid mid (at + 1) 0
-  fields_start = record { going = struct-walk start (one_mark mark) layout put starts many }
+  fields_start = record { going = struct_walk start (one_mark mark) layout put starts many }
 
   module _ {f' : Filling} {next i : ℕ} (g : FieldsLeft s places b d k at first n mid f' next i) where
-    pub field-walk : i < n → RowWalk s places b (d - 1) (first + i) next f'
+    pub field_walk : i < n → RowWalk s places b (d - 1) (first + i) next f'
     unfolding child_end
-    field-walk lt =
+    field_walk lt =
         record { node = omega (arith, starts, many, ((accepted s start.walk.ready.accepted).node k start.node).tree.ends); walk = going_row g.going lt }
 
     pub fields_done : n ≤ i → RowWalked s places b d k at f f' next
     fields_done le = struct_walked start (one_mark mark) layout put starts (going_done g.going le)
 
 module _ {s places b : List ℕ} {d k at first n next i : ℕ} {mid f : Filling} (g : FieldsLeft s places b d k at first n mid f next i) where
-  pub field-more : {f' : Filling} {e : ℕ} → i < n → RowWalked s places b (d - 1) (first + i) next f f' e → FieldsLeft s places b d k at first n mid f' e (i + 1)
-  field-more lt v = record { going = going_more g.going lt v.done }
+  pub field_more : {f' : Filling} {e : ℕ} → i < n → RowWalked s places b (d - 1) (first + i) next f f' e → FieldsLeft s places b d k at first n mid f' e (i + 1)
+  field_more lt v = record { going = going_more g.going lt v.done }
 
 -- what a match on the layout tells
 module _ (s : List ℕ) (k : ℕ) {code : ℕ} {l : Layout} where
-  pub layout-told : {m : Layout} → l ≡ layout_of code → code ≡ code_of s k → l ≡ m → layout_of (code_of s k) ≡ m
-  layout-told e c is = ap layout_of (sym c) ∙ sym e ∙ is
+  pub layout_told : {m : Layout} → l ≡ layout_of code → code ≡ code_of s k → l ≡ m → layout_of (code_of s k) ≡ m
+  layout_told e c is = ap layout_of (sym c) ∙ sym e ∙ is
 
-  pub last-told : true ≡ last_arm l → l ≡ layout_of code → code ≡ code_of s k → last_arm (layout_of (code_of s k)) ≡ true
-  last-told last e c = ap last_arm (ap layout_of (sym c) ∙ sym e) ∙ sym last
+  pub last_told : true ≡ last_arm l → l ≡ layout_of code → code ≡ code_of s k → last_arm (layout_of (code_of s k)) ≡ true
+  last_told last e c = ap last_arm (ap layout_of (sym c) ∙ sym e) ∙ sym last
 
 -- A list and its rows, as code has its count and its child.
 module _ {s places b : List ℕ} {f : Filling} {d k at n : ℕ} (start : RowWalk s places b d k at f) (e : layout_of (code_of s k) ≡ Lists) (mark : byte_at b at ≡ 1) (many : n ≡ number_at 4 b (at + 1)) where
@@ -417,7 +417,7 @@ module _ {s places b : List ℕ} {f : Filling} {d k at n : ℕ} (start : RowWalk
     as_read = rw many at t
 
     pub listed_walk : RowsWalk s places b (d - 1) child n (at + 5) f'
-    listed_walk = rw (is, many) (list-walk start (one_mark mark) e as_read)
+    listed_walk = rw (is, many) (list_walk start (one_mark mark) e as_read)
 
     pub listed_walked : {f'' : Filling} {z : ℕ} → RowsWalked s places b (d - 1) child n (at + 5) f' f'' z → RowWalked s places b d k at f f'' z
     listed_walked v = list_walked start (one_mark mark) e as_read (rw (is, many) at v)

@@ -12,9 +12,9 @@ use Rattle.image.specs.Bytes.{byte_at, number_bytes}
 use Rattle.image.specs.Row.{Row, Rows, none, more, one, rows_then}
 use Rattle.image.specs.RowBytes.{count}
 use Rattle.image.specs.Built.{bits_number, pack_bits, each_number, each_bytes, offsets_from, span, valid_bit}
-use Rattle.laws.proofs.Lengths.{number-length}
+use Rattle.laws.proofs.Lengths.{number_length}
 use Rattle.built.specs.Walk.{total}
-use Rattle.built.proofs.Bits.{each-length}
+use Rattle.built.proofs.Bits.{each_length}
 use Rattle.fill.specs.Filling.{padded}
 use Rattle.fill.proofs.Bytes.{lt_or_ge}
 
@@ -68,25 +68,25 @@ unfolding number_bytes
 zero_bytes zero = refl
 zero_bytes (suc n) = ap (λ (y : List ℕ). 0 ∷ y) (zero_bytes n)
 
-number-padded : (m n x : ℕ) → m ≤ n → x < 2 ^ (8 * m) → number_bytes m x ++ replicate (n - m) 0 ≡ number_bytes n x
+number_padded : (m n x : ℕ) → m ≤ n → x < 2 ^ (8 * m) → number_bytes m x ++ replicate (n - m) 0 ≡ number_bytes n x
 unfolding number_bytes
-number-padded zero n x le lt =
+number_padded zero n x le lt =
     let none : x ≡ 0 = omega arith in
     let all : n - 0 ≡ n = omega arith in
     rw (none, all) (sym (zero_bytes n))
-number-padded (suc m) zero x le lt = absurd (omega arith)
-number-padded (suc m) (suc n) x le lt =
+number_padded (suc m) zero x le lt = absurd (omega arith)
+number_padded (suc m) (suc n) x le lt =
     let e : 8 * suc m ≡ 8 + 8 * m = omega arith in
     let p : 2 ^ (8 * suc m) ≡ 256 * 2 ^ (8 * m) = ap (λ (k : ℕ). 2 ^ k) e ∙ pow-add 2 8 (8 * m) in
     let left : suc n - suc m ≡ n - m = omega arith in
-    rw left (ap (λ (y : List ℕ). x % 256 ∷ y) (number-padded m n (x / 256) (omega arith) (omega arith)))
+    rw left (ap (λ (y : List ℕ). x % 256 ∷ y) (number_padded m n (x / 256) (omega arith) (omega arith)))
 
-pub bits-padded : (n : ℕ) (xs : List ℕ) → length xs ≤ 8 * n → bits_number xs < 2 ^ length xs → padded n (pack_bits xs) ≡ number_bytes n (bits_number xs)
+pub bits_padded : (n : ℕ) (xs : List ℕ) → length xs ≤ 8 * n → bits_number xs < 2 ^ length xs → padded n (pack_bits xs) ≡ number_bytes n (bits_number xs)
 unfolding padded pack_bits
-bits-padded n xs fits small =
+bits_padded n xs fits small =
     let whole : length xs ≤ 8 * ((length xs + 7) / 8) = omega arith in
     let top : 2 ^ length xs ≤ 2 ^ (8 * ((length xs + 7) / 8)) = pow_mono whole in
-    rw (number-length ((length xs + 7) / 8) (bits_number xs)) (number-padded ((length xs + 7) / 8) n (bits_number xs) (omega arith) (omega arith))
+    rw (number_length ((length xs + 7) / 8) (bits_number xs)) (number_padded ((length xs + 7) / 8) n (bits_number xs) (omega arith) (omega arith))
 
 pub pow_suc : (n : ℕ) → 2 ^ suc n ≡ 2 * 2 ^ n
 pow_suc n =
@@ -94,13 +94,13 @@ pow_suc n =
     rw e (pow-add 2 1 n)
 
 -- one bit more
-pub bits-more : (xs : List ℕ) (v : ℕ) → bits_number (xs ++ (v ∷ [])) ≡ bits_number xs + v * 2 ^ length xs
+pub bits_more : (xs : List ℕ) (v : ℕ) → bits_number (xs ++ (v ∷ [])) ≡ bits_number xs + v * 2 ^ length xs
 unfolding bits_number
-bits-more [] v = omega arith
-bits-more (x ∷ xs) v =
+bits_more [] v = omega arith
+bits_more (x ∷ xs) v =
     let e : 2 ^ suc (length xs) ≡ 2 * 2 ^ length xs = pow_suc (length xs) in
     let f : v * (2 * 2 ^ length xs) ≡ 2 * (v * 2 ^ length xs) = omega arith in
-    rw (bits-more xs v, e, f) (omega arith)
+    rw (bits_more xs v, e, f) (omega arith)
 
 -- What rows have, one row more.
 pub number_more : (f : Row → ℕ) (rs : Rows) (r : Row) → each_number f (rows_then rs (one r)) ≡ each_number f rs ++ (f r ∷ [])
@@ -108,10 +108,10 @@ unfolding each_number rows_then
 number_more f none r = refl
 number_more f (more q rs) r = ap (λ (y : List ℕ). f q ∷ y) (number_more f rs r)
 
-pub bytes-more : (f : Row → List ℕ) (rs : Rows) (r : Row) → each_bytes f (rows_then rs (one r)) ≡ each_bytes f rs ++ f r
+pub bytes_more : (f : Row → List ℕ) (rs : Rows) (r : Row) → each_bytes f (rows_then rs (one r)) ≡ each_bytes f rs ++ f r
 unfolding each_bytes rows_then
-bytes-more f none r = simp append-nil
-bytes-more f (more q rs) r = rw (bytes-more f rs r) (simp append_assoc)
+bytes_more f none r = simp append-nil
+bytes_more f (more q rs) r = rw (bytes_more f rs r) (simp append_assoc)
 
 pub offsets_more : (w x : ℕ) (rs : Rows) (r : Row) → offsets_from w x (rows_then rs (one r)) ≡ offsets_from w x rs ++ number_bytes w (x + total rs + span r)
 unfolding offsets_from rows_then total

@@ -13,9 +13,9 @@ use lib.Seq.{length-take-le, take-append_seam, drop-append-add, get_or-append-ad
 use lib.Dec.{ltb}
 use borrow.Author.Tests.{ltb-true, ltb-false}
 use Rattle.image.specs.Bytes.{byte_at, bytes_at}
-use Rattle.laws.proofs.Lengths.{bytes-length}
+use Rattle.laws.proofs.Lengths.{bytes_length}
 use Rattle.rows.specs.Output.{over}
-use Rattle.rows.proofs.Over.{over-length, over-before}
+use Rattle.rows.proofs.Over.{over_length, over_before}
 use Rattle.fill.specs.Filling.{padded}
 
 -- a number lies before another or not
@@ -37,8 +37,8 @@ byte_of s p (suc n) (suc i) lt =
 
 pub bytes_same : (a b : List ℕ) (p q n : ℕ) → ((i : ℕ) → i < n → byte_at a (p + i) ≡ byte_at b (q + i)) → bytes_at a p n ≡ bytes_at b q n
 bytes_same a b p q n same =
-    ext_get_or 0 (bytes_at a p n) (bytes_at b q n) (bytes-length a p n ∙ sym (bytes-length b q n)) (λ i lt.
-    let few : i < n = omega (arith, bytes-length a p n) in
+    ext_get_or 0 (bytes_at a p n) (bytes_at b q n) (bytes_length a p n ∙ sym (bytes_length b q n)) (λ i lt.
+    let few : i < n = omega (arith, bytes_length a p n) in
     byte_of a p n i few ∙ same i few ∙ sym (byte_of b q n i few))
 
 -- a byte of a buffer that bytes are put over: inside them, and behind
@@ -46,9 +46,9 @@ module _ (out : List ℕ) (at : ℕ) (x : List ℕ) (fits : at + length x ≤ le
   front : length (take at out) ≡ at
   front = length-take-le at out (omega arith)
 
-  pub over-inside : (o : ℕ) → o < length x → byte_at (over out at x) (at + o) ≡ byte_at x o
+  pub over_inside : (o : ℕ) → o < length x → byte_at (over out at x) (at + o) ≡ byte_at x o
   unfolding over
-  over-inside o lt =
+  over_inside o lt =
       let there = get_or-append-add (take at out) (x ++ drop (at + length x) out) o 0 in
       rw front at there ∙ get_or-append x (drop (at + length x) out) 0 o lt
 
@@ -64,26 +64,26 @@ module _ (out : List ℕ) (at : ℕ) (x : List ℕ) (fits : at + length x ≤ le
 
 -- bytes elsewhere stay
 pub over_elsewhere : (out : List ℕ) (at : ℕ) (x : List ℕ) → at + length x ≤ length out → (p n : ℕ) → (p + n ≤ at) ⊎ (at + length x ≤ p) → bytes_at (over out at x) p n ≡ bytes_at out p n
-over_elsewhere out at x fits p n (inl before) = bytes_same (over out at x) out p p n (λ i lt. over-before out at x fits (p + i) (omega arith))
+over_elsewhere out at x fits p n (inl before) = bytes_same (over out at x) out p p n (λ i lt. over_before out at x fits (p + i) (omega arith))
 over_elsewhere out at x fits p n (inr behind) = bytes_same (over out at x) out p p n (λ i lt. over_behind out at x fits (p + i) (omega arith))
 
 -- bytes that are put inside n bytes from p on
-pub over-within : (out x : List ℕ) (p n o : ℕ) → p + n ≤ length out → o + length x ≤ n → bytes_at (over out (p + o) x) p n ≡ over (bytes_at out p n) o x
-over-within out x p n o inside fits =
-    let long : length (bytes_at out p n) ≡ n = bytes-length out p n in
+pub over_within : (out x : List ℕ) (p n o : ℕ) → p + n ≤ length out → o + length x ≤ n → bytes_at (over out (p + o) x) p n ≡ over (bytes_at out p n) o x
+over_within out x p n o inside fits =
+    let long : length (bytes_at out p n) ≡ n = bytes_length out p n in
     let here : o + length x ≤ length (bytes_at out p n) = omega arith in
     let there : p + o + length x ≤ length out = omega arith in
-    ext_get_or 0 (bytes_at (over out (p + o) x) p n) (over (bytes_at out p n) o x) (bytes-length (over out (p + o) x) p n ∙ sym (over-length (bytes_at out p n) o x here ∙ long)) (λ i lt.
-    let few : i < n = omega (arith, bytes-length (over out (p + o) x) p n) in
+    ext_get_or 0 (bytes_at (over out (p + o) x) p n) (over (bytes_at out p n) o x) (bytes_length (over out (p + o) x) p n ∙ sym (over_length (bytes_at out p n) o x here ∙ long)) (λ i lt.
+    let few : i < n = omega (arith, bytes_length (over out (p + o) x) p n) in
     byte_of (over out (p + o) x) p n i few ∙ cases i few here there (lt_or_ge i o) (lt_or_ge i (o + length x)))
   where
     cases : (i : ℕ) → i < n → o + length x ≤ length (bytes_at out p n) → p + o + length x ≤ length out → (i < o) ⊎ (o ≤ i) → (i < o + length x) ⊎ (o + length x ≤ i) → byte_at (over out (p + o) x) (p + i) ≡ byte_at (over (bytes_at out p n) o x) i
-    cases i few here there (inl before) e = over-before out (p + o) x there (p + i) (omega arith) ∙ sym (over-before (bytes_at out p n) o x here i before ∙ byte_of out p n i few)
+    cases i few here there (inl before) e = over_before out (p + o) x there (p + i) (omega arith) ∙ sym (over_before (bytes_at out p n) o x here i before ∙ byte_of out p n i few)
     cases i few here there (inr after) (inl among) =
         let a : p + o + (i - o) ≡ p + i = omega arith in
         let b : o + (i - o) ≡ i = omega arith in
         let m : i - o < length x = omega arith in
-        sym (ap (byte_at (over out (p + o) x)) a) ∙ over-inside out (p + o) x there (i - o) m ∙ sym (over-inside (bytes_at out p n) o x here (i - o) m) ∙ ap (byte_at (over (bytes_at out p n) o x)) b
+        sym (ap (byte_at (over out (p + o) x)) a) ∙ over_inside out (p + o) x there (i - o) m ∙ sym (over_inside (bytes_at out p n) o x here (i - o) m) ∙ ap (byte_at (over (bytes_at out p n) o x)) b
     cases i few here there (inr after) (inr behind) = over_behind out (p + o) x there (p + i) (omega arith) ∙ sym (over_behind (bytes_at out p n) o x here i behind ∙ byte_of out p n i few)
 
 -- Zeros behind.
@@ -102,14 +102,14 @@ drop_zeros (suc m) (suc n) =
     let e : suc n - suc m ≡ n - m = omega arith in
     rw e (drop_zeros m n)
 
-pub padded-length : (n : ℕ) (x : List ℕ) → length x ≤ n → length (padded n x) ≡ n
+pub padded_length : (n : ℕ) (x : List ℕ) → length x ≤ n → length (padded n x) ≡ n
 unfolding padded
-padded-length n x le = length-append x (zeros (n - length x)) ∙ omega (arith, length-replicate {A = ℕ} (n - length x) 0)
+padded_length n x le = length-append x (zeros (n - length x)) ∙ omega (arith, length-replicate {A = ℕ} (n - length x) 0)
 
 -- more bytes put behind bytes
-pub padded-more : (n : ℕ) (x y : List ℕ) → length x + length y ≤ n → over (padded n x) (length x) y ≡ padded n (x ++ y)
+pub padded_more : (n : ℕ) (x y : List ℕ) → length x + length y ≤ n → over (padded n x) (length x) y ≡ padded n (x ++ y)
 unfolding padded over
-padded-more n x y fits =
+padded_more n x y fits =
     let z : List ℕ = zeros (n - length x) in
     let left : n - length x - length y ≡ n - length (x ++ y) = omega (arith, length-append x y) in
     let rest : drop (length x + length y) (x ++ z) ≡ zeros (n - length (x ++ y)) = drop-append-add x z (length y) ∙ drop_zeros (length y) (n - length x) ∙ ap zeros left in

@@ -18,14 +18,14 @@ use Rattle.image.specs.Row.{Row, Rows, null, fixed, sized, joined, counted, none
 use Rattle.image.specs.RowBytes.{count}
 use Rattle.image.specs.Built.{span, valid_bit, gap_row, bitmap_of, offsets_from, node_part}
 use Rattle.laws.proofs.Accepted.{accepted}
-use Rattle.laws.proofs.Lengths.{bytes-length, number-length}
+use Rattle.laws.proofs.Lengths.{bytes_length, number_length}
 use Rattle.rows.specs.Output.{over}
-use Rattle.rows.proofs.Over.{over_none, over-length}
+use Rattle.rows.proofs.Over.{over_none, over_length}
 use Rattle.built.specs.Walk.{own}
 use Rattle.fill.specs.declared.put.Spot.{Spot}
 use Rattle.fill.specs.Filling.{Filling, filling, part_len, Ready, Getting, Filled, StructFilled, ListFilled, has_offsets, spot_of}
 use Rattle.fill.proofs.Bytes.{over_behind}
-use Rattle.fill.proofs.Parts.{Grows, Shaped, row_put, part-inside, part-near}
+use Rattle.fill.proofs.Parts.{Grows, Shaped, row_put, part_inside, part_near}
 use Rattle.fill.proofs.Grow.{part_of, grow_none, grow_null, grow_valid, bitmap_free, grow_false, grow_true, boolean_free, grow_value, grow_zero, grow_offset, grow_text}
 
 -- rows of each kind have bytes of the length that their layout gives
@@ -66,44 +66,44 @@ list_not_text e =
     omega arith
 
 module _ {s places : List ℕ} {f : Filling} {k x : ℕ} (g : Getting s places f k x) where
-  node-small : k < 256
-  node-small = omega (arith, g.node, (accepted s g.ready.accepted).tables.few-nodes)
+  node_small : k < 256
+  node_small = omega (arith, g.node, (accepted s g.ready.accepted).tables.few_nodes)
 
   pub spot_requires : (3 * k + 2 < length places) × (k < length f.rows) × (k < length f.spans)
   spot_requires =
-      (omega (arith, node-small, g.ready.places-sized), omega (arith, node-small, g.ready.rows-sized), omega (arith, node-small, g.ready.spans_sized))
+      (omega (arith, node_small, g.ready.places_sized), omega (arith, node_small, g.ready.rows_sized), omega (arith, node_small, g.ready.spans_sized))
 
   inside : (i : ℕ) → i < 3 → get_or places (3 * k + i) 0 + part_len places (3 * k + i) ≤ length f.out
-  inside i few = part-inside g.ready (3 * k + i) (omega (arith, g.node))
+  inside i few = part_inside g.ready (3 * k + i) (omega (arith, g.node))
 
   module _ {spot : Spot} (is : spot ≡ spot_of places f.rows f.spans k) where
     row_is : spot.row ≡ get_or f.rows k 0
     row_is = ap (λ (p : Spot). p.row) is
 
-    span-is : spot.span ≡ get_or f.spans k 0
-    span-is = ap (λ (p : Spot). p.span) is
+    span_is : spot.span ≡ get_or f.spans k 0
+    span_is = ap (λ (p : Spot). p.span) is
 
-    bitmap-is : spot.bitmap ≡ get_or places (3 * k + 0) 0
-    bitmap-is = ap (λ (p : Spot). p.bitmap) is
+    bitmap_is : spot.bitmap ≡ get_or places (3 * k + 0) 0
+    bitmap_is = ap (λ (p : Spot). p.bitmap) is
 
-    first-is : spot.first ≡ get_or places (3 * k + 1) 0
-    first-is = ap (λ (p : Spot). p.first) is
+    first_is : spot.first ≡ get_or places (3 * k + 1) 0
+    first_is = ap (λ (p : Spot). p.first) is
 
     second_is : spot.second ≡ get_or places (3 * k + 2) 0
     second_is = ap (λ (p : Spot). p.second) is
 
-    pub row-few : spot.row + 1 ≤ 1073741824
-    row-few = omega (arith, row_is, g.room.few)
+    pub row_few : spot.row + 1 ≤ 1073741824
+    row_few = omega (arith, row_is, g.room.few)
 
     pub bit_requires : takes_bitmap (layout_of (code_of s k)) ≡ true → (spot.bitmap + spot.row / 8 < length f.out) × (byte_at f.out (spot.bitmap + spot.row / 8) < 2 ^ (spot.row % 8))
     bit_requires takes =
         let held = g.ready.held k g.node in
         let room = g.room.bitmap takes in
         let low : get_or places (3 * k + 0) 0 + get_or f.rows k 0 / 8 < length f.out = omega (arith, inside 0 (omega arith)) in
-        rw (bitmap-is, row_is) (low, bitmap_free s places f k null (layout_of (code_of s k)) refl takes room held.rows held.holds)
+        rw (bitmap_is, row_is) (low, bitmap_free s places f k null (layout_of (code_of s k)) refl takes room held.rows held.holds)
 
     pub count_requires : (spot.row < 2 ^ 40) × (k < length f.rows) × (k < length f.spans)
-    count_requires = (omega (arith, row-few), spot_requires.1, spot_requires.2)
+    count_requires = (omega (arith, row_few), spot_requires.1, spot_requires.2)
 
     -- the buffer and the numbers afterwards
     as_put : (r : Row) {out rows spans all : List ℕ} {end : ℕ} → Filled s places (own r k) f (filling all (set f.rows k (get_or f.rows k 0 + 1)) (set f.spans k (get_or f.spans k 0 + span r)))
@@ -119,40 +119,40 @@ module _ {s places : List ℕ} {f : Filling} {k x : ℕ} (g : Getting s places f
       bit_grows : Grows s places f k r 0 (get_or f.rows k 0 / 8) ((byte_at f.out (get_or places (3 * k + 0) 0 + get_or f.rows k 0 / 8) + 2 ^ (get_or f.rows k 0 % 8)) ∷ [])
       bit_grows = grow_valid s places f k r (layout_of (code_of s k)) refl takes (g.room.bitmap takes) v
 
-    pub struct-filled : layout_of (code_of s k) ≡ Struct → {out rows spans : List ℕ} → out ≡ marked → (rows ≡ set f.rows k (spot.row + 1)) × (spans ≡ set f.spans k spot.span) → StructFilled s places k f (filling out rows spans)
-    struct-filled e put counts =
+    pub struct_filled : layout_of (code_of s k) ≡ Struct → {out rows spans : List ℕ} → out ≡ marked → (rows ≡ set f.rows k (spot.row + 1)) × (spans ≡ set f.spans k spot.span) → StructFilled s places k f (filling out rows spans)
+    struct_filled e put counts =
         record {
           by = λ qs.
               let shaped : Shaped s k (joined qs) = record { even = λ l. absurd (struct_not_fixed (sym e ∙ l)); text = λ l. refl; bit = λ l. omega arith } in
               let all = row_put g.ready k g.node (joined qs) shaped _ _ (bit_grows (joined qs) refl (rw e)) 0 [] (grow_none s places f k (joined qs) {i = 1} (λ rs. part_of s k Struct e rs 1)) 0 [] (grow_none s places f k (joined qs) {i = 2} (λ rs. part_of s k Struct e rs 2)) in
-              as_put (joined qs) all (put ∙ rw (bitmap-is, row_is) (sym (over_none _ _) ∙ sym (over_none _ _))) (span-is ∙ omega arith) counts;
+              as_put (joined qs) all (put ∙ rw (bitmap_is, row_is) (sym (over_none _ _) ∙ sym (over_none _ _))) (span_is ∙ omega arith) counts;
         }
 
     -- once the bit is set, the buffer is as long as it was
-    marked-long : takes_bitmap (layout_of (code_of s k)) ≡ true → length marked ≡ length f.out
-    marked-long takes = over-length f.out (spot.bitmap + spot.row / 8) _ (omega (arith, (bit_requires takes).0))
+    marked_long : takes_bitmap (layout_of (code_of s k)) ≡ true → length marked ≡ length f.out
+    marked_long takes = over_length f.out (spot.bitmap + spot.row / 8) _ (omega (arith, (bit_requires takes).0))
 
     -- Booleans: where the value is 0, its bit stays; where it is 1, it is set behind the bitmap's.
     module _ (e : layout_of (code_of s k) ≡ Boolean) where
       bit_shaped : (v : ℕ) → v ≤ 1 → Shaped s k (fixed (v ∷ []))
       bit_shaped v le = record { even = λ l. absurd (boolean_not_fixed (sym e ∙ l)); text = λ l. refl; bit = λ l. le }
 
-      pub false-filled : {out rows spans : List ℕ} → out ≡ marked → (rows ≡ set f.rows k (spot.row + 1)) × (spans ≡ set f.spans k spot.span) → Filled s places (own (fixed (0 ∷ [])) k) f (filling out rows spans)
-      false-filled put counts =
+      pub false_filled : {out rows spans : List ℕ} → out ≡ marked → (rows ≡ set f.rows k (spot.row + 1)) × (spans ≡ set f.spans k spot.span) → Filled s places (own (fixed (0 ∷ [])) k) f (filling out rows spans)
+      false_filled put counts =
           let all = row_put g.ready k g.node (fixed (0 ∷ [])) (bit_shaped 0 (omega arith)) _ _ (bit_grows (fixed (0 ∷ [])) refl (rw e)) 0 [] (grow_false s places f k (fixed (0 ∷ [])) e (g.room.bits e) refl) 0 [] (grow_none s places f k (fixed (0 ∷ [])) {i = 2} (λ rs. part_of s k Boolean e rs 2)) in
-          as_put (fixed (0 ∷ [])) all (put ∙ rw (bitmap-is, row_is) (sym (over_none _ _) ∙ sym (over_none _ _))) (span-is ∙ omega arith) counts
+          as_put (fixed (0 ∷ [])) all (put ∙ rw (bitmap_is, row_is) (sym (over_none _ _) ∙ sym (over_none _ _))) (span_is ∙ omega arith) counts
 
-      marked-fits : get_or places (3 * k + 0) 0 + get_or f.rows k 0 / 8 + 1 ≤ length f.out
-      marked-fits =
+      marked_fits : get_or places (3 * k + 0) 0 + get_or f.rows k 0 / 8 + 1 ≤ length f.out
+      marked_fits =
           let takes : takes_bitmap (layout_of (code_of s k)) ≡ true = rw e in
           omega (arith, g.room.bitmap takes, inside 0 (omega arith))
 
       -- the byte of the value's bit is not touched by the bitmap's
-      byte-kept : byte_at marked (spot.first + spot.row / 8) ≡ byte_at f.out (get_or places (3 * k + 1) 0 + get_or f.rows k 0 / 8)
-      byte-kept =
+      byte_kept : byte_at marked (spot.first + spot.row / 8) ≡ byte_at f.out (get_or places (3 * k + 1) 0 + get_or f.rows k 0 / 8)
+      byte_kept =
           let takes : takes_bitmap (layout_of (code_of s k)) ≡ true = rw e in
           let behind : get_or places (3 * k + 0) 0 + get_or f.rows k 0 / 8 + 1 ≤ get_or places (3 * k + 1) 0 + get_or f.rows k 0 / 8 = omega (arith, g.room.bitmap takes, rises) in
-          rw (bitmap-is, row_is, first-is) (over_behind f.out (get_or places (3 * k + 0) 0 + get_or f.rows k 0 / 8) _ marked-fits _ behind)
+          rw (bitmap_is, row_is, first_is) (over_behind f.out (get_or places (3 * k + 0) 0 + get_or f.rows k 0 / 8) _ marked_fits _ behind)
         where
           rises : get_or places (suc (3 * k + 0)) 0 ≡ get_or places (3 * k + 1) 0
           rises =
@@ -162,94 +162,94 @@ module _ {s places : List ℕ} {f : Filling} {k x : ℕ} (g : Getting s places f
       pub value_requires : {out : List ℕ} → out ≡ marked → (spot.first + spot.row / 8 < length out) × (byte_at out (spot.first + spot.row / 8) < 2 ^ (spot.row % 8))
       value_requires put =
           let held = g.ready.held k g.node in
-          let long : length marked ≡ length f.out = marked-long (rw e) in
-          let low : spot.first + spot.row / 8 < length f.out = omega (arith, first-is, row_is, g.room.bits e, inside 1 (omega arith)) in
+          let long : length marked ≡ length f.out = marked_long (rw e) in
+          let low : spot.first + spot.row / 8 < length f.out = omega (arith, first_is, row_is, g.room.bits e, inside 1 (omega arith)) in
           let free = boolean_free s places f k null e (g.room.bits e) held.rows held.holds in
-          rw put (omega (arith, low, long), rw (byte-kept, row_is) free)
+          rw put (omega (arith, low, long), rw (byte_kept, row_is) free)
 
-      pub true-filled : {mid out rows spans : List ℕ} → mid ≡ marked → out ≡ over mid (spot.first + spot.row / 8) ((byte_at mid (spot.first + spot.row / 8) + 2 ^ (spot.row % 8)) ∷ [])
+      pub true_filled : {mid out rows spans : List ℕ} → mid ≡ marked → out ≡ over mid (spot.first + spot.row / 8) ((byte_at mid (spot.first + spot.row / 8) + 2 ^ (spot.row % 8)) ∷ [])
           → (rows ≡ set f.rows k (spot.row + 1)) × (spans ≡ set f.spans k spot.span) → Filled s places (own (fixed (1 ∷ [])) k) f (filling out rows spans)
-      true-filled {mid} {out} put set-too counts =
+      true_filled {mid} {out} put set-too counts =
           let all = row_put g.ready k g.node (fixed (1 ∷ [])) (bit_shaped 1 (omega arith)) _ _ (bit_grows (fixed (1 ∷ [])) refl (rw e)) _ _ (grow_true s places f k (fixed (1 ∷ [])) e (g.room.bits e) refl) 0 [] (grow_none s places f k (fixed (1 ∷ [])) {i = 2} (λ rs. part_of s k Boolean e rs 2)) in
-          let byte : byte_at mid (spot.first + spot.row / 8) ≡ byte_at f.out (get_or places (3 * k + 1) 0 + get_or f.rows k 0 / 8) = ap (λ (y : List ℕ). byte_at y (spot.first + spot.row / 8)) put ∙ byte-kept in
-          as_put (fixed (1 ∷ [])) all (set-too ∙ rw (byte, put, bitmap-is, row_is, first-is) (sym (over_none _ _))) (span-is ∙ omega arith) counts
+          let byte : byte_at mid (spot.first + spot.row / 8) ≡ byte_at f.out (get_or places (3 * k + 1) 0 + get_or f.rows k 0 / 8) = ap (λ (y : List ℕ). byte_at y (spot.first + spot.row / 8)) put ∙ byte_kept in
+          as_put (fixed (1 ∷ [])) all (set-too ∙ rw (byte, put, bitmap_is, row_is, first_is) (sym (over_none _ _))) (span_is ∙ omega arith) counts
 
     -- Fixed widths.
     module _ (e : layout_of (code_of s k) ≡ FixedWidth) {w : ℕ} (wide : w ≡ element_width s k) where
-      pub value-place : spot.first + spot.row * w + w ≤ length f.out
-      value-place =
+      pub value_place : spot.first + spot.row * w + w ≤ length f.out
+      value_place =
           let room = g.room.values e in
-          rw (first-is, row_is, wide) (omega (arith, add-mul (get_or f.rows k 0) 1 (element_width s k), one-mul (element_width s k), inside 1 (omega arith)))
+          rw (first_is, row_is, wide) (omega (arith, add-mul (get_or f.rows k 0) 1 (element_width s k), one-mul (element_width s k), inside 1 (omega arith)))
 
-      pub value-near : spot.first + spot.row * w ≤ 16777216
-      value-near =
+      pub value_near : spot.first + spot.row * w ≤ 16777216
+      value_near =
           let room = g.room.values e in
-          rw (first-is, row_is, wide) (omega (arith, add-mul (get_or f.rows k 0) 1 (element_width s k), one-mul (element_width s k), part-near g.ready (3 * k + 1) (omega (arith, g.node))))
+          rw (first_is, row_is, wide) (omega (arith, add-mul (get_or f.rows k 0) 1 (element_width s k), one-mul (element_width s k), part_near g.ready (3 * k + 1) (omega (arith, g.node))))
 
-      pub value-inside : {mid : List ℕ} → mid ≡ marked → spot.first + spot.row * w + w ≤ length mid
-      value-inside put = rw (put, marked-long (rw e)) value-place
+      pub value_inside : {mid : List ℕ} → mid ≡ marked → spot.first + spot.row * w + w ≤ length mid
+      value_inside put = rw (put, marked_long (rw e)) value_place
 
-      pub fixed-filled : (y : List ℕ) → length y ≡ w → {mid out rows spans : List ℕ} → mid ≡ marked → out ≡ over mid (spot.first + spot.row * w) y
+      pub fixed_filled : (y : List ℕ) → length y ≡ w → {mid out rows spans : List ℕ} → mid ≡ marked → out ≡ over mid (spot.first + spot.row * w) y
           → (rows ≡ set f.rows k (spot.row + 1)) × (spans ≡ set f.spans k spot.span) → Filled s places (own (fixed y) k) f (filling out rows spans)
-      fixed-filled y long put put-too counts =
+      fixed_filled y long put put-too counts =
           let shaped : Shaped s k (fixed y) = record { even = λ l. long ∙ wide; text = λ l. refl; bit = λ l. absurd (boolean_not_fixed (sym l ∙ e)) } in
           let all = row_put g.ready k g.node (fixed y) shaped _ _ (bit_grows (fixed y) refl (rw e)) _ _ (grow_value s places f k (fixed y) e (g.room.values e) y (long ∙ wide) refl) 0 [] (grow_none s places f k (fixed y) {i = 2} (λ rs. part_of s k FixedWidth e rs 2)) in
-          as_put (fixed y) all (put-too ∙ rw (put, bitmap-is, row_is, first-is, wide) (sym (over_none _ _))) (span-is ∙ omega arith) counts
+          as_put (fixed y) all (put-too ∙ rw (put, bitmap_is, row_is, first_is, wide) (sym (over_none _ _))) (span_is ∙ omega arith) counts
 
     -- Offsets: the end of the row.
     module _ (room : suc (get_or f.rows k 0 + 1) * element_width s k ≤ part_len places (3 * k + 1)) where
-      pub end-place : spot.first + (spot.row + 1) * element_width s k + element_width s k ≤ length f.out
-      end-place = rw (first-is, row_is) (omega (arith, suc-mul (get_or f.rows k 0 + 1) (element_width s k), inside 1 (omega arith)))
+      pub end_place : spot.first + (spot.row + 1) * element_width s k + element_width s k ≤ length f.out
+      end_place = rw (first_is, row_is) (omega (arith, suc-mul (get_or f.rows k 0 + 1) (element_width s k), inside 1 (omega arith)))
 
     -- Texts.
     module _ (e : layout_of (code_of s k) ≡ VariableSize) where
       offsets_are : (rs : Rows) → node_part s k rs 1 ≡ offsets_from (element_width s k) 0 rs
       offsets_are rs = part_of s k VariableSize e rs 1
 
-      pub text-place : spot.second + spot.span + x ≤ length f.out
-      text-place = rw (second_is, span-is) (omega (arith, g.room.text e, inside 2 (omega arith)))
+      pub text_place : spot.second + spot.span + x ≤ length f.out
+      text_place = rw (second_is, span_is) (omega (arith, g.room.text e, inside 2 (omega arith)))
 
-      pub text-near : (spot.second + spot.span ≤ 16777216) × (spot.span + x ≤ 16777216)
-      text-near =
-          let near = part-near g.ready (3 * k + 2) (omega (arith, g.node)) in
-          rw (second_is, span-is) (omega (arith, g.room.text e), omega (arith, g.room.text e))
+      pub text_near : (spot.second + spot.span ≤ 16777216) × (spot.span + x ≤ 16777216)
+      text_near =
+          let near = part_near g.ready (3 * k + 2) (omega (arith, g.node)) in
+          rw (second_is, span_is) (omega (arith, g.room.text e), omega (arith, g.room.text e))
 
       pub text_end_requires : {mid : List ℕ} → mid ≡ marked → ((spot.row < 2 ^ 40) × (element_width s k ≤ 8)) × (spot.first + (spot.row + 1) * element_width s k + element_width s k ≤ length mid)
       text_end_requires put =
-          ((omega (arith, row-few), ((accepted s g.ready.accepted).node k g.node).widths.variable_size e), rw (put, marked-long (rw e)) (end-place (g.room.text_offsets e)))
+          ((omega (arith, row_few), ((accepted s g.ready.accepted).node k g.node).widths.variable_size e), rw (put, marked_long (rw e)) (end_place (g.room.text_offsets e)))
 
-      pub text-inside : {a b : List ℕ} → a ≡ marked → b ≡ over a (spot.first + (spot.row + 1) * element_width s k) (number_bytes (element_width s k) (spot.span + x)) → spot.second + spot.span + x ≤ length b
-      text-inside put-bit put-end =
-          let n = number-length (element_width s k) (spot.span + x) in
-          let place = end-place (g.room.text_offsets e) in
-          let long : length marked ≡ length f.out = marked-long (rw e) in
-          rw (put-end, put-bit, over-length marked (spot.first + (spot.row + 1) * element_width s k) (number_bytes (element_width s k) (spot.span + x)) (omega arith), long) text-place
+      pub text_inside : {a b : List ℕ} → a ≡ marked → b ≡ over a (spot.first + (spot.row + 1) * element_width s k) (number_bytes (element_width s k) (spot.span + x)) → spot.second + spot.span + x ≤ length b
+      text_inside put-bit put-end =
+          let n = number_length (element_width s k) (spot.span + x) in
+          let place = end_place (g.room.text_offsets e) in
+          let long : length marked ≡ length f.out = marked_long (rw e) in
+          rw (put-end, put-bit, over_length marked (spot.first + (spot.row + 1) * element_width s k) (number_bytes (element_width s k) (spot.span + x)) (omega arith), long) text_place
 
-      pub text-filled : (y : List ℕ) → length y ≡ x → {a b out rows spans : List ℕ} → a ≡ marked → b ≡ over a (spot.first + (spot.row + 1) * element_width s k) (number_bytes (element_width s k) (spot.span + x)) → out ≡ over b (spot.second + spot.span) y
+      pub text_filled : (y : List ℕ) → length y ≡ x → {a b out rows spans : List ℕ} → a ≡ marked → b ≡ over a (spot.first + (spot.row + 1) * element_width s k) (number_bytes (element_width s k) (spot.span + x)) → out ≡ over b (spot.second + spot.span) y
           → (rows ≡ set f.rows k (spot.row + 1)) × (spans ≡ set f.spans k (spot.span + x)) → Filled s places (own (sized y) k) f (filling out rows spans)
-      text-filled y long put-bit put-end put-text counts =
+      text_filled y long put-bit put-end put-text counts =
           let shaped : Shaped s k (sized y) = record { even = λ l. absurd (text_not_fixed (sym e ∙ l)); text = λ l. refl; bit = λ l. omega arith } in
           let near : get_or f.spans k 0 + length y ≤ part_len places (3 * k + 2) = omega (arith, g.room.text e) in
           let all = row_put g.ready k g.node (sized y) shaped _ _ (bit_grows (sized y) refl (rw e)) _ _ (grow_offset s places f k (sized y) offsets_are (g.room.text_offsets e)) _ _ (grow_text s places f k (sized y) e near refl) in
-          as_put (sized y) all (put-text ∙ rw (put-end, put-bit, bitmap-is, row_is, first-is, second_is, span-is, ← long)) (rw (span-is, ← long)) counts
+          as_put (sized y) all (put-text ∙ rw (put-end, put-bit, bitmap_is, row_is, first_is, second_is, span_is, ← long)) (rw (span_is, ← long)) counts
 
     -- Lists.
     module _ (e : layout_of (code_of s k) ≡ Lists) where
-      pub list-near : spot.span + x ≤ 1073741824
-      list-near = omega (arith, span-is, g.room.near e)
+      pub list_near : spot.span + x ≤ 1073741824
+      list_near = omega (arith, span_is, g.room.near e)
 
       pub list_end_requires : {mid : List ℕ} → mid ≡ marked → ((spot.row < 2 ^ 40) × (element_width s k ≤ 8)) × (spot.first + (spot.row + 1) * element_width s k + element_width s k ≤ length mid)
       list_end_requires put =
-          ((omega (arith, row-few), ((accepted s g.ready.accepted).node k g.node).widths.lists e), rw (put, marked-long (rw e)) (end-place (g.room.list_offsets e)))
+          ((omega (arith, row_few), ((accepted s g.ready.accepted).node k g.node).widths.lists e), rw (put, marked_long (rw e)) (end_place (g.room.list_offsets e)))
 
-      pub list-filled : {a out rows spans : List ℕ} → a ≡ marked → out ≡ over a (spot.first + (spot.row + 1) * element_width s k) (number_bytes (element_width s k) (spot.span + x))
+      pub list_filled : {a out rows spans : List ℕ} → a ≡ marked → out ≡ over a (spot.first + (spot.row + 1) * element_width s k) (number_bytes (element_width s k) (spot.span + x))
           → (rows ≡ set f.rows k (spot.row + 1)) × (spans ≡ set f.spans k (spot.span + x)) → ListFilled s places k x f (filling out rows spans)
-      list-filled put-bit put-end counts =
+      list_filled put-bit put-end counts =
           record {
             by = λ qs long.
                 let shaped : Shaped s k (counted qs) = record { even = λ l. absurd (list_not_fixed (sym e ∙ l)); text = λ l. absurd (list_not_text (sym e ∙ l)); bit = λ l. omega arith } in
                 let all = row_put g.ready k g.node (counted qs) shaped _ _ (bit_grows (counted qs) refl (rw e)) _ _ (grow_offset s places f k (counted qs) (λ rs. part_of s k Lists e rs 1) (g.room.list_offsets e)) 0 [] (grow_none s places f k (counted qs) {i = 2} (λ rs. part_of s k Lists e rs 2)) in
-                as_put (counted qs) all (put-end ∙ rw (put-bit, bitmap-is, row_is, first-is, span-is, ← long) (sym (over_none _ _))) (rw (span-is, ← long)) counts;
+                as_put (counted qs) all (put-end ∙ rw (put-bit, bitmap_is, row_is, first_is, span_is, ← long) (sym (over_none _ _))) (rw (span_is, ← long)) counts;
           }
 
 -- Under a null. The row is null where the layout may have a bitmap, and Null's one row else.
@@ -308,7 +308,7 @@ module _ {s places : List ℕ} {f : Filling} {k : ℕ} (g : Getting s places f k
     gap_plain h counts =
         let all = row_put g.ready k g.node (gap_row s k) (gap_shaped (layout_of (code_of s k)) refl (takes_bitmap (layout_of (code_of s k))) refl)
         0 [] (bit_still (layout_of (code_of s k)) refl (takes_bitmap (layout_of (code_of s k))) refl) 0 [] (first_still (layout_of (code_of s k)) refl h) 0 [] (second_still (layout_of (code_of s k)) refl h) in
-        as_put g is (gap_row s k) all (sym (over_none _ _ ∙ over_none _ _ ∙ over_none _ _)) (span-is g is ∙ rw (gap_span (takes_bitmap (layout_of (code_of s k)))) (omega arith)) counts
+        as_put g is (gap_row s k) all (sym (over_none _ _ ∙ over_none _ _ ∙ over_none _ _)) (span_is g is ∙ rw (gap_span (takes_bitmap (layout_of (code_of s k)))) (omega arith)) counts
 
     pub gap_room : has_offsets (layout_of (code_of s k)) ≡ true → suc (get_or f.rows k 0 + 1) * element_width s k ≤ part_len places (3 * k + 1)
     gap_room h = cases (layout_of (code_of s k)) refl h
@@ -329,7 +329,7 @@ module _ {s places : List ℕ} {f : Filling} {k : ℕ} (g : Getting s places f k
         cases Runs e h = absurd (false≢true h)
 
     pub end_requires : has_offsets (layout_of (code_of s k)) ≡ true → ((spot.row < 2 ^ 40) × (element_width s k ≤ 8)) × (spot.first + (spot.row + 1) * element_width s k + element_width s k ≤ length f.out)
-    end_requires h = ((omega (arith, row-few g is), narrow (layout_of (code_of s k)) refl h), end-place g is (gap_room h))
+    end_requires h = ((omega (arith, row_few g is), narrow (layout_of (code_of s k)) refl h), end_place g is (gap_room h))
       where
         narrow : (l : Layout) → layout_of (code_of s k) ≡ l → has_offsets l ≡ true → element_width s k ≤ 8
         narrow Null e h = absurd (false≢true h)
@@ -355,11 +355,11 @@ module _ {s places : List ℕ} {f : Filling} {k : ℕ} (g : Getting s places f k
     ended put counts VariableSize e h =
         let near : get_or f.spans k 0 + 0 ≤ part_len places (3 * k + 2) = g.room.text e in
         let all = row_put g.ready k g.node null (null_shaped s k) 0 [] (bit_still VariableSize e true refl) _ _ (grow_offset s places f k null (λ rs. part_of s k VariableSize e rs 1) (g.room.text_offsets e)) _ _ (grow_text s places f k null e near refl) in
-        as_put g is null all (put ∙ rw (row_is g is, first-is g is, span-is g is, over_none, over_none, add-zero (get_or f.spans k 0))) (span-is g is ∙ omega arith) counts
+        as_put g is null all (put ∙ rw (row_is g is, first_is g is, span_is g is, over_none, over_none, add-zero (get_or f.spans k 0))) (span_is g is ∙ omega arith) counts
     ended put counts View e h = absurd (false≢true h)
     ended put counts Lists e h =
         let all = row_put g.ready k g.node null (null_shaped s k) 0 [] (bit_still Lists e true refl) _ _ (grow_offset s places f k null (λ rs. part_of s k Lists e rs 1) (g.room.list_offsets e)) 0 [] (grow_none s places f k null {i = 2} (λ rs. part_of s k Lists e rs 2)) in
-        as_put g is null all (put ∙ rw (row_is g is, first-is g is, span-is g is, over_none, over_none, add-zero (get_or f.spans k 0))) (span-is g is ∙ omega arith) counts
+        as_put g is null all (put ∙ rw (row_is g is, first_is g is, span_is g is, over_none, over_none, add-zero (get_or f.spans k 0))) (span_is g is ∙ omega arith) counts
     ended put counts ListView e h = absurd (false≢true h)
     ended put counts FixedList e h = absurd (false≢true h)
     ended put counts Struct e h = absurd (false≢true h)
@@ -374,8 +374,8 @@ module _ {s places : List ℕ} {f : Filling} {k : ℕ} (g : Getting s places f k
 
 -- what the test of the layout tells
 module _ (s : List ℕ) (k : ℕ) {code : ℕ} {l : Layout} {b : Bool} where
-  pub has-told : b ≡ has_offsets l → l ≡ layout_of code → code ≡ code_of s k → b ≡ true → has_offsets (layout_of (code_of s k)) ≡ true
-  has-told h e c t = rw (← c, ← e, ← h) t
+  pub has_told : b ≡ has_offsets l → l ≡ layout_of code → code ≡ code_of s k → b ≡ true → has_offsets (layout_of (code_of s k)) ≡ true
+  has_told h e c t = rw (← c, ← e, ← h) t
 
-  pub has-not : b ≡ has_offsets l → l ≡ layout_of code → code ≡ code_of s k → b ≡ false → has_offsets (layout_of (code_of s k)) ≡ false
-  has-not h e c t = rw (← c, ← e, ← h) t
+  pub has_not : b ≡ has_offsets l → l ≡ layout_of code → code ≡ code_of s k → b ≡ false → has_offsets (layout_of (code_of s k)) ≡ false
+  has_not h e c t = rw (← c, ← e, ← h) t

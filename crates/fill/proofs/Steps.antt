@@ -50,7 +50,7 @@ module _ {s places : List ℕ} where
         outside = λ p e. refl;
         long = refl;
         rows_long = refl;
-        spans-long = refl;
+        spans_long = refl;
       }
 
   -- the same rows, said in another way
@@ -63,7 +63,7 @@ module _ {s places : List ℕ} where
         outside = t.outside;
         long = t.long;
         rows_long = t.rows_long;
-        spans-long = t.spans-long;
+        spans_long = t.spans_long;
       }
 
   pub rooms_as : {g h : ℕ → Rows} {f : Filling} → Rooms s places g f → ((j : ℕ) → j < node_count s → g j ≡ h j) → Rooms s places h f
@@ -79,27 +79,27 @@ module _ {s places : List ℕ} where
         outside = λ p e. b.outside p e ∙ a.outside p e;
         long = b.long ∙ a.long;
         rows_long = b.rows_long ∙ a.rows_long;
-        spans-long = b.spans-long ∙ a.spans-long;
+        spans_long = b.spans_long ∙ a.spans_long;
       }
 
-  pub rooms-first : (g h : ℕ → Rows) {f : Filling} → Rooms s places (λ j. rows_then (g j) (h j)) f → Rooms s places g f
-  rooms-first g h {f} rooms =
+  pub rooms_first : (g h : ℕ → Rows) {f : Filling} → Rooms s places (λ j. rows_then (g j) (h j)) f → Rooms s places g f
+  rooms_first g h {f} rooms =
       record { room = λ j lt. room_less (rooms.room j lt) (omega (arith, count_join (g j) (h j))) (omega (arith, total_then (g j) (h j))) }
 
-  pub rooms-rest : {g h : ℕ → Rows} {f₀ f : Filling} → Rooms s places (λ j. rows_then (g j) (h j)) f₀ → Filled s places g f₀ f → Rooms s places h f
-  rooms-rest {g} {h} {f₀} {f} rooms t =
+  pub rooms_rest : {g h : ℕ → Rows} {f₀ f : Filling} → Rooms s places (λ j. rows_then (g j) (h j)) f₀ → Filled s places g f₀ f → Rooms s places h f
+  rooms_rest {g} {h} {f₀} {f} rooms t =
       record { room = λ j lt. room_less (rooms.room j lt) (omega (arith, count_join (g j) (h j), t.rows j lt)) (omega (arith, total_then (g j) (h j), t.spans j lt)) }
 
-  pub ready-after : {g : ℕ → Rows} {f₀ f : Filling} → Ready s places f₀ → Filled s places g f₀ f → Ready s places f
-  ready-after {g} {f₀} {f} r t =
+  pub ready_after : {g : ℕ → Rows} {f₀ f : Filling} → Ready s places f₀ → Filled s places g f₀ f → Ready s places f
+  ready_after {g} {f₀} {f} r t =
       record {
         accepted = r.accepted;
         coded = r.coded;
-        places-sized = r.places-sized;
+        places_sized = r.places_sized;
         rise = r.rise;
         inside = omega (arith, r.inside, t.long);
         short = r.short;
-        rows-sized = t.rows_long ∙ r.rows-sized;
-        spans_sized = t.spans-long ∙ r.spans_sized;
+        rows_sized = t.rows_long ∙ r.rows_sized;
+        spans_sized = t.spans_long ∙ r.spans_sized;
         held = λ k lt. record { rows = rows_then (r.held k lt).rows (g k); holds = t.holds k (r.held k lt).rows lt (r.held k lt).holds };
       }

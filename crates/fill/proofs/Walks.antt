@@ -15,11 +15,11 @@ use Rattle.image.specs.RowBytes.{count}
 use Rattle.image.specs.Parse.{Parsed, failed, parsed, made, and_then, row_then, rows_of, row_of_each, row_in}
 use Rattle.image.specs.Built.{span, gap_row, from_each}
 use Rattle.built.specs.Walk.{own, over_nodes, over_each, deeper, gives, total, the_row, the_rows}
-use Rattle.built.proofs.Parsed.{failed-not, made_back, then_back}
+use Rattle.built.proofs.Parsed.{failed_not, made_back, then_back}
 use Rattle.built.proofs.Walk.{then_none, then_assoc}
 use Rattle.fill.specs.Filling.{Filling, Room, Rooms, Ready, Reads, Getting, Filled, ToWalk, Walked, RowWalk, RowWalked, RowsWalk, RowsWalked, gap_gives}
-use Rattle.fill.proofs.Steps.{filled_none, filled_as, filled_then, rooms_as, rooms-first, rooms-rest, ready-after}
-use Rattle.fill.proofs.Parts.{count-more}
+use Rattle.fill.proofs.Steps.{filled_none, filled_as, filled_then, rooms_as, rooms_first, rooms_rest, ready_after}
+use Rattle.fill.proofs.Parts.{count_more}
 
 -- what was read, by its name
 pub the_row_lem : {p : Parsed Row} {r : Row} {rest : List ℕ} → p ≡ parsed r rest → the_row p ≡ r
@@ -29,10 +29,10 @@ pub the_rows_lem : {p : Parsed Rows} {rs : Rows} {rest : List ℕ} → p ≡ par
 the_rows_lem e = rw e
 
 -- rows of one node as rows of each of some nodes
-rows-each : (row : List ℕ → Parsed Row) (c n : ℕ) (x : List ℕ) → rows_of row n x ≡ row_of_each (λ m. row) c n x
+rows_each : (row : List ℕ → Parsed Row) (c n : ℕ) (x : List ℕ) → rows_of row n x ≡ row_of_each (λ m. row) c n x
 unfolding rows_of row_of_each
-rows-each row c zero x = refl
-rows-each row c (suc n) x = cases (row x) (λ y. rows-each row (suc c) n y)
+rows_each row c zero x = refl
+rows_each row c (suc n) x = cases (row x) (λ y. rows_each row (suc c) n y)
   where
     cases : (p : Parsed Row) → ((y : List ℕ) → rows_of row n y ≡ row_of_each (λ m. row) (suc c) n y) → row_then p (rows_of row n) ≡ row_then p (row_of_each (λ m. row) (suc c) n)
     cases failed same = refl
@@ -99,22 +99,22 @@ module _ {row : ℕ → List ℕ → Parsed Row} {give : ℕ → Row → ℕ →
 
   module _ {f₀ f : Filling} {next i : ℕ} (g : Going row give s places b c n p f₀ f next i) where
     module _ (lt : i < n) where
-      next-read : row_then (row (c + i) (drop next b)) (row_of_each row (c + (i + 1)) (n - (i + 1))) ≡ parsed g.left g.rest
+      next_read : row_then (row (c + i) (drop next b)) (row_of_each row (c + (i + 1)) (n - (i + 1))) ≡ parsed g.left g.rest
       unfolding row_of_each
-      next-read =
+      next_read =
           let a : n - i ≡ suc (n - (i + 1)) = omega arith in
           let d : c + (i + 1) ≡ suc (c + i) = omega arith in
           rw d (rw a at g.reads)
 
       abbrev told : (q : Row) × (qs : Rows) × (mid : List ℕ) × (row (c + i) (drop next b) ≡ parsed q mid) × (row_of_each row (c + (i + 1)) (n - (i + 1)) mid ≡ parsed qs g.rest) × (g.left ≡ more q qs)
-      told = row_then_lem (row (c + i) (drop next b)) (row_of_each row (c + (i + 1)) (n - (i + 1))) g.left g.rest next-read
+      told = row_then_lem (row (c + i) (drop next b)) (row_of_each row (c + (i + 1)) (n - (i + 1))) g.left g.rest next_read
 
       row_is : the_row (row (c + i) (drop next b)) ≡ told.0
       row_is = the_row_lem told.3
 
-      left-rooms : Rooms s places (λ j. rows_then (give (c + i) told.0 j) (over_each (λ m q. give m q j) (c + (i + 1)) told.1)) f
+      left_rooms : Rooms s places (λ j. rows_then (give (c + i) told.0 j) (over_each (λ m q. give m q j) (c + (i + 1)) told.1)) f
       unfolding over_each
-      left-rooms =
+      left_rooms =
           let a : suc (c + i) ≡ c + (i + 1) = omega arith in
           rooms_as g.rooms (λ j lt. ap (over_each (λ m q. give m q j) (c + i)) told.5 ∙ ap (λ (x : ℕ). rows_then (give (c + i) told.0 j) (over_each (λ m q. give m q j) x told.1)) a)
 
@@ -123,7 +123,7 @@ module _ {row : ℕ → List ℕ → Parsed Row} {give : ℕ → Row → ℕ →
           record {
             ready = g.ready;
             reads = record { rest = told.2; is = rw row_is told.3 };
-            rooms = rw row_is (rooms-first (λ j. give (c + i) told.0 j) (λ j. over_each (λ m q. give m q j) (c + (i + 1)) told.1) left-rooms);
+            rooms = rw row_is (rooms_first (λ j. give (c + i) told.0 j) (λ j. over_each (λ m q. give m q j) (c + (i + 1)) told.1) left_rooms);
           }
 
       pub going_more : {f' : Filling} {e : ℕ} → Walked s places b (row (c + i) (drop next b)) (the_row (row (c + i) (drop next b))) (give (c + i) (the_row (row (c + i) (drop next b)))) f f' e → Going row give s places b c n p f₀ f' e (i + 1)
@@ -137,11 +137,11 @@ module _ {row : ℕ → List ℕ → Parsed Row} {give : ℕ → Row → ℕ →
             left = told.1;
             rest = g.rest;
             whole = g.whole ∙ ap (λ (x : Rows). parsed x g.rest) (ap (rows_then g.before) told.5 ∙ sym (then_assoc g.before (one told.0) told.1 ∙ ap (rows_then g.before) (one_then told.0 told.1)));
-            size = count-more g.before told.0 ∙ ap (λ (m : ℕ). m + 1) g.size;
+            size = count_more g.before told.0 ∙ ap (λ (m : ℕ). m + 1) g.size;
             reads = rw (← follows) told.4;
-            ready = ready-after g.ready step;
+            ready = ready_after g.ready step;
             filled = filled_as (filled_then g.filled step) (λ j lt. sym (each_more (λ m q. give m q j) c g.before told.0 ∙ rw g.size));
-            rooms = rooms-rest left-rooms step;
+            rooms = rooms_rest left_rooms step;
           }
 
     pub going_done : n ≤ i → Walked s places b p (the_rows p) (λ j. over_each (λ m q. give m q j) c (the_rows p)) f₀ f next
@@ -159,14 +159,14 @@ module _ {row : ℕ → List ℕ → Parsed Row} {give : ℕ → Row → ℕ →
         }
 
 -- n rows are n
-pub rows-count : (row : List ℕ → Parsed Row) (n : ℕ) (x : List ℕ) (rs : Rows) (rest : List ℕ) → rows_of row n x ≡ parsed rs rest → count rs ≡ n
+pub rows_count : (row : List ℕ → Parsed Row) (n : ℕ) (x : List ℕ) (rs : Rows) (rest : List ℕ) → rows_of row n x ≡ parsed rs rest → count rs ≡ n
 unfolding rows_of count
-rows-count row zero x rs rest e =
+rows_count row zero x rs rest e =
     let empty : rs ≡ none = cc in
     rw empty
-rows-count row (suc n) x rs rest e =
+rows_count row (suc n) x rs rest e =
     let t = row_then_lem (row x) (rows_of row n) rs rest e in
-    rw t.5 (ap suc (rows-count row n t.2 t.1 rest t.4))
+    rw t.5 (ap suc (rows_count row n t.2 t.1 rest t.4))
 
 -- n rows of one node
 pub record RowsLeft (s places b : List ℕ) (d k n at : ℕ) (f₀ f : Filling) (next i : ℕ) : Type 0 where
@@ -178,7 +178,7 @@ module _ {s places b : List ℕ} {d k n at : ℕ} where
   rows_start x =
       record {
         node = x.node;
-        going = going_start at (rows-each (row_in d s k) 0 n (drop at b))
+        going = going_start at (rows_each (row_in d s k) 0 n (drop at b))
             (record { ready = x.walk.ready; reads = x.walk.reads; rooms = rooms_as x.walk.rooms (λ j lt. from_each_lem (λ q. gives d s k q j) 0 (the_rows (rows_of (row_in d s k) n (drop at b)))) });
       }
 
@@ -189,19 +189,19 @@ module _ {s places b : List ℕ} {d k n at : ℕ} where
     pub rows_more : {f' : Filling} {e : ℕ} → i < n → RowWalked s places b d k next f f' e → RowsLeft s places b d k n at f₀ f' e (i + 1)
     rows_more lt w = record { node = g.node; going = going_more g.going lt w.done }
 
-    pub rows-done : n ≤ i → RowsWalked s places b d k n at f₀ f next
-    rows-done le =
+    pub rows_done : n ≤ i → RowsWalked s places b d k n at f₀ f next
+    rows_done le =
         let w = going_done g.going le in
         record { done = record { follows = w.follows; filled = filled_as w.filled (λ j lt. sym (from_each_lem (λ q. gives d s k q j) 0 (the_rows (rows_of (row_in d s k) n (drop at b))))) } }
 
 -- The rows under a null, child by child.
-nodes-more : (h : ℕ → Rows) (c n : ℕ) → over_nodes h c (n + 1) ≡ rows_then (over_nodes h c n) (h (c + n))
+nodes_more : (h : ℕ → Rows) (c n : ℕ) → over_nodes h c (n + 1) ≡ rows_then (over_nodes h c n) (h (c + n))
 unfolding over_nodes rows_then
-nodes-more h c zero = rw (add-zero c) (then_none (h c))
-nodes-more h c (suc n) =
+nodes_more h c zero = rw (add-zero c) (then_none (h c))
+nodes_more h c (suc n) =
     let a : suc n + 1 ≡ suc (n + 1) = omega arith in
     let b : suc c + n ≡ c + suc n = omega arith in
-    rw a (ap (rows_then (h c)) (nodes-more h (suc c) n) ∙ rw b (sym (then_assoc (h c) (over_nodes h (suc c) n) (h (c + suc n)))))
+    rw a (ap (rows_then (h c)) (nodes_more h (suc c) n) ∙ rw b (sym (then_assoc (h c) (over_nodes h (suc c) n) (h (c + suc n)))))
 
 pub record GapsLeft (s places : List ℕ) (d first n : ℕ) (f₀ f : Filling) (i : ℕ) : Type 0 where
   pub few : i ≤ n
@@ -227,15 +227,15 @@ module _ {s places : List ℕ} {d first n : ℕ} where
           rooms_as g.rooms (λ j less. ap (over_nodes (λ c. gap_gives d s c j) (first + i)) m ∙ ap (λ (x : ℕ). rows_then (gap_gives d s (first + i) j) (over_nodes (λ c. gap_gives d s c j) x (n - (i + 1)))) a)
 
       pub gap_rooms : Rooms s places (gap_gives d s (first + i)) f
-      gap_rooms = rooms-first (gap_gives d s (first + i)) (λ j. over_nodes (λ c. gap_gives d s c j) (first + (i + 1)) (n - (i + 1))) gap_split
+      gap_rooms = rooms_first (gap_gives d s (first + i)) (λ j. over_nodes (λ c. gap_gives d s c j) (first + (i + 1)) (n - (i + 1))) gap_split
 
       pub gaps_more : {f' : Filling} → Filled s places (gap_gives d s (first + i)) f f' → GapsLeft s places d first n f₀ f' (i + 1)
       gaps_more t =
           record {
             few = omega arith;
-            ready = ready-after g.ready t;
-            filled = filled_as (filled_then g.filled t) (λ j less. sym (nodes-more (λ c. gap_gives d s c j) first i));
-            rooms = rooms-rest gap_split t;
+            ready = ready_after g.ready t;
+            filled = filled_as (filled_then g.filled t) (λ j less. sym (nodes_more (λ c. gap_gives d s c j) first i));
+            rooms = rooms_rest gap_split t;
           }
 
     pub gaps_done : n ≤ i → Filled s places (λ j. over_nodes (λ c. gap_gives d s c j) first n) f₀ f

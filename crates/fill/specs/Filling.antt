@@ -68,11 +68,11 @@ pub record Held (s places : List ℕ) (f : Filling) (k : ℕ) : Type 0 where
 pub record Ready (s places : List ℕ) (f : Filling) : Type 0 where
   pub accepted : check_image s ≡ Accepted
   pub coded : readable s ≡ true
-  pub places-sized : length places ≡ 769
+  pub places_sized : length places ≡ 769
   pub rise : (q r : ℕ) → q ≤ r → r ≤ 3 * node_count s → get_or places q 0 ≤ get_or places r 0
   pub inside : get_or places (3 * node_count s) 0 ≤ length f.out
   pub short : get_or places (3 * node_count s) 0 ≤ longest_image
-  pub rows-sized : length f.rows ≡ 256
+  pub rows_sized : length f.rows ≡ 256
   pub spans_sized : length f.spans ≡ 256
   pub held : (k : ℕ) → k < node_count s → Held s places f k
 
@@ -90,7 +90,7 @@ pub record Filled (s places : List ℕ) (g : ℕ → Rows) (f₀ f : Filling) : 
   pub outside : (p : ℕ) → (p < get_or places 0 0) ⊎ (get_or places (3 * node_count s) 0 ≤ p) → byte_at f.out p ≡ byte_at f₀.out p
   pub long : length f.out ≡ length f₀.out
   pub rows_long : length f.rows ≡ length f₀.rows
-  pub spans-long : length f.spans ≡ length f₀.spans
+  pub spans_long : length f.spans ≡ length f₀.spans
 
 -- node k has got a row of a Struct that is not null, whatever its child rows; or a list of n rows
 pub record StructFilled (s places : List ℕ) (k : ℕ) (f₀ f : Filling) : Type 0 where
@@ -132,13 +132,13 @@ pub record ToFill (s : List ℕ) (n : ℕ) (b places : List ℕ) (f : Filling) :
   pub coded : readable s ≡ true
   pub read : rows_in s n b ≡ parsed (the_rows (rows_in s n b)) []
   pub few : (k : ℕ) → k < node_count s → count (column s (the_rows (rows_in s n b)) k) ≤ most_elements
-  pub places-sized : length places ≡ 769
+  pub places_sized : length places ≡ 769
   pub place : (q : ℕ) → q ≤ 3 * node_count s → get_or places q 0 ≡ part_start s (the_rows (rows_in s n b)) q
   pub inside : part_start s (the_rows (rows_in s n b)) (3 * node_count s) ≤ length f.out
   pub short : part_start s (the_rows (rows_in s n b)) (3 * node_count s) ≤ longest_image
   pub blank : (p : ℕ) → part_start s (the_rows (rows_in s n b)) 0 ≤ p → p < part_start s (the_rows (rows_in s n b)) (3 * node_count s) → byte_at f.out p ≡ 0
   pub rows_none : f.rows ≡ replicate 256 0
-  pub spans-none : f.spans ≡ replicate 256 0
+  pub spans_none : f.spans ≡ replicate 256 0
 
 -- What a walk over rows of a string asks for: the string is read as x, and each node j has room for the rows g j that x gives it.
 pub record ToWalk {A : Type 0} (s places : List ℕ) (p : Parsed A) (x : A) (g : ℕ → Rows) (f : Filling) : Type 0 where

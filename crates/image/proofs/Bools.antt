@@ -54,11 +54,11 @@ true_when true x h = h refl
 true_when false x h = refl
 
 -- two flags that agree
-pub flags-same : (x y : Bool) → beq x y ≡ true → x ≡ y
-flags-same true true e = refl
-flags-same true false e = cc
-flags-same false true e = cc
-flags-same false false e = refl
+pub flags_same : (x y : Bool) → beq x y ≡ true → x ≡ y
+flags_same true true e = refl
+flags_same true false e = cc
+flags_same false true e = cc
+flags_same false false e = refl
 
 -- two tests that hold together are the same
 pub tests_same : (x y : Bool) → (x ≡ true → y ≡ true) → (y ≡ true → x ≡ true) → x ≡ y

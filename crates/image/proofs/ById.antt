@@ -67,9 +67,9 @@ module _ (s : List ℕ) (f n : ℕ) where
       least id h false q = rw (there id (eqb-false x id q)) (r.high id h)
 
 -- all children have been entered
-pub filled-all : (s : List ℕ) (node f n k : ℕ) (table : List ℕ) → k ≤ 0 → Filled s f n k table → Read (first_child s node) 16 f → Read (child_count s node) 16 n → ById s node table
+pub filled_all : (s : List ℕ) (node f n k : ℕ) (table : List ℕ) → k ≤ 0 → Filled s f n k table → Read (first_child s node) 16 f → Read (child_count s node) 16 n → ById s node table
 unfolding child_with_id
-filled-all s node f n k table le r rf rn =
+filled_all s node f n k table le r rf rn =
     let e : n - k ≡ n = omega arith in
     let x : f + k ≡ f = omega arith in
     record {

@@ -7,6 +7,6 @@ use native.Mathlib.Omega.{arith}
 use Rattle.image.specs.Record.{entry_size, entry_place, first_buffer}
 
 -- entry j of the node's, whose first stands at e
-pub entry-from : (s : List ℕ) (k j : ℕ) {e : ℕ} → e ≡ entry_place s (first_buffer s k) → entry_place s (first_buffer s k + j) ≡ e + j * entry_size
+pub entry_from_lem : (s : List ℕ) (k j : ℕ) {e : ℕ} → e ≡ entry_place s (first_buffer s k) → entry_place s (first_buffer s k + j) ≡ e + j * entry_size
 unfolding entry_place
-entry-from s k j first = omega (arith, first)
+entry_from_lem s k j first = omega (arith, first)

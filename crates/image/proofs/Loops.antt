@@ -17,8 +17,8 @@ pub record Rest {A : Type 0} (F : ℕ → ℕ → A) (i n k : ℕ) : Type 0 wher
   pub same : F i n ≡ F (i + k) (n - k)
 
 module _ {A : Type 0} (F : ℕ → ℕ → A) (i n : ℕ) where
-  pub rest-none : Rest F i n 0
-  rest-none = record { within = omega arith; same = simp (add-zero, sub-zero) }
+  pub rest_none : Rest F i n 0
+  rest_none = record { within = omega arith; same = simp (add-zero, sub-zero) }
 
   ahead : (k : ℕ) → k < n → Rest F i n k → F i n ≡ F (i + k) (suc (n - (k + 1)))
   ahead k lt r =
@@ -57,17 +57,17 @@ unfolding any
 any_empty p i = refl
 
 module _ (p : ℕ → Bool) (i n : ℕ) where
-  pub any-more : (k : ℕ) → k < n → Rest (any p) i n k → p (i + k) ≡ false → Rest (any p) i n (k + 1)
+  pub any_more : (k : ℕ) → k < n → Rest (any p) i n k → p (i + k) ≡ false → Rest (any p) i n (k + 1)
   unfolding any
-  any-more k lt r e = more (any p) i n k lt r (rw e)
+  any_more k lt r e = more (any p) i n k lt r (rw e)
 
   pub any_found : (k : ℕ) → k < n → Rest (any p) i n k → p (i + k) ≡ true → true ≡ any p i n
   unfolding any
   any_found k lt r e = sym (ahead (any p) i n k lt r ∙ rw e)
 
-  pub any-done : (k : ℕ) → n ≤ k → Rest (any p) i n k → false ≡ any p i n
+  pub any_done : (k : ℕ) → n ≤ k → Rest (any p) i n k → false ≡ any p i n
   unfolding any
-  any-done k le r = sym (over (any p) i n k le r)
+  any_done k le r = sym (over (any p) i n k le r)
 
   -- m numbers at once
   jump : (k m : ℕ) → m ≤ n - k → any p (i + k) (n - k) ≡ any p (i + k) m || any p (i + (k + m)) (n - (k + m))
@@ -90,9 +90,9 @@ module _ (p : ℕ → Bool) (i n : ℕ) where
   unfolding every
   every_fails k lt r e = sym (ahead (every p) i n k lt r ∙ rw e)
 
-  pub every-done : (k : ℕ) → n ≤ k → Rest (every p) i n k → true ≡ every p i n
+  pub every_done : (k : ℕ) → n ≤ k → Rest (every p) i n k → true ≡ every p i n
   unfolding every
-  every-done k le r = sym (over (every p) i n k le r)
+  every_done k le r = sym (over (every p) i n k le r)
 
   pub first_more : (k : ℕ) → k < n → Rest (first p) i n k → p (i + k) ≡ false → Rest (first p) i n (k + 1)
   unfolding first
@@ -152,12 +152,12 @@ unfolding any
 any_same p q i zero e = refl
 any_same p q i (suc n) e = rw (e i, any_same p q (suc i) n e)
 
-pub rises-same : (step : ℕ) (f g : ℕ → ℕ) (top least i j n : ℕ) → ((k : ℕ) → f (i + k) ≡ g (j + k)) → rises step f top least i n ≡ rises step g top least j n
+pub rises_same : (step : ℕ) (f g : ℕ → ℕ) (top least i j n : ℕ) → ((k : ℕ) → f (i + k) ≡ g (j + k)) → rises step f top least i n ≡ rises step g top least j n
 unfolding rises
-rises-same step f g top least i j zero e = refl
-rises-same step f g top least i j (suc n) e =
+rises_same step f g top least i j zero e = refl
+rises_same step f g top least i j (suc n) e =
     let h : f i ≡ g j = ap f (sym (add-zero i)) ∙ e 0 ∙ ap g (add-zero j) in
-    rw (h, rises-same step f g top (g j + step) (suc i) (suc j) n (λ k. ap f (shift i k) ∙ e (suc k) ∙ ap g (sym (shift j k))))
+    rw (h, rises_same step f g top (g j + step) (suc i) (suc j) n (λ k. ap f (shift i k) ∙ e (suc k) ∙ ap g (sym (shift j k))))
   where
     shift : (a k : ℕ) → suc a + k ≡ a + suc k
     shift a k = omega arith

@@ -36,9 +36,9 @@ module _ (a b : List ℕ) (k q m n : ℕ) (size : m ≡ name_length a k) where
   unfolding name_of
   name_differs h = sym (other_length a b (name_place a k) q (name_length a k) n (λ e. h (size ∙ e)))
 
-  pub name-bytes : (p : ℕ) → m ≡ n → p ≡ name_place a k → every (same_at a b p q) 0 n ≡ same_bytes (name_of a k) (bytes_at b q n)
+  pub name_bytes : (p : ℕ) → m ≡ n → p ≡ name_place a k → every (same_at a b p q) 0 n ≡ same_bytes (name_of a k) (bytes_at b q n)
   unfolding name_of
-  name-bytes p e ep =
+  name_bytes p e ep =
       let x : p + 0 ≡ name_place a k = omega (arith, ep) in
       let y : q + 0 ≡ q = omega arith in
       by_bytes a b p q 0 n ∙ ap₂ same_bytes (ap₂ (bytes_at a) x (sym e ∙ size)) (ap (λ (j : ℕ). bytes_at b j n) y)

@@ -70,9 +70,9 @@ fits_word w k x le pos lt =
     let h : 2 ^ (8 * (w - k)) ≤ 2 ^ 56 = pow-le-pow_right {n = 2} (lit< tt) {i = 8 * (w - k)} {j = 56} (omega arith) in
     omega arith
 
-pub number-two : (s : List ℕ) (i : ℕ) → number_at 2 s i ≡ byte_at s i + 256 * byte_at s (i + 1)
+pub number_two : (s : List ℕ) (i : ℕ) → number_at 2 s i ≡ byte_at s i + 256 * byte_at s (i + 1)
 unfolding number_at
-number-two s i = rw (add-one i) (omega arith)
+number_two s i = rw (add-one i) (omega arith)
 
 pub number_four : (s : List ℕ) (i : ℕ) → number_at 4 s i ≡ byte_at s i + 256 * byte_at s (i + 1) + 65536 * byte_at s (i + 2) + 16777216 * byte_at s (i + 3)
 unfolding number_at
@@ -100,9 +100,9 @@ unfolding is_width
 width_some zero e = absurd (true≢false (sym e))
 width_some (suc w) e = omega arith
 
-pub width-most : (w : ℕ) → is_width w ≡ true → w ≤ 8
+pub width_most : (w : ℕ) → is_width w ≡ true → w ≤ 8
 unfolding is_width
-width-most w e = cases (leb w 8) refl
+width_most w e = cases (leb w 8) refl
   where
     cases : (b : Bool) → leb w 8 ≡ b → w ≤ 8
     cases true le = leb-true w 8 le
@@ -112,8 +112,8 @@ width-most w e = cases (leb w 8) refl
         absurd (true≢false (sym none))
 
 -- numbers that lie side by side inside n bytes: there are at most n, fewer lie inside too, and so does each of them
-pub packed-few : {n place w count : ℕ} → Packed n place w count → count ≤ n
-packed-few {n} {place} {w} {count} p =
+pub packed_few : {n place w count : ℕ} → Packed n place w count → count ≤ n
+packed_few {n} {place} {w} {count} p =
     let h : count * 1 ≤ count * w = mul-le-mul (le_refl count) (width_some w p.width) in
     omega (arith, p.inside)
 
@@ -123,14 +123,14 @@ packed_fewer {n} {place} {w} {count} m le p =
     record { width = p.width; inside = omega (arith, p.inside) }
 
 -- those past the first o stand from o widths further on
-pub packed-from : {n place w count : ℕ} (o m : ℕ) → o + m ≤ count → Packed n place w count → Packed n (place + o * w) w m
-packed-from {n} {place} {w} {count} o m le p =
+pub packed_from : {n place w count : ℕ} (o m : ℕ) → o + m ≤ count → Packed n place w count → Packed n (place + o * w) w m
+packed_from {n} {place} {w} {count} o m le p =
     let h : (o + m) * w ≤ count * w = mul-le-mul le (le_refl w) in
     let e : (o + m) * w ≡ o * w + m * w = add-mul o m w in
     record { width = p.width; inside = omega (arith, p.inside) }
 
-pub packed-last : {n place w : ℕ} (j : ℕ) → Packed n place w (j + 1) → place + j * w + w ≤ n
-packed-last {n} {place} {w} j p =
+pub packed_last : {n place w : ℕ} (j : ℕ) → Packed n place w (j + 1) → place + j * w + w ≤ n
+packed_last {n} {place} {w} j p =
     let h : (j + 1) * w ≡ j * w + w = rw (add-one j) (suc-mul j w) in
     omega (arith, p.inside)
 

@@ -34,11 +34,11 @@ any_none p i zero h = refl
 any_none p i (suc n) h = rw (h i (omega arith) (omega arith), any_none p (suc i) n (λ k le lt. h k (omega arith) (omega arith)))
 
 -- each but one fails: that one says whether any passes
-pub any-only : (p : ℕ → Bool) (i n j : ℕ) → i ≤ j → j < i + n → ((k : ℕ) → i ≤ k → k < i + n → (k ≡ j → ⊥) → p k ≡ false) → any p i n ≡ p j
+pub any_only : (p : ℕ → Bool) (i n j : ℕ) → i ≤ j → j < i + n → ((k : ℕ) → i ≤ k → k < i + n → (k ≡ j → ⊥) → p k ≡ false) → any p i n ≡ p j
 unfolding any
-any-only p i zero j le lt h = absurd (omega arith)
-any-only p i (suc n) j le lt h =
-    cases (eq-or-lt_of_le le) (λ past. any-only p (suc i) n j past (omega arith) (λ k later end ne. h k (omega arith) (omega arith) ne))
+any_only p i zero j le lt h = absurd (omega arith)
+any_only p i (suc n) j le lt h =
+    cases (eq-or-lt_of_le le) (λ past. any_only p (suc i) n j past (omega arith) (λ k later end ne. h k (omega arith) (omega arith) ne))
   where
     cases : (i ≡ j) ⊎ (i < j) → (i < j → any p (suc i) n ≡ p j) → p i || any p (suc i) n ≡ p j
     cases (inl e) f =
@@ -53,56 +53,56 @@ every_at p i (suc n) e k le lt =
     from_here (λ k. p k ≡ true) i (and_left _ _ e) k le (λ later. every_at p (suc i) n (and_right (p i) _ e) k later (omega arith))
 
 -- each passes: all pass
-pub every-by : (p : ℕ → Bool) (i n : ℕ) → ((k : ℕ) → i ≤ k → k < i + n → p k ≡ true) → every p i n ≡ true
+pub every_by : (p : ℕ → Bool) (i n : ℕ) → ((k : ℕ) → i ≤ k → k < i + n → p k ≡ true) → every p i n ≡ true
 unfolding every
-every-by p i zero h = refl
-every-by p i (suc n) h = and_true (p i) _ (h i (omega arith) (omega arith)) (every-by p (suc i) n (λ k le lt. h k (omega arith) (omega arith)))
+every_by p i zero h = refl
+every_by p i (suc n) h = and_true (p i) _ (h i (omega arith) (omega arith)) (every_by p (suc i) n (λ k le lt. h k (omega arith) (omega arith)))
 
 -- over the numbers below n
-pub every-below : (p : ℕ → Bool) (n : ℕ) → every p 0 n ≡ true → (k : ℕ) → k < n → p k ≡ true
-every-below p n e k lt = every_at p 0 n e k (omega arith) (omega arith)
+pub every_below : (p : ℕ → Bool) (n : ℕ) → every p 0 n ≡ true → (k : ℕ) → k < n → p k ≡ true
+every_below p n e k lt = every_at p 0 n e k (omega arith) (omega arith)
 
 pub every_of_below : (p : ℕ → Bool) (n : ℕ) → ((k : ℕ) → k < n → p k ≡ true) → every p 0 n ≡ true
-every_of_below p n h = every-by p 0 n (λ k le lt. h k (omega arith))
+every_of_below p n h = every_by p 0 n (λ k le lt. h k (omega arith))
 
 pub any_below : (p : ℕ → Bool) (n : ℕ) → any p 0 n ≡ false → (k : ℕ) → k < n → p k ≡ false
 any_below p n e k lt = any_false p 0 n e k (omega arith) (omega arith)
 
 -- the first that passes lies in the range or at its end, passes if it is below the end, and all before it fail
 module _ (p : ℕ → Bool) where
-  first-cases : (i n : ℕ) (b : Bool) → p i ≡ b → (P : ℕ → Type 0) → (p i ≡ true → P i) → (p i ≡ false → P (first p (suc i) n)) → P (cond b i (first p (suc i) n))
-  first-cases i n true e P here later = here e
-  first-cases i n false e P here later = later e
+  first_cases : (i n : ℕ) (b : Bool) → p i ≡ b → (P : ℕ → Type 0) → (p i ≡ true → P i) → (p i ≡ false → P (first p (suc i) n)) → P (cond b i (first p (suc i) n))
+  first_cases i n true e P here later = here e
+  first_cases i n false e P here later = later e
 
-  pub first-from : (i n : ℕ) → i ≤ first p i n
+  pub first_from : (i n : ℕ) → i ≤ first p i n
   unfolding first
-  first-from i zero = le_refl i
-  first-from i (suc n) =
-      let h : suc i ≤ first p (suc i) n = first-from (suc i) n in
-      first-cases i n (p i) refl (λ x. i ≤ x) (λ e. le_refl i) (λ e. omega arith)
+  first_from i zero = le_refl i
+  first_from i (suc n) =
+      let h : suc i ≤ first p (suc i) n = first_from (suc i) n in
+      first_cases i n (p i) refl (λ x. i ≤ x) (λ e. le_refl i) (λ e. omega arith)
 
-  pub first-within : (i n : ℕ) → first p i n ≤ i + n
+  pub first_within : (i n : ℕ) → first p i n ≤ i + n
   unfolding first
-  first-within i zero = omega arith
-  first-within i (suc n) =
-      let h : first p (suc i) n ≤ suc i + n = first-within (suc i) n in
-      first-cases i n (p i) refl (λ x. x ≤ i + suc n) (λ e. omega arith) (λ e. omega arith)
+  first_within i zero = omega arith
+  first_within i (suc n) =
+      let h : first p (suc i) n ≤ suc i + n = first_within (suc i) n in
+      first_cases i n (p i) refl (λ x. x ≤ i + suc n) (λ e. omega arith) (λ e. omega arith)
 
   pub first_passes : (i n : ℕ) → first p i n < i + n → p (first p i n) ≡ true
   unfolding first
   first_passes i zero lt = absurd (omega arith)
   first_passes i (suc n) lt =
-      first-cases i n (p i) refl (λ x. x < i + suc n → p x ≡ true) (λ e l. e) (λ e l. first_passes (suc i) n (omega arith)) lt
+      first_cases i n (p i) refl (λ x. x < i + suc n → p x ≡ true) (λ e l. e) (λ e l. first_passes (suc i) n (omega arith)) lt
 
-  pub first-before : (i n k : ℕ) → i ≤ k → k < first p i n → p k ≡ false
+  pub first_before : (i n k : ℕ) → i ≤ k → k < first p i n → p k ≡ false
   unfolding first
-  first-before i zero k le lt = absurd (omega arith)
-  first-before i (suc n) k le lt =
-      first-cases i n (p i) refl (λ x. k < x → p k ≡ false) (λ e l. absurd (omega arith))
-      (λ e l. from_here (λ k. p k ≡ false) i e k le (λ later. first-before (suc i) n k later l)) lt
+  first_before i zero k le lt = absurd (omega arith)
+  first_before i (suc n) k le lt =
+      first_cases i n (p i) refl (λ x. k < x → p k ≡ false) (λ e l. absurd (omega arith))
+      (λ e l. from_here (λ k. p k ≡ false) i e k le (λ later. first_before (suc i) n k later l)) lt
 
   pub first_at_most : (i n k : ℕ) → i ≤ k → p k ≡ true → first p i n ≤ k
-  first_at_most i n k le passes = le_of_suc-le-suc (lt_of_not-le (λ past. differ (first-before i n k le past)))
+  first_at_most i n k le passes = le_of_suc-le-suc (lt_of_not-le (λ past. differ (first_before i n k le past)))
     where
       differ : p k ≡ false → ⊥
       differ fails =

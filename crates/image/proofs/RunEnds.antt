@@ -14,8 +14,8 @@ use Rattle.image.specs.Reads.{Read, Nth, Ends}
 use Rattle.image.proofs.Widths.{integer_width_lem, integer_width_least}
 
 -- where run ends start, as it is read
-pub ends-small : (c : ℕ) {x y p o w : ℕ} → Read x 32 p → Read y 32 o → w ≡ integer_width c → p + o * w < 2 ^ 40
-ends-small c {x} {y} {p} {o} {w} ep eo ew =
+pub ends_small : (c : ℕ) {x y p o w : ℕ} → Read x 32 p → Read y 32 o → w ≡ integer_width c → p + o * w < 2 ^ 40
+ends_small c {x} {y} {p} {o} {w} ep eo ew =
     let narrow : w ≤ 8 = rw ew (integer_width_lem c) in
     let most : o * w ≤ o * 8 = mul-le-mul_left o narrow in
     omega (arith, ep.small, eo.small)
@@ -28,7 +28,7 @@ ends_read s k v {e} {c} ee ec ew ep eo at = record {
   place = rw (← ee.value, ← ep.value, ← eo.value) at;
   some = rw ew (integer_width_least c);
   narrow = rw ew (integer_width_lem c);
-  near = rw at (ends-small c ep eo ew);
+  near = rw at (ends_small c ep eo ew);
 }
 
 -- a run end, as it is read

@@ -17,7 +17,7 @@ use Rattle.image.specs.Ranges.{every}
 use Rattle.image.specs.Reads.{is_width}
 use Rattle.image.specs.TypeCode.{Entry, entry, entries, entry_of, layout_of, integer_width, width_of}
 use Rattle.image.proofs.Bools.{when_true, and_left, and_right, facts}
-use Rattle.image.proofs.Ranges.{every-below}
+use Rattle.image.proofs.Ranges.{every_below}
 
 -- past the table a code's layout is Null
 unknown_code : (code : ℕ) → 43 < code → layout_of code ≡ Null
@@ -27,8 +27,8 @@ unknown_code code lt =
     ap (λ (e : Entry). e.layout) (get_or-eq_default entries (entry Null 0 0 0) {n = code} h)
 
 -- another layout than Null, and its code is in the table
-pub known-code : (l : Layout) → eqb (tag_of the_type l) 0 ≡ false → (code : ℕ) → layout_of code ≡ l → code ≤ 43
-known-code l other code e =
+pub known_code : (l : Layout) → eqb (tag_of the_type l) 0 ≡ false → (code : ℕ) → layout_of code ≡ l → code ≤ 43
+known_code l other code e =
     let h : code < 44 = lt_of_not-le {n = 44} {m = code} (λ le. eqb-false (tag_of the_type l) 0 other (ap (tag_of the_type) (sym e ∙ unknown_code code le))) in
     omega arith
 
@@ -38,13 +38,13 @@ codes_of l p = not (eqb (tag_of the_type l) 0) && every (λ c. not (eqb (tag_of 
 
 pub code_passes : (l : Layout) (p : ℕ → Bool) → codes_of l p ≡ true → (code : ℕ) → layout_of code ≡ l → p code ≡ true
 code_passes l p all code e =
-    let le : code ≤ 43 = known-code l (not-true _ (and_left _ _ all)) code e in
-    when_true (eqb (tag_of the_type (layout_of code)) (tag_of the_type l)) (p code) (every-below _ 44 (and_right (not (eqb (tag_of the_type l) 0)) _ all) code (omega arith))
+    let le : code ≤ 43 = known_code l (not-true _ (and_left _ _ all)) code e in
+    when_true (eqb (tag_of the_type (layout_of code)) (tag_of the_type l)) (p code) (every_below _ 44 (and_right (not (eqb (tag_of the_type l) 0)) _ all) code (omega arith))
     (eq-eqb _ _ (ap (tag_of the_type) e))
 
-pub dictionary-code : (code : ℕ) → layout_of code ≡ Dictionary → code ≡ 41
+pub dictionary_code : (code : ℕ) → layout_of code ≡ Dictionary → code ≡ 41
 unfolding every layout_of entry_of entries
-dictionary-code code e = eqb-true code 41 (code_passes Dictionary (λ c. eqb c 41) refl code e)
+dictionary_code code e = eqb-true code 41 (code_passes Dictionary (λ c. eqb c 41) refl code e)
 
 -- only the width of FixedSizeBinary and of a Dictionary's keys is p1's
 width_of_code : (code p q : ℕ) → code ≢ 30 → code ≢ 41 → width_of code p ≡ width_of code q
@@ -55,30 +55,30 @@ width_of_code code p q a b = rw (ne_eqb code 30 a, ne_eqb code 41 b)
 abbrev pub own_width : (ℕ → Bool) → ℕ → Bool
 own_width q c = not (eqb c 30) && not (eqb c 41) && q (width_of c 0)
 
-pub own-width : (q : ℕ → Bool) (code p1 : ℕ) → own_width q code ≡ true → q (width_of code p1) ≡ true
-own-width q code p1 e =
+pub own_width_lem : (q : ℕ → Bool) (code p1 : ℕ) → own_width q code ≡ true → q (width_of code p1) ≡ true
+own_width_lem q code p1 e =
     let h = simp facts at e in
     rw (width_of_code code p1 0 h.0.0 h.0.1) h.1
 
 -- offsets and sizes have at most 8 bytes
 narrow : (l : Layout) → codes_of l (own_width (λ w. leb w 8)) ≡ true → (code p1 : ℕ) → layout_of code ≡ l → width_of code p1 ≤ 8
-narrow l all code p1 e = leb-true _ _ (own-width (λ w. leb w 8) code p1 (code_passes l _ all code e))
+narrow l all code p1 e = leb-true _ _ (own_width_lem (λ w. leb w 8) code p1 (code_passes l _ all code e))
 
 pub variable_width : (code p1 : ℕ) → layout_of code ≡ VariableSize → width_of code p1 ≤ 8
 unfolding every layout_of entry_of entries width_of
 variable_width = narrow VariableSize refl
 
-pub list-width : (code p1 : ℕ) → layout_of code ≡ Lists → width_of code p1 ≤ 8
+pub list_width : (code p1 : ℕ) → layout_of code ≡ Lists → width_of code p1 ≤ 8
 unfolding every layout_of entry_of entries width_of
-list-width = narrow Lists refl
+list_width = narrow Lists refl
 
-pub list_view-width : (code p1 : ℕ) → layout_of code ≡ ListView → width_of code p1 ≤ 8
+pub list_view_width : (code p1 : ℕ) → layout_of code ≡ ListView → width_of code p1 ≤ 8
 unfolding every layout_of entry_of entries width_of
-list_view-width = narrow ListView refl
+list_view_width = narrow ListView refl
 
-pub view-width : (code p1 : ℕ) → layout_of code ≡ View → width_of code p1 ≡ 16
+pub view_width : (code p1 : ℕ) → layout_of code ≡ View → width_of code p1 ≡ 16
 unfolding every layout_of entry_of entries width_of
-view-width code p1 e = eqb-true _ _ (own-width (λ w. eqb w 16) code p1 (code_passes View (own_width (λ w. eqb w 16)) refl code e))
+view_width code p1 e = eqb-true _ _ (own_width_lem (λ w. eqb w 16) code p1 (code_passes View (own_width (λ w. eqb w 16)) refl code e))
 
 -- integers have at most 8 bytes, and so have keys
 either : (b : Bool) (x y n : ℕ) → x ≤ n → y ≤ n → cond b x y ≤ n
@@ -91,9 +91,9 @@ integer_width_lem code =
     either (eqb code 2 || eqb code 6) _ _ 8 (lit≤ tt)
     (either (eqb code 3 || eqb code 7) _ _ 8 (lit≤ tt) (either (eqb code 4 || eqb code 8) _ _ 8 (lit≤ tt) (lit≤ tt)))
 
-pub key-width : (code p1 : ℕ) → layout_of code ≡ Dictionary → width_of code p1 ≤ 8
+pub key_width : (code p1 : ℕ) → layout_of code ≡ Dictionary → width_of code p1 ≤ 8
 unfolding width_of
-key-width code p1 e = rw (dictionary-code code e) (integer_width_lem p1)
+key_width code p1 e = rw (dictionary_code code e) (integer_width_lem p1)
 
 -- and at least one
 at_least : (b : Bool) (x y n : ℕ) → n ≤ x → n ≤ y → n ≤ cond b x y

@@ -27,9 +27,9 @@ at_alike (suc d) p a b k l e =
     (heads d p a b k l here, λ c lt. at_alike d _ a b (first_child a k + c) (first_child b l + c) (here.types c lt))
 
 -- images whose types agree
-pub types-alike : (a b : List ℕ) → types_agree a b ≡ true → Alike max_depth a b 0 0
+pub types_alike : (a b : List ℕ) → types_agree a b ≡ true → Alike max_depth a b 0 0
 unfolding types_agree
-types-alike a b e = at_alike max_depth false a b 0 0 e
+types_alike a b e = at_alike max_depth false a b 0 0 e
 
 -- nodes of one code and p1 have elements of one width
 pub same_width : (a b : List ℕ) (k l : ℕ) → code_of a k ≡ code_of b l → p1_of a k ≡ p1_of b l → element_width a k ≡ element_width b l

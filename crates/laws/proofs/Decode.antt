@@ -15,7 +15,7 @@ use Rattle.image.specs.Row.{Row, Rows, null, fixed, sized, joined, counted, tagg
 use Rattle.image.specs.RowBytes.{count, row_bytes, rows_bytes}
 use Rattle.image.proofs.Bools.{and_left, and_right}
 use Rattle.laws.specs.Shape.{Shape, Shapes, bytes, text, in_turn, many, one_of, end, shape, shape_with, fits, fit_each, fit_all}
-use Rattle.laws.proofs.Lengths.{number-length}
+use Rattle.laws.proofs.Lengths.{number_length}
 
 -- the number that is read back from its bytes
 pub behind_first : (w b i : ℕ) (s : List ℕ) → number_at w (b ∷ s) (suc i) ≡ number_at w s i
@@ -102,24 +102,24 @@ named_by (shape i h hs) id s = cases (eqb i id) (named_by hs id s)
     cases true e = refl
     cases false e = e
 
-null-read : (h : Shape) (x : List ℕ) → read_row h (0 ∷ x) ≡ (null, x)
+null_read : (h : Shape) (x : List ℕ) → read_row h (0 ∷ x) ≡ (null, x)
 unfolding read_row
-null-read (bytes n) x = refl
-null-read text x = refl
-null-read (in_turn hs) x = refl
-null-read (many h) x = refl
-null-read (one_of hs) x = refl
+null_read (bytes n) x = refl
+null_read text x = refl
+null_read (in_turn hs) x = refl
+null_read (many h) x = refl
+null_read (one_of hs) x = refl
 
 bytes_read : (b x : List ℕ) (n : ℕ) → length b ≡ n → read_bytes n (b ++ x) ≡ (fixed b, x)
 bytes_read b x n e = rw (take_at b x n e, drop_at b x n e)
 
-text-read : (b x : List ℕ) → read_text (length b) (b ++ x) ≡ (sized b, x)
-text-read b x = rw (take_at b x (length b) refl, drop_at b x (length b) refl)
+text_read : (b x : List ℕ) → read_text (length b) (b ++ x) ≡ (sized b, x)
+text_read b x = rw (take_at b x (length b) refl, drop_at b x (length b) refl)
 
 number_read : {A : Type 0} (f : ℕ → List ℕ → A) (n : ℕ) (b x : List ℕ) → ltb n 4294967296 ≡ true → behind_number f (number_bytes 4 n ++ b ++ x) ≡ f n (b ++ x)
 number_read f n b x lt =
     let small : n < 256 ^ 4 = ltb-true n 4294967296 lt in
-    rw (append_assoc (number_bytes 4 n) b x, number_back 4 n (b ++ x) small, drop_at (number_bytes 4 n) (b ++ x) 4 (number-length 4 n))
+    rw (append_assoc (number_bytes 4 n) b x, number_back 4 n (b ++ x) small, drop_at (number_bytes 4 n) (b ++ x) 4 (number_length 4 n))
 
 -- a row is read, and then the rows behind it
 then_read : (f : List ℕ → Got) (g : List ℕ → GotAll) (r : Row) (rs : Rows) (b c x : List ℕ) → f (b ++ (c ++ x)) ≡ (r, c ++ x) → g (c ++ x) ≡ (rs, x) → and_then (f (b ++ c ++ x)) g ≡ (more r rs, x)
@@ -130,14 +130,14 @@ mutual
 
   -- a row of the shape is read back
   row_read : (r : Row) (h : Shape) (x : List ℕ) → fits r h ≡ true → read_row h (row_bytes r ++ x) ≡ (r, x)
-  row_read null h x e = null-read h x
+  row_read null h x e = null_read h x
   row_read (fixed b) (bytes n) x e = bytes_read b x n (eqb-true _ _ e)
   row_read (fixed b) text x e = cc
   row_read (fixed b) (in_turn hs) x e = cc
   row_read (fixed b) (many h) x e = cc
   row_read (fixed b) (one_of hs) x e = cc
   row_read (sized b) (bytes n) x e = cc
-  row_read (sized b) text x e = number_read read_text (length b) b x e ∙ text-read b x
+  row_read (sized b) text x e = number_read read_text (length b) b x e ∙ text_read b x
   row_read (sized b) (in_turn hs) x e = cc
   row_read (sized b) (many h) x e = cc
   row_read (sized b) (one_of hs) x e = cc

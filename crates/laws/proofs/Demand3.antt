@@ -13,40 +13,40 @@ use Rattle.image.specs.Equality.{ranges_equal}
 use Rattle.laws.specs.Accepted.{AcceptedImage}
 use Rattle.laws.specs.Shape.{fit_all, shape_of}
 use Rattle.laws.specs.Demand3.{WrittenRanges, ProperPrefix}
-use Rattle.laws.proofs.Sound.{rows_equal-is}
+use Rattle.laws.proofs.Sound.{rows_equal_is}
 use Rattle.laws.proofs.Accepted.{accepted}
-use Rattle.laws.proofs.Alike.{types-alike}
+use Rattle.laws.proofs.Alike.{types_alike}
 use Rattle.laws.proofs.Decode.{rows_back}
-use Rattle.laws.proofs.Lengths.{table-count}
-use Rattle.laws.proofs.Stored.{range-fits, stored-fits}
-use Rattle.laws.proofs.OneShape.{one-shape}
+use Rattle.laws.proofs.Lengths.{table_count}
+use Rattle.laws.proofs.Stored.{range_fits, stored_fits}
+use Rattle.laws.proofs.OneShape.{one_shape}
 
 -- the rows of a table have its root's shape
 table_fits : (s : List ℕ) (i n : ℕ) → AcceptedImage s → i + n ≤ length_of s 0 → fit_all (table_rows s i n) (shape_of max_depth s 0) ≡ true
 unfolding table_rows
 table_fits s i n image within =
-    range-fits (row_at max_depth s 0) (shape_of max_depth s 0) i n (λ c from end. stored-fits max_depth s 0 c image (omega (arith, image.tables.some-nodes)) (omega arith))
+    range_fits (row_at max_depth s 0) (shape_of max_depth s 0) i n (λ c from end. stored_fits max_depth s 0 c image (omega (arith, image.tables.some_nodes)) (omega arith))
 
 module _ (s t : List ℕ) (i j n : ℕ) (w : WrittenRanges s t i j n) where
-  root-shape : shape_of max_depth s 0 ≡ shape_of max_depth t 0
-  root-shape =
+  root_shape : shape_of max_depth s 0 ≡ shape_of max_depth t 0
+  root_shape =
       let image = accepted s w.left in
-      one-shape max_depth s t 0 0 image (omega (arith, image.tables.some-nodes)) (types-alike s t w.types)
+      one_shape max_depth s t 0 0 image (omega (arith, image.tables.some_nodes)) (types_alike s t w.types)
 
   -- what begins with both outputs holds the same rows, and goes on in the same way
   ranges_back : (x y : List ℕ) → range_bytes s i n ++ x ≡ range_bytes t j n ++ y → (table_rows s i n ≡ table_rows t j n) × (x ≡ y)
   unfolding range_bytes
   ranges_back x y e =
       rows_back (table_rows s i n) (table_rows t j n) (shape_of max_depth s 0) x y
-      (table_fits s i n (accepted s w.left) w.left-rows)
-      (rw root-shape (table_fits t j n (accepted t w.right) w.right-rows))
-      (table-count s i n ∙ sym (table-count t j n)) e
+      (table_fits s i n (accepted s w.left) w.left_rows)
+      (rw root_shape (table_fits t j n (accepted t w.right) w.right_rows))
+      (table_count s i n ∙ sym (table_count t j n)) e
 
   -- the same bytes exactly when the ranges are equal
   pub same_bytes_lem : (range_bytes s i n ≡ range_bytes t j n) ↔ (ranges_equal s t i j n ≡ true)
   unfolding range_bytes ranges_equal
   same_bytes_lem =
-      (λ e. (rows_equal-is _ _).1 (ranges_back [] [] (ap (λ (b : List ℕ). b ++ []) e)).0, λ e. ap rows_bytes ((rows_equal-is _ _).0 e))
+      (λ e. (rows_equal_is _ _).1 (ranges_back [] [] (ap (λ (b : List ℕ). b ++ []) e)).0, λ e. ap rows_bytes ((rows_equal_is _ _).0 e))
 
   -- neither output a proper prefix of the other
   pub no_proper_prefix : ¬ ProperPrefix (range_bytes s i n) (range_bytes t j n) × ¬ ProperPrefix (range_bytes t j n) (range_bytes s i n)

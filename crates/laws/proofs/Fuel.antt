@@ -16,20 +16,20 @@ use Rattle.image.specs.TypeCode.{layout_of, child_rule}
 use Rattle.image.specs.Element.{valid, type_id_at, dense_offset_at, child_end, child_with_id, has_id, run_at}
 use Rattle.image.specs.Faults.{level_end}
 use Rattle.image.specs.Row.{Row, range, joined, counted, tagged, null, one, list_row, list_view_row, fixed_list_row, struct_row, union_row, dense_row, sparse_row, dictionary_row, run_row, value_at, masked, row_at, table_rows}
-use Rattle.image.proofs.Ranges.{sum_grows, first-from, range_same}
+use Rattle.image.proofs.Ranges.{sum_grows, first_from, range_same}
 use Rattle.laws.specs.Accepted.{AcceptedImage}
 
 -- The value at an element looks only at rows of children: two ways to find child rows that agree on the children of k
 -- give the same value.
 module _ (g h : ℕ → ℕ → Row) (s : List ℕ) (k : ℕ) (same : (c i : ℕ) → first_child s k ≤ c → c < child_end s k → g c i ≡ h c i) where
   -- rows of the first child, where there is one
-  first-same : 0 < child_count s k → (i : ℕ) → g (first_child s k) i ≡ h (first_child s k) i
+  first_same : 0 < child_count s k → (i : ℕ) → g (first_child s k) i ≡ h (first_child s k) i
   unfolding child_end
-  first-same some i = same (first_child s k) i (omega arith) (omega arith)
+  first_same some i = same (first_child s k) i (omega arith) (omega arith)
 
   -- rows of a range of the first child
   first_range : 0 < child_count s k → (i n : ℕ) → range (g (first_child s k)) i n ≡ range (h (first_child s k)) i n
-  first_range some i n = range_same _ _ i n (λ j le lt. first-same some j)
+  first_range some i n = range_same _ _ i n (λ j le lt. first_same some j)
 
   -- the row of the child with an id, or null where there is none
   union_same : (id i : ℕ) → union_row g s k id i ≡ union_row h s k id i
@@ -38,7 +38,7 @@ module _ (g h : ℕ → ℕ → Row) (s : List ℕ) (k : ℕ) (same : (c i : ℕ
     where
       cases : (b : Bool) → ltb (child_with_id s k id) (child_end s k) ≡ b
           → cond b (tagged id (g (child_with_id s k id) i)) null ≡ cond b (tagged id (h (child_with_id s k id) i)) null
-      cases true e = ap (tagged id) (same (child_with_id s k id) i (first-from (has_id s id) (first_child s k) (child_count s k)) (ltb-true _ _ e))
+      cases true e = ap (tagged id) (same (child_with_id s k id) i (first_from (has_id s id) (first_child s k) (child_count s k)) (ltb-true _ _ e))
       cases false e = refl
 
   value_same : (l : Layout) → ((n : ℕ) → child_rule l ≡ Exactly n → child_count s k ≡ n) → (j : ℕ) → value_at l g s k j ≡ value_at l h s k j
@@ -54,7 +54,7 @@ module _ (g h : ℕ → ℕ → Row) (s : List ℕ) (k : ℕ) (same : (c i : ℕ
   value_same Struct exactly j = ap joined (range_same (λ c. g c j) (λ c. h c j) _ _ (λ c le lt. same c j le lt))
   value_same DenseUnion exactly j = union_same (type_id_at s k j) (dense_offset_at s k j)
   value_same SparseUnion exactly j = union_same (type_id_at s k j) j
-  value_same Dictionary exactly j = ap (λ r. joined (one r)) (first-same (omega (arith, exactly 1 refl)) _)
+  value_same Dictionary exactly j = ap (λ r. joined (one r)) (first_same (omega (arith, exactly 1 refl)) _)
   value_same Runs exactly j = ap (λ r. joined (one r)) (same (first_child s k + 1) (run_at s k j) (omega arith) (omega (arith, exactly 2 refl)))
 
 -- the children of a node past a level lie past the next
@@ -80,10 +80,10 @@ module _ (s : List ℕ) (a : AcceptedImage s) where
       rw plus (ap (masked (valid s k i)) (value_same (row_at (f + m) s) (row_at f s) s k below (layout_of (code_of s k)) t.exactly (offset_of s k + i)))
 
 -- an accepted image never runs out of depth
-pub row-deeper : (s : List ℕ) → AcceptedImage s → (m i : ℕ) → row_at (max_depth + m) s 0 i ≡ row_at max_depth s 0 i
+pub row_deeper : (s : List ℕ) → AcceptedImage s → (m i : ℕ) → row_at (max_depth + m) s 0 i ≡ row_at max_depth s 0 i
 unfolding level_end
-row-deeper s a m i = depth_enough s a max_depth 0 (omega arith) 0 (omega arith) (omega (arith, a.tables.some-nodes)) m i
+row_deeper s a m i = depth_enough s a max_depth 0 (omega arith) 0 (omega arith) (omega (arith, a.tables.some_nodes)) m i
 
-pub rows-deeper : (s : List ℕ) → AcceptedImage s → (m i n : ℕ) → range (row_at (max_depth + m) s 0) i n ≡ table_rows s i n
+pub rows_deeper : (s : List ℕ) → AcceptedImage s → (m i n : ℕ) → range (row_at (max_depth + m) s 0) i n ≡ table_rows s i n
 unfolding table_rows
-rows-deeper s a m i n = range_same (row_at (max_depth + m) s 0) (row_at max_depth s 0) i n (λ j le lt. row-deeper s a m j)
+rows_deeper s a m i n = range_same (row_at (max_depth + m) s 0) (row_at max_depth s 0) i n (λ j le lt. row_deeper s a m j)

@@ -9,22 +9,22 @@ use Rattle.image.specs.Record.{max_depth}
 use Rattle.image.specs.Row.{Row, range, row_at, table_rows}
 use Rattle.image.specs.RowBytes.{count}
 
-pub number-length : (w x : ℕ) → length (number_bytes w x) ≡ w
+pub number_length : (w x : ℕ) → length (number_bytes w x) ≡ w
 unfolding number_bytes
-number-length zero x = refl
-number-length (suc w) x = ap suc (number-length w (x / 256))
+number_length zero x = refl
+number_length (suc w) x = ap suc (number_length w (x / 256))
 
-pub bytes-length : (s : List ℕ) (i n : ℕ) → length (bytes_at s i n) ≡ n
+pub bytes_length : (s : List ℕ) (i n : ℕ) → length (bytes_at s i n) ≡ n
 unfolding bytes_at
-bytes-length s i zero = refl
-bytes-length s i (suc n) = ap suc (bytes-length s (suc i) n)
+bytes_length s i zero = refl
+bytes_length s i (suc n) = ap suc (bytes_length s (suc i) n)
 
-pub range-count : (g : ℕ → Row) (i n : ℕ) → count (range g i n) ≡ n
+pub range_count : (g : ℕ → Row) (i n : ℕ) → count (range g i n) ≡ n
 unfolding range count
-range-count g i zero = refl
-range-count g i (suc n) = ap suc (range-count g (suc i) n)
+range_count g i zero = refl
+range_count g i (suc n) = ap suc (range_count g (suc i) n)
 
 -- how many rows a range of a table has
-pub table-count : (s : List ℕ) (i n : ℕ) → count (table_rows s i n) ≡ n
+pub table_count : (s : List ℕ) (i n : ℕ) → count (table_rows s i n) ≡ n
 unfolding table_rows
-table-count s i n = range-count (row_at max_depth s 0) i n
+table_count s i n = range_count (row_at max_depth s 0) i n

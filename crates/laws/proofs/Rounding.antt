@@ -16,10 +16,10 @@ use Rattle.image.proofs.Bools.{and_left, and_right}
 use Rattle.laws.specs.Rounding.{Nearest}
 
 -- the three cases of what is left over
-by-rest : (P : ℕ → Type 0) (rule : ℕ → ℕ) (m p : ℕ)
+by_rest : (P : ℕ → Type 0) (rule : ℕ → ℕ) (m p : ℕ)
     → (2 * (m % p) < p → P (m / p)) → (p < 2 * (m % p) → P (m / p + 1)) → (2 * (m % p) ≡ p → P (rule (m / p))) → P (nearest rule m p)
 unfolding nearest
-by-rest P rule m p under over half = cases (ltb (2 * (m % p)) p) (ltb p (2 * (m % p))) refl refl
+by_rest P rule m p under over half = cases (ltb (2 * (m % p)) p) (ltb p (2 * (m % p))) refl refl
   where
     cases : (x y : Bool) → ltb (2 * (m % p)) p ≡ x → ltb p (2 * (m % p)) ≡ y → P (cond x (m / p) (cond y (m / p + 1) (rule (m / p))))
     cases true y e f = under (ltb-true _ _ e)
@@ -29,13 +29,13 @@ by-rest P rule m p under over half = cases (ltb (2 * (m % p)) p) (ltb p (2 * (m 
         let high : 2 * (m % p) ≤ p = ltb-false _ _ f in
         half (omega arith)
 
-nearest-is : (m p : ℕ) → 0 < p → Nearest m p (nearest midway m p)
+nearest_is : (m p : ℕ) → 0 < p → Nearest m p (nearest midway m p)
 unfolding midway
-nearest-is m p some =
+nearest_is m p some =
     let e : p * (m / p) + m % p ≡ m = div-add-mod m p in
     let r : m % p < p = mod-lt m some in
     let next : p * (m / p + 1) ≡ p * (m / p) + p = mul-add p (m / p) 1 ∙ ap (λ (x : ℕ). p * (m / p) + x) (mul-one p) in
-    by-rest (λ q. Nearest m p q) midway m p
+    by_rest (λ q. Nearest m p q) midway m p
     (λ h. record { low = omega arith; high = omega arith })
     (λ h. record { low = omega arith; high = omega arith })
     (λ h. record { low = omega arith; high = omega arith })
@@ -51,22 +51,22 @@ nearest_once m p q some r =
     div-eq_of_lt-le (2 * p) low high
 
 -- the rounding is the nearest, halves away from zero, and no other number is
-pub nearest-exactly : (m p q : ℕ) → 0 < p → (nearest midway m p ≡ q) ↔ Nearest m p q
-nearest-exactly m p q some =
-    (λ e. rw e at (nearest-is m p some), λ r. sym (nearest_once m p (nearest midway m p) some (nearest-is m p some)) ∙ nearest_once m p q some r)
+pub nearest_exactly : (m p q : ℕ) → 0 < p → (nearest midway m p ≡ q) ↔ Nearest m p q
+nearest_exactly m p q some =
+    (λ e. rw e at (nearest_is m p some), λ r. sym (nearest_once m p (nearest midway m p) some (nearest_is m p some)) ∙ nearest_once m p q some r)
 
 -- divided by 1, a size stays
-nearest-one : (rule : ℕ → ℕ) (m : ℕ) → nearest rule m 1 ≡ m
-nearest-one rule m =
+nearest_one : (rule : ℕ → ℕ) (m : ℕ) → nearest rule m 1 ≡ m
+nearest_one rule m =
     let r : m % 1 ≡ 0 = omega arith in
     let q : m / 1 ≡ m = omega arith in
-    by-rest (λ x. x ≡ m) rule m 1 (λ h. q) (λ h. absurd (omega arith)) (λ h. absurd (omega arith))
+    by_rest (λ x. x ≡ m) rule m 1 (λ h. q) (λ h. absurd (omega arith)) (λ h. absurd (omega arith))
 
 -- and so does a whole number
-pub divided-one : (rule : ℕ → ℕ) (x : ℤ) → divided rule 1 x ≡ x
+pub divided_one : (rule : ℕ → ℕ) (x : ℤ) → divided rule 1 x ≡ x
 unfolding divided
-divided-one rule (pos m) = ap pos (nearest-one rule m)
-divided-one rule (negsuc m) = ap (λ (q : ℕ). neg_ℤ (pos q)) (nearest-one rule (suc m))
+divided_one rule (pos m) = ap pos (nearest_one rule m)
+divided_one rule (negsuc m) = ap (λ (q : ℕ). neg_ℤ (pos q)) (nearest_one rule (suc m))
 
 -- the test of two whole numbers is their equality
 pub same_whole_lem : (x y : ℤ) → (same_whole x y ≡ true) ↔ (x ≡ y)
@@ -85,7 +85,7 @@ signed false m = pos m
 nearest_zero : (rule : ℕ → ℕ) (p : ℕ) → 0 < p → nearest rule 0 p ≡ 0
 nearest_zero rule p some =
     let r : 0 % p ≡ 0 = zero-mod p in
-    by-rest (λ x. x ≡ 0) rule 0 p (λ h. zero-div p) (λ h. absurd (omega arith)) (λ h. absurd (omega arith))
+    by_rest (λ x. x ≡ 0) rule 0 p (λ h. zero-div p) (λ h. absurd (omega arith)) (λ h. absurd (omega arith))
 
 -- the size is divided, and the sign stays
 divided_signed : (rule : ℕ → ℕ) (p : ℕ) → 0 < p → (negative : Bool) (m : ℕ) → divided rule p (signed negative m) ≡ signed negative (nearest rule m p)
@@ -129,11 +129,11 @@ whole_signed w x = cases (ltb x (sign_bit w))
     cases false = refl
 
 -- two stored numbers agree once divided: their divided sizes do, and their signs unless that size is 0
-pub divided-same : (rule : ℕ → ℕ) (p w x y : ℕ) → 0 < p →
+pub divided_same : (rule : ℕ → ℕ) (p w x y : ℕ) → 0 < p →
     same_whole (divided rule p (whole_number w x)) (divided rule p (whole_number w y))
     ≡ eqb (nearest rule (size_of w x) p) (nearest rule (size_of w y) p)
     && (beq (negative w x) (negative w y) || eqb (nearest rule (size_of w x) p) 0)
-divided-same rule p w x y some =
+divided_same rule p w x y some =
     ap₂ same_whole (shown x) (shown y) ∙ same_signed (negative w x) (negative w y) (nearest rule (size_of w x) p) (nearest rule (size_of w y) p)
   where
     shown : (x : ℕ) → divided rule p (whole_number w x) ≡ signed (negative w x) (nearest rule (size_of w x) p)

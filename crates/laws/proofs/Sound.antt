@@ -24,8 +24,8 @@ unfolding same_bytes
 same_bytes_refl [] = refl
 same_bytes_refl (x ∷ xs) = rw (eq-eqb x x refl) (same_bytes_refl xs)
 
-pub same_bytes-is : (a b : List ℕ) → (same_bytes a b ≡ true) ↔ (a ≡ b)
-same_bytes-is a b = (bytes_same a b, λ e. subst (λ (x : List ℕ). same_bytes a x ≡ true) e (same_bytes_refl a))
+pub same_bytes_is : (a b : List ℕ) → (same_bytes a b ≡ true) ↔ (a ≡ b)
+same_bytes_is a b = (bytes_same a b, λ e. subst (λ (x : List ℕ). same_bytes a x ≡ true) e (same_bytes_refl a))
 
 mutual
   unfolding row_equal
@@ -89,9 +89,9 @@ mutual
   rows_equal_refl none = refl
   rows_equal_refl (more r rs) = rw (row_equal_refl r) (rows_equal_refl rs)
 
-pub row_equal-is : (a b : Row) → (row_equal a b ≡ true) ↔ (a ≡ b)
-row_equal-is a b = (row_same a b, λ e. subst (λ (x : Row). row_equal a x ≡ true) e (row_equal_refl a))
+pub row_equal_is : (a b : Row) → (row_equal a b ≡ true) ↔ (a ≡ b)
+row_equal_is a b = (row_same a b, λ e. subst (λ (x : Row). row_equal a x ≡ true) e (row_equal_refl a))
 
 -- the test of lists of rows is true exactly when they are the same
-pub rows_equal-is : (a b : Rows) → (rows_equal a b ≡ true) ↔ (a ≡ b)
-rows_equal-is a b = (rows_same a b, λ e. subst (λ (x : Rows). rows_equal a x ≡ true) e (rows_equal_refl a))
+pub rows_equal_is : (a b : Rows) → (rows_equal a b ≡ true) ↔ (a ≡ b)
+rows_equal_is a b = (rows_same a b, λ e. subst (λ (x : Rows). rows_equal a x ≡ true) e (rows_equal_refl a))

@@ -10,9 +10,9 @@ use Rattle.image.specs.Record.{max_depth, code_of, id_of, p1_of, p2_of, first_ch
 use Rattle.image.specs.declared.labels.Counted.{Counted}
 use Rattle.image.specs.TypeCode.{is_map}
 use Rattle.image.specs.Types.{counted_for, name_of, same_bytes, labels_agree, heads_agree, types_agree_at, types_agree}
-use Rattle.image.proofs.Bools.{flags-same, and_left, and_right, and_true, when_true, true_when}
-use Rattle.image.proofs.Ranges.{every-below, every_of_below}
-use Rattle.laws.proofs.Sound.{same_bytes-is}
+use Rattle.image.proofs.Bools.{flags_same, and_left, and_right, and_true, when_true, true_when}
+use Rattle.image.proofs.Ranges.{every_below, every_of_below}
+use Rattle.laws.proofs.Sound.{same_bytes_is}
 
 flag_itself : (x : Bool) → beq x x ≡ true
 flag_itself true = refl
@@ -27,8 +27,8 @@ pub record Labels (c : Counted) (s t : List ℕ) (i j : ℕ) : Type 0 where
 pub labels_same : (c : Counted) (s t : List ℕ) (i j : ℕ) → labels_agree c s t i j ≡ true → Labels c s t i j
 unfolding labels_agree
 labels_same c s t i j e = record {
-  name = λ on. (same_bytes-is _ _).0 (when_true _ _ (and_left _ _ (and_left _ _ e)) on);
-  flag = λ on. flags-same _ _ (when_true c.flag _ (and_right (not c.name || same_bytes (name_of s i) (name_of t j)) _ (and_left _ _ e)) on);
+  name = λ on. (same_bytes_is _ _).0 (when_true _ _ (and_left _ _ (and_left _ _ e)) on);
+  flag = λ on. flags_same _ _ (when_true c.flag _ (and_right (not c.name || same_bytes (name_of s i) (name_of t j)) _ (and_left _ _ e)) on);
   id = λ on. eqb-true _ _ (when_true c.id _ (and_right ((not c.name || same_bytes (name_of s i) (name_of t j)) && (not c.flag || beq (nullable s i) (nullable t j))) _ e) on);
 }
 
@@ -36,7 +36,7 @@ pub same_labels : (c : Counted) (s t : List ℕ) (i j : ℕ) → Labels c s t i 
 unfolding labels_agree
 same_labels c s t i j l =
     and_true _ _ (and_true _ _
-    (true_when c.name _ (λ on. (same_bytes-is _ _).1 (l.name on)))
+    (true_when c.name _ (λ on. (same_bytes_is _ _).1 (l.name on)))
     (true_when c.flag _ (λ on. rw (l.flag on) (flag_itself (nullable t j)))))
     (true_when c.id _ (λ on. eq-eqb _ _ (l.id on)))
 
@@ -99,7 +99,7 @@ level d p s t i j e = record {
     child : (c : ℕ) → c < child_count s i
         → labels_agree (counted_for p (code_of s i)) s t (first_child s i + c) (first_child t j + c)
         && types_agree_at d (is_map (code_of s i)) s t (first_child s i + c) (first_child t j + c) ≡ true
-    child = every-below _ (child_count s i) (and_right (heads_agree s t i j) _ e)
+    child = every_below _ (child_count s i) (and_right (heads_agree s t i j) _ e)
 
 pub of_level : (d : ℕ) (p : Bool) (s t : List ℕ) (i j : ℕ) → Level d p s t i j → types_agree_at (suc d) p s t i j ≡ true
 unfolding types_agree_at

@@ -20,9 +20,9 @@ pub record NoneBelow (number : ℕ) (s : List ℕ) : Type 0 where
 pub record Tables (s : List ℕ) : Type 0 where
   pub header : header_size ≤ length s
   pub size : length s ≤ 16777216
-  pub some-nodes : 1 ≤ node_count s
-  pub few-nodes : node_count s ≤ 256
-  pub few-buffers : buffer_total s ≤ 1024
+  pub some_nodes : 1 ≤ node_count s
+  pub few_nodes : node_count s ≤ 256
+  pub few_buffers : buffer_total s ≤ 1024
   pub inside : tables_end s ≤ length s
 
 -- 11: the code, the flags and the parameters are known
@@ -39,7 +39,7 @@ pub record Widths (s : List ℕ) (k : ℕ) : Type 0 where
   pub variable_size : layout_of (code_of s k) ≡ VariableSize → element_width s k ≤ 8
   pub view : layout_of (code_of s k) ≡ View → element_width s k ≡ 16
   pub lists : layout_of (code_of s k) ≡ Lists → element_width s k ≤ 8
-  pub list-view : layout_of (code_of s k) ≡ ListView → element_width s k ≤ 8
+  pub list_view : layout_of (code_of s k) ≡ ListView → element_width s k ≤ 8
   pub keys : layout_of (code_of s k) ≡ Dictionary → element_width s k ≤ 8
 
 -- 12, of a union: the ids of its children rise within 0 to 127
@@ -91,22 +91,22 @@ pub record Buffers (s : List ℕ) (k : ℕ) : Type 0 where
 pub record Enough (s : List ℕ) (k : ℕ) : Type 0 where
   pub bitmap : has_bitmap s k ≡ true → first_bit s k + length_of s k ≤ 8 * bitmap_length s k
   pub boolean : layout_of (code_of s k) ≡ Boolean → elements_of s k ≤ 8 * buffer_length s k 0
-  pub fixed-width : layout_of (code_of s k) ≡ FixedWidth → elements_of s k * element_width s k ≤ buffer_length s k 0
+  pub fixed_width : layout_of (code_of s k) ≡ FixedWidth → elements_of s k * element_width s k ≤ buffer_length s k 0
   pub variable_size : layout_of (code_of s k) ≡ VariableSize → (elements_of s k + 1) * element_width s k ≤ buffer_length s k 0
   pub view : layout_of (code_of s k) ≡ View → elements_of s k * element_width s k ≤ buffer_length s k 0
   pub lists : layout_of (code_of s k) ≡ Lists → (elements_of s k + 1) * element_width s k ≤ buffer_length s k 0
   pub list_view_offsets : layout_of (code_of s k) ≡ ListView → elements_of s k * element_width s k ≤ buffer_length s k 0
   pub list_view_sizes : layout_of (code_of s k) ≡ ListView → elements_of s k * element_width s k ≤ buffer_length s k 1
-  pub dense-ids : layout_of (code_of s k) ≡ DenseUnion → elements_of s k ≤ buffer_length s k 0
+  pub dense_ids : layout_of (code_of s k) ≡ DenseUnion → elements_of s k ≤ buffer_length s k 0
   pub dense_offsets : layout_of (code_of s k) ≡ DenseUnion → elements_of s k * 4 ≤ buffer_length s k 1
-  pub sparse-ids : layout_of (code_of s k) ≡ SparseUnion → elements_of s k ≤ buffer_length s k 0
+  pub sparse_ids : layout_of (code_of s k) ≡ SparseUnion → elements_of s k ≤ buffer_length s k 0
   pub keys : layout_of (code_of s k) ≡ Dictionary → elements_of s k * element_width s k ≤ buffer_length s k 0
 
 -- 16: the children are long enough
 pub record Children (s : List ℕ) (k : ℕ) : Type 0 where
   pub struct : layout_of (code_of s k) ≡ Struct → (c : ℕ) → first_child s k ≤ c → c < child_end s k → elements_of s k ≤ length_of s c
   pub sparse : layout_of (code_of s k) ≡ SparseUnion → (c : ℕ) → first_child s k ≤ c → c < child_end s k → elements_of s k ≤ length_of s c
-  pub fixed-list : layout_of (code_of s k) ≡ FixedList → elements_of s k * p1_of s k ≤ length_of s (first_child s k)
+  pub fixed_list : layout_of (code_of s k) ≡ FixedList → elements_of s k * p1_of s k ≤ length_of s (first_child s k)
   pub runs : layout_of (code_of s k) ≡ Runs → length_of s (first_child s k) ≡ length_of s (first_child s k + 1)
 
 -- 17, of offsets: they do not fall, and none is past the end
@@ -118,7 +118,7 @@ pub record OffsetsRise (s : List ℕ) (k end : ℕ) : Type 0 where
 pub record Places (s : List ℕ) (k : ℕ) : Type 0 where
   pub variable_size : layout_of (code_of s k) ≡ VariableSize → OffsetsRise s k (buffer_length s k 1)
   pub lists : layout_of (code_of s k) ≡ Lists → OffsetsRise s k (length_of s (first_child s k))
-  pub list-view : layout_of (code_of s k) ≡ ListView → (j : ℕ) → j < elements_of s k → element_at s k j + size_at s k j ≤ length_of s (first_child s k)
+  pub list_view : layout_of (code_of s k) ≡ ListView → (j : ℕ) → j < elements_of s k → element_at s k j + size_at s k j ≤ length_of s (first_child s k)
 
 -- 18, of the type id at element j of a union: the child that has it
 pub record IdKnown (s : List ℕ) (k j : ℕ) : Type 0 where
@@ -147,7 +147,7 @@ pub record RunsCover (s : List ℕ) (k : ℕ) : Type 0 where
 -- 18: what the rows of the node name lies inside
 pub record NodeRows (s : List ℕ) (k : ℕ) : Type 0 where
   pub dense : layout_of (code_of s k) ≡ DenseUnion → (i : ℕ) → i < length_of s k → IdKnown s k (offset_of s k + i)
-  pub dense-offset : layout_of (code_of s k) ≡ DenseUnion → (i : ℕ) → i < length_of s k
+  pub dense_offset : layout_of (code_of s k) ≡ DenseUnion → (i : ℕ) → i < length_of s k
       → dense_offset_at s k (offset_of s k + i) < length_of s (child_with_id s k (type_id_at s k (offset_of s k + i)))
   pub sparse : layout_of (code_of s k) ≡ SparseUnion → (i : ℕ) → i < length_of s k → IdKnown s k (offset_of s k + i)
   pub key : layout_of (code_of s k) ≡ Dictionary → (i : ℕ) → i < length_of s k → valid s k i ≡ true
@@ -176,6 +176,6 @@ pub record Node (s : List ℕ) (k : ℕ) : Type 0 where
 -- an accepted image
 pub record AcceptedImage (s : List ℕ) : Type 0 where
   pub tables : Tables s
-  pub child-total : child_start s (node_count s) ≡ node_count s
-  pub buffer-total : buffer_start s (node_count s) ≡ buffer_total s
+  pub child_total : child_start s (node_count s) ≡ node_count s
+  pub buffers_total : buffer_start s (node_count s) ≡ buffer_total s
   pub node : (k : ℕ) → k < node_count s → Node s k

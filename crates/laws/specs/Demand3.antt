@@ -12,8 +12,8 @@ pub record WrittenRanges (s t : List ℕ) (i j n : ℕ) : Type 0 where
   pub left : check_image s ≡ Accepted
   pub right : check_image t ≡ Accepted
   pub types : types_agree s t ≡ true
-  pub left-rows : i + n ≤ length_of s 0
-  pub right-rows : j + n ≤ length_of t 0
+  pub left_rows : i + n ≤ length_of s 0
+  pub right_rows : j + n ≤ length_of t 0
 
 -- y begins with x and goes on: some bytes behind x, and not none, make y
 abbrev pub ProperPrefix : List ℕ → List ℕ → Type 0

@@ -15,16 +15,16 @@ use Rattle.image.specs.Bytes.{byte_at, number_at, bytes_at}
 use Rattle.image.specs.Reads.{Read}
 use Rattle.image.specs.Utf8.{well_formed}
 use Rattle.image.specs.Parse.{Parsed, failed, parsed, bytes_in, checked_text}
-use Rattle.laws.proofs.Lengths.{bytes-length}
+use Rattle.laws.proofs.Lengths.{bytes_length}
 use Rattle.built.specs.Typed.{text_fits}
 use Rattle.parse.specs.Scan.{not_rows, boolean_in, text_in, nothing, sized_adds, Begun, Scans, Leaves, Grown}
-use Rattle.parse.proofs.Places.{bytes_here, bytes-short, number_here, number_short}
+use Rattle.parse.proofs.Places.{bytes_here, bytes_short, number_here, number_short}
 use Rattle.parse.proofs.Scans.{stopped, reached}
 
 module _ (b : List ℕ) (at : ℕ) where
   -- w bytes
   pub bytes_stop : (w answer : ℕ) → length b - at < w → length b < answer → Leaves b at (bytes_in w (drop at b)) answer
-  bytes_stop w answer lt past spans = stopped refl past (bytes-short w at b lt)
+  bytes_stop w answer lt past spans = stopped refl past (bytes_short w at b lt)
 
   pub bytes_go : (w : ℕ) → at + w ≤ length b → Leaves b at (bytes_in w (drop at b)) (at + w)
   unfolding nothing
@@ -45,10 +45,10 @@ module _ (b : List ℕ) (at : ℕ) where
   either_fails true p e = e
   either_fails false p e = refl
 
-  pub boolean-none : (answer : ℕ) → length b ≤ at → length b < answer → Leaves b at (boolean_in (drop at b)) answer
+  pub boolean_none : (answer : ℕ) → length b ≤ at → length b < answer → Leaves b at (boolean_in (drop at b)) answer
   unfolding boolean_in
-  boolean-none answer le past spans =
-      stopped refl past (either_fails (leb (byte_at (drop at b) 0) 1) (bytes_in 1 (drop at b)) (bytes-short 1 at b (omega arith)))
+  boolean_none answer le past spans =
+      stopped refl past (either_fails (leb (byte_at (drop at b) 0) 1) (bytes_in 1 (drop at b)) (bytes_short 1 at b (omega arith)))
 
   pub boolean_other : (answer : ℕ) → 1 < byte_at b at → length b < answer → Leaves b at (boolean_in (drop at b)) answer
   unfolding boolean_in
@@ -89,9 +89,9 @@ module _ (code k : ℕ) (b : List ℕ) (at : ℕ) {table before : List ℕ} (beg
   text_stop : text_in code (drop at b) ≡ failed → Scans b at 0 (text_in code (drop at b)) (sized_adds k) before before not_rows
   text_stop e = stopped refl begun.short e
 
-  pub text-short : length b - at < 4 → Scans b at 0 (text_in code (drop at b)) (sized_adds k) before before not_rows
+  pub text_short : length b - at < 4 → Scans b at 0 (text_in code (drop at b)) (sized_adds k) before before not_rows
   unfolding text_in
-  text-short lt = text_stop (rw (number_short at b lt))
+  text_short lt = text_stop (rw (number_short at b lt))
 
   module _ {n : ℕ} (number : Read (number_at 4 b at) 32 n) (some : 4 ≤ length b - at) where
     four : at + 4 ≤ length b
@@ -99,28 +99,28 @@ module _ (code k : ℕ) (b : List ℕ) (at : ℕ) {table before : List ℕ} (beg
 
     pub text_cut : length b - (at + 4) < n → Scans b at 0 (text_in code (drop at b)) (sized_adds k) before before not_rows
     unfolding text_in
-    text_cut lt = text_stop (rw (number_here at b four, ← number.value, bytes-short n (at + 4) b lt))
+    text_cut lt = text_stop (rw (number_here at b four, ← number.value, bytes_short n (at + 4) b lt))
 
     module _ (rest : n ≤ length b - (at + 4)) where
       -- the length and the bytes lie inside
-      pub text-inside : at + 4 + n ≤ length b
-      text-inside = omega (arith, four)
+      pub text_inside : at + 4 + n ≤ length b
+      text_inside = omega (arith, four)
 
-      text-is : text_in code (drop at b) ≡ cond (text_fits code (bytes_at b (at + 4) n)) (parsed (bytes_at b (at + 4) n) (drop (at + 4 + n) b)) failed
+      text_is : text_in code (drop at b) ≡ cond (text_fits code (bytes_at b (at + 4) n)) (parsed (bytes_at b (at + 4) n) (drop (at + 4 + n) b)) failed
       unfolding text_in
-      text-is = rw (number_here at b four, ← number.value, bytes_here n (at + 4) b text-inside) (checked_is code (bytes_at b (at + 4) n) (drop (at + 4 + n) b))
+      text_is = rw (number_here at b four, ← number.value, bytes_here n (at + 4) b text_inside) (checked_is code (bytes_at b (at + 4) n) (drop (at + 4 + n) b))
 
-      pub text-ill : text_fits code (bytes_at b (at + 4) n) ≡ false → Scans b at 0 (text_in code (drop at b)) (sized_adds k) before before not_rows
-      text-ill e = text_stop (text-is ∙ rw e)
+      pub text_ill : text_fits code (bytes_at b (at + 4) n) ≡ false → Scans b at 0 (text_in code (drop at b)) (sized_adds k) before before not_rows
+      text_ill e = text_stop (text_is ∙ rw e)
 
       pub text_go : {after : List ℕ} → text_fits code (bytes_at b (at + 4) n) ≡ true → Grown before after k n → Scans b at 0 (text_in code (drop at b)) (sized_adds k) before after (at + 4 + n)
       unfolding sized_adds
       text_go {after} e grown =
-          let long : length (bytes_at b (at + 4) n) ≡ n = bytes-length b (at + 4) n in
+          let long : length (bytes_at b (at + 4) n) ≡ n = bytes_length b (at + 4) n in
           reached grown.sized (record {
             what = bytes_at b (at + 4) n;
-            is = text-is ∙ rw e;
-            inside = text-inside;
+            is = text_is ∙ rw e;
+            inside = text_inside;
             spans = λ j lt. rw long (grown.spans j);
             took = λ j. rw long (few (eqb k j));
           })

@@ -11,7 +11,7 @@ use Rattle.image.specs.Row.{Row, Rows, none, more}
 use Rattle.image.specs.Parse.{Parsed, parsed, row_then, rows_of, row_of_each, row_in}
 use Rattle.parse.specs.Scan.{row_adds, rows_add, each_adds, Scans}
 use Rattle.parse.proofs.Totals.{no_rows_add, more_rows_add, no_child_adds, more_children_add}
-use Rattle.parse.proofs.Scans.{stopped, reached, rows-scan}
+use Rattle.parse.proofs.Scans.{stopped, reached, rows_scan}
 
 -- n rows, one after the other: how row i is read and what it adds, and how those from row i on are
 pub record Turns : Type 0 where
@@ -33,8 +33,8 @@ pub record Left (w : Turns) (b : List ℕ) (at m : ℕ) (p : Parsed Rows) (adds 
   pub whole : (after : List ℕ) (answer : ℕ) → Scans b next (w.least i) (w.rest i (drop next b)) (w.rest_adds i) spans after answer → Scans b at m p adds before after answer
 
 module _ {w : Turns} {b : List ℕ} {at m : ℕ} {p : Parsed Rows} {adds : Rows → ℕ → ℕ} {before : List ℕ} {i next : ℕ} {spans : List ℕ} (h : Left w b at m p adds before i next spans) where
-  pub left-done : w.turns ≤ i → next ≤ length b → Scans b at m p adds before spans next
-  left-done le inside =
+  pub left_done : w.turns ≤ i → next ≤ length b → Scans b at m p adds before spans next
+  left_done le inside =
       h.whole spans next
       (reached refl (record {
         what = none;
@@ -49,17 +49,17 @@ module _ {w : Turns} {b : List ℕ} {at m : ℕ} {p : Parsed Rows} {adds : Rows 
     pub left_stop : length b < place → Scans b at m p adds before mid place
     left_stop past = h.whole mid place (stopped row.sized past (w.reads i lt (drop next b) ∙ rw (row.stops past)))
 
-    pub left-next : place ≤ length b → Left w b at m p adds before (i + 1) place mid
-    left-next le = record {
+    pub left_next : place ≤ length b → Left w b at m p adds before (i + 1) place mid
+    left_next le = record {
       whole = λ after answer later.
           h.whole after answer
-          (rw (w.reads i lt (drop next b)) (rows-scan (w.row i (drop next b)) (w.rest (i + 1)) (w.sums i) (w.fewer i) row.sized (row.goes le) later));
+          (rw (w.reads i lt (drop next b)) (rows_scan (w.row i (drop next b)) (w.rest (i + 1)) (w.sums i) (w.fewer i) row.sized (row.goes le) later));
     }
 
 -- n rows of node k
-pub rows-read : (d : ℕ) (s : List ℕ) (k n i : ℕ) → i < n → (b : List ℕ) → rows_of (row_in d s k) (n - i) b ≡ row_then (row_in d s k b) (rows_of (row_in d s k) (n - (i + 1)))
+pub rows_read : (d : ℕ) (s : List ℕ) (k n i : ℕ) → i < n → (b : List ℕ) → rows_of (row_in d s k) (n - i) b ≡ row_then (row_in d s k b) (rows_of (row_in d s k) (n - (i + 1)))
 unfolding rows_of
-rows-read d s k n i lt b =
+rows_read d s k n i lt b =
     let e : n - i ≡ suc (n - (i + 1)) = omega arith in
     rw e
 
@@ -77,7 +77,7 @@ row_turns d s k n = record {
   rest = λ i. rows_of (row_in d s k) (n - i);
   rest_adds = λ i. rows_add d s k;
   least = λ i. n - i;
-  reads = rows-read d s k n;
+  reads = rows_read d s k n;
   sums = λ i. more_rows_add d s k;
   fewer = λ i. omega arith;
   ends = rows_end d s k n;
@@ -85,22 +85,22 @@ row_turns d s k n = record {
   no_sum = λ i. no_rows_add d s k;
 }
 
-pub rows-begin : (d : ℕ) (s : List ℕ) (k n : ℕ) (b : List ℕ) (at : ℕ) (spans : List ℕ) → Left (row_turns d s k n) b at n (rows_of (row_in d s k) n (drop at b)) (rows_add d s k) spans 0 at spans
-rows-begin d s k n b at spans =
+pub rows_begin : (d : ℕ) (s : List ℕ) (k n : ℕ) (b : List ℕ) (at : ℕ) (spans : List ℕ) → Left (row_turns d s k n) b at n (rows_of (row_in d s k) n (drop at b)) (rows_add d s k) spans 0 at spans
+rows_begin d s k n b at spans =
     let e : n - 0 ≡ n = omega arith in
     record { whole = λ after answer h. rw e at h }
 
 -- a row of each of the n nodes from node c on
-pub children-read : (d : ℕ) (s : List ℕ) (c n i : ℕ) → i < n → (b : List ℕ) → row_of_each (row_in d s) (c + i) (n - i) b ≡ row_then (row_in d s (c + i) b) (row_of_each (row_in d s) (c + (i + 1)) (n - (i + 1)))
+pub children_read : (d : ℕ) (s : List ℕ) (c n i : ℕ) → i < n → (b : List ℕ) → row_of_each (row_in d s) (c + i) (n - i) b ≡ row_then (row_in d s (c + i) b) (row_of_each (row_in d s) (c + (i + 1)) (n - (i + 1)))
 unfolding row_of_each
-children-read d s c n i lt b =
+children_read d s c n i lt b =
     let e : n - i ≡ suc (n - (i + 1)) = omega arith in
     let f : c + (i + 1) ≡ suc (c + i) = omega arith in
     rw (e, f)
 
-pub children-end : (d : ℕ) (s : List ℕ) (c n i : ℕ) → n ≤ i → (b : List ℕ) → row_of_each (row_in d s) (c + i) (n - i) b ≡ parsed none b
+pub children_end : (d : ℕ) (s : List ℕ) (c n i : ℕ) → n ≤ i → (b : List ℕ) → row_of_each (row_in d s) (c + i) (n - i) b ≡ parsed none b
 unfolding row_of_each
-children-end d s c n i le b =
+children_end d s c n i le b =
     let e : n - i ≡ 0 = omega arith in
     rw e
 
@@ -117,18 +117,18 @@ child_turns d s c n = record {
   rest = λ i. row_of_each (row_in d s) (c + i) (n - i);
   rest_adds = λ i. each_adds d s (c + i);
   least = λ i. 0;
-  reads = children-read d s c n;
+  reads = children_read d s c n;
   sums = children_sum d s c;
   fewer = λ i. omega arith;
-  ends = children-end d s c n;
+  ends = children_end d s c n;
   ended = λ i le. refl;
   no_sum = λ i. no_child_adds d s (c + i);
 }
 
 -- those of node k, as their numbers were read
-pub children-begin : (d : ℕ) (s : List ℕ) (k : ℕ) {first many : ℕ} (b : List ℕ) (at : ℕ) (spans : List ℕ) → Read (first_child s k) 16 first → Read (child_count s k) 16 many
+pub children_begin : (d : ℕ) (s : List ℕ) (k : ℕ) {first many : ℕ} (b : List ℕ) (at : ℕ) (spans : List ℕ) → Read (first_child s k) 16 first → Read (child_count s k) 16 many
     → Left (child_turns d s first many) b at 0 (row_of_each (row_in d s) (first_child s k) (child_count s k) (drop at b)) (each_adds d s (first_child s k)) spans 0 at spans
-children-begin d s k {first} {many} b at spans child count =
+children_begin d s k {first} {many} b at spans child count =
     let e : many - 0 ≡ many = omega arith in
     let f : first + 0 ≡ first = omega arith in
     record { whole = λ after answer h. rw (← child.value, ← count.value) (rw (e, f) at h) }

@@ -9,7 +9,7 @@ use lib.Seq.{drop-drop, length-take-le}
 use borrow.Author.Tests.{lt-ltb, le-ltb}
 use Rattle.image.specs.Bytes.{number_at, bytes_at}
 use Rattle.image.specs.Parse.{failed, parsed, bytes_in, number_in}
-use Rattle.built.proofs.Regions.{PartOf, part-whole}
+use Rattle.built.proofs.Regions.{PartOf, part_whole}
 
 -- the bytes at a place are the front of what stands there
 bytes_taken : (n at : ℕ) (b : List ℕ) → at + n ≤ length b → take n (drop at b) ≡ bytes_at b at n
@@ -22,7 +22,7 @@ bytes_taken n at b le =
       whole = sym (ap (λ (x : List ℕ). take at b ++ x) (take-append-drop n (drop at b)) ∙ take-append-drop at b);
       start = length-take-le at b (omega arith);
     } in
-    sym (rw long at (part-whole part))
+    sym (rw long at (part_whole part))
 
 module _ (n at : ℕ) (b : List ℕ) where
   pub bytes_here : at + n ≤ length b → bytes_in n (drop at b) ≡ parsed (bytes_at b at n) (drop (at + n) b)
@@ -31,9 +31,9 @@ module _ (n at : ℕ) (b : List ℕ) where
       let inside : n ≤ length (drop at b) = omega (arith, length-drop at b) in
       rw (le-ltb (length (drop at b)) n inside, bytes_taken n at b le, drop-drop n at b)
 
-  pub bytes-short : length b - at < n → bytes_in n (drop at b) ≡ failed
+  pub bytes_short : length b - at < n → bytes_in n (drop at b) ≡ failed
   unfolding bytes_in
-  bytes-short lt =
+  bytes_short lt =
       let outside : length (drop at b) < n = omega (arith, length-drop at b) in
       rw (lt-ltb (length (drop at b)) n outside)
 
@@ -49,4 +49,4 @@ module _ (at : ℕ) (b : List ℕ) where
 
   pub number_short : length b - at < 4 → number_in (drop at b) ≡ failed
   unfolding number_in
-  number_short lt = rw (bytes-short 4 at b lt)
+  number_short lt = rw (bytes_short 4 at b lt)

@@ -46,8 +46,8 @@ module _ (d : ℕ) (s : List ℕ) (k : ℕ) (b : List ℕ) (at : ℕ) {table bef
         let e : row_in d s k (drop at b) ≡ row_in (suc (d - 1)) s k (drop at b) = ap (λ (n : ℕ). row_in n s k (drop at b)) below in
         e
 
-    pub row-none : length b ≤ at → Scans b at 1 (row_in d s k (drop at b)) (row_adds d s k) before before not_rows
-    row-none le = row_stop (row_is ∙ rw (drop_of_length-le b le))
+    pub row_none : length b ≤ at → Scans b at 1 (row_in d s k (drop at b)) (row_adds d s k) before before not_rows
+    row_none le = row_stop (row_is ∙ rw (drop_of_length-le b le))
 
     module _ (some : at < length b) where
       -- the mark, and what stands behind it
@@ -62,8 +62,8 @@ module _ (d : ℕ) (s : List ℕ) (k : ℕ) (b : List ℕ) (at : ℕ) {table bef
       pub row_no_null : byte_at b at ≡ 0 → takes_bitmap (layout_of (code_of s k)) ≡ false → Scans b at 1 (row_in d s k (drop at b)) (row_adds d s k) before before not_rows
       row_no_null mark bitmap = row_stop (row_is ∙ rw (front 0 mark, bitmap))
 
-      pub row-null : byte_at b at ≡ 0 → takes_bitmap (layout_of (code_of s k)) ≡ true → Scans b at 1 (row_in d s k (drop at b)) (row_adds d s k) before before (at + 1)
-      row-null mark bitmap =
+      pub row_null : byte_at b at ≡ 0 → takes_bitmap (layout_of (code_of s k)) ≡ true → Scans b at 1 (row_in d s k (drop at b)) (row_adds d s k) before before (at + 1)
+      row_null mark bitmap =
           reached refl (record {
             what = null;
             is = row_is ∙ rw (front 0 mark, bitmap);
@@ -72,8 +72,8 @@ module _ (d : ℕ) (s : List ℕ) (k : ℕ) (b : List ℕ) (at : ℕ) {table bef
             took = λ j. omega (arith, null_adds d s k j);
           })
 
-      pub row-value : {after : List ℕ} {answer : ℕ} → byte_at b at ≡ 1 → Scans b (at + 1) 0 (value_in (layout_of (code_of s k)) (row_in (d - 1) s) s k (drop (at + 1) b)) (row_adds (suc (d - 1)) s k) before after answer → Scans b at 1 (row_in d s k (drop at b)) (row_adds d s k) before after answer
-      row-value {after} {answer} mark h =
+      pub row_value : {after : List ℕ} {answer : ℕ} → byte_at b at ≡ 1 → Scans b (at + 1) 0 (value_in (layout_of (code_of s k)) (row_in (d - 1) s) s k (drop (at + 1) b)) (row_adds (suc (d - 1)) s k) before after answer → Scans b at 1 (row_in d s k (drop at b)) (row_adds d s k) before after answer
+      row_value {after} {answer} mark h =
           let value : row_in d s k (drop at b) ≡ value_in (layout_of (code_of s k)) (row_in (d - 1) s) s k (drop (at + 1) b) = row_is ∙ rw (front 1 mark) in
           record {
             sized = h.sized;
@@ -93,29 +93,29 @@ module _ (d : ℕ) (s : List ℕ) (k : ℕ) (b : List ℕ) (at : ℕ) {table bef
           same r j = ap (λ (n : ℕ). row_adds n s k r j) below
 
 -- there are as many rows as were asked for
-rows-many : (row : List ℕ → Parsed Row) (n : ℕ) (x : List ℕ) (rs : Rows) (rest : List ℕ) → rows_of row n x ≡ parsed rs rest → count rs ≡ n
+rows_many : (row : List ℕ → Parsed Row) (n : ℕ) (x : List ℕ) (rs : Rows) (rest : List ℕ) → rows_of row n x ≡ parsed rs rest → count rs ≡ n
 unfolding rows_of count
-rows-many row zero x rs rest e =
+rows_many row zero x rs rest e =
     let is : rs ≡ none = cc in
     rw is
-rows-many row (suc n) x rs rest e =
+rows_many row (suc n) x rs rest e =
     let t = then_back (row x) (λ r rest. made (more r) (rows_of row n rest)) rs rest e in
     let m = made_back (more t.0) (rows_of row n t.1) rs rest t.3 in
-    rw (← m.2) (ap suc (rows-many row n t.1 m.0 rest m.1))
+    rw (← m.2) (ap suc (rows_many row n t.1 m.0 rest m.1))
 
 -- the list of node k at a place, whose count n stands there
 module _ (d : ℕ) (s : List ℕ) (k : ℕ) (b : List ℕ) (at : ℕ) {table before : List ℕ} (begun : Begun b at table before) where
-  pub list-short : length b - at < 4 → Scans b at 0 (list_in (row_in d s (first_child s k)) (drop at b)) (counted_adds d s k) before before not_rows
+  pub list_short : length b - at < 4 → Scans b at 0 (list_in (row_in d s (first_child s k)) (drop at b)) (counted_adds d s k) before before not_rows
   unfolding list_in
-  list-short lt = stopped refl begun.short (rw (number_short at b lt))
+  list_short lt = stopped refl begun.short (rw (number_short at b lt))
 
   module _ {n : ℕ} (number : Read (number_at 4 b at) 32 n) (some : 4 ≤ length b - at) where
     four : at + 4 ≤ length b
     four = omega (arith, begun.inside)
 
-    list-is : list_in (row_in d s (first_child s k)) (drop at b) ≡ rows_of (row_in d s (first_child s k)) n (drop (at + 4) b)
+    list_is : list_in (row_in d s (first_child s k)) (drop at b) ≡ rows_of (row_in d s (first_child s k)) n (drop (at + 4) b)
     unfolding list_in
-    list-is = rw (number_here at b four, ← number.value)
+    list_is = rw (number_here at b four, ← number.value)
 
     -- so many rows of the child, as its number was read
     module _ {child : ℕ} {mid : List ℕ} {next : ℕ} (read : Read (first_child s k) 16 child) (rows : Scans b (at + 4) n (rows_of (row_in d s child) n (drop (at + 4) b)) (rows_add d s child) before mid next) where
@@ -123,12 +123,12 @@ module _ (d : ℕ) (s : List ℕ) (k : ℕ) (b : List ℕ) (at : ℕ) {table bef
       h = rw (← read.value) rows
 
       pub list_stop : length b < next → Scans b at 0 (list_in (row_in d s (first_child s k)) (drop at b)) (counted_adds d s k) before mid next
-      list_stop past = stopped h.sized past (list-is ∙ h.stops past)
+      list_stop past = stopped h.sized past (list_is ∙ h.stops past)
 
       module _ (le : next ≤ length b) where
         -- the count can be added to the span of the node
-        pub list-room : k < 256 → (k < length mid) × (get_or mid k 0 + n ≤ not_rows)
-        list-room few =
+        pub list_room : k < 256 → (k < length mid) × (get_or mid k 0 + n ≤ not_rows)
+        list_room few =
             let r = h.goes le in
             (omega (arith, h.sized, begun.sized), omega (arith, r.spans k few, r.took k, r.inside, begun.low k few, begun.short))
 
@@ -136,10 +136,10 @@ module _ (d : ℕ) (s : List ℕ) (k : ℕ) (b : List ℕ) (at : ℕ) {table bef
         unfolding counted_adds
         list_go {after} grown =
             let r = h.goes le in
-            let many : count r.what ≡ n = rows-many (row_in d s (first_child s k)) n (drop (at + 4) b) r.what (drop next b) r.is in
+            let many : count r.what ≡ n = rows_many (row_in d s (first_child s k)) n (drop (at + 4) b) r.what (drop next b) r.is in
             reached (grown.sized ∙ h.sized) (record {
               what = r.what;
-              is = list-is ∙ r.is;
+              is = list_is ∙ r.is;
               inside = r.inside;
               spans = λ j lt. rw many (omega (arith, grown.spans j, r.spans j lt));
               took = λ j. rw many (few (eqb k j) (rows_add d s (first_child s k) r.what j) (r.took j));

@@ -55,8 +55,8 @@ module _ {A : Type 0} {b : List ℕ} {at m : ℕ} {p : Parsed A} {adds : A → �
 
 -- a row, and then rows
 module _ {b : List ℕ} {at place m whole : ℕ} (p : Parsed Row) (f : List ℕ → Parsed Rows) {one : Row → ℕ → ℕ} {rest all : Rows → ℕ → ℕ} {before mid after : List ℕ} (sum : (r : Row) (rs : Rows) (j : ℕ) → all (more r rs) j ≡ one r j + rest rs j) where
-  pub rows-scan : {answer : ℕ} → whole ≤ suc m → length mid ≡ length before → Reached b at 1 p one before mid place → Scans b place m (f (drop place b)) rest mid after answer → Scans b at whole (row_then p f) all before after answer
-  rows-scan {answer} few sized r h = record {
+  pub rows_scan : {answer : ℕ} → whole ≤ suc m → length mid ≡ length before → Reached b at 1 p one before mid place → Scans b place m (f (drop place b)) rest mid after answer → Scans b at whole (row_then p f) all before after answer
+  rows_scan {answer} few sized r h = record {
     sized = h.sized ∙ sized;
     stops = λ lt. rw r.is (ap (made (more r.what)) (h.stops lt));
     goes = λ le.

@@ -23,23 +23,23 @@ total_join (more r a) b =
     omega arith
 
 -- a row's own span, where the node is its own, and what the rest adds
-own-total : (t : Bool) (r : Row) (rest : Rows) → total (rows_then (cond t (one r) none) rest) ≡ cond t (span r) 0 + total rest
+own_total : (t : Bool) (r : Row) (rest : Rows) → total (rows_then (cond t (one r) none) rest) ≡ cond t (span r) 0 + total rest
 unfolding total rows_then
-own-total true r rest = refl
-own-total false r rest = sym (zero-add (total rest))
+own_total true r rest = refl
+own_total false r rest = sym (zero-add (total rest))
 
 same_either : (t : Bool) → ◌≡◌ {A = ℕ} (cond t 0 0) 0
 same_either true = refl
 same_either false = refl
 
 -- a row that has no span of its own
-own-none : (t : Bool) (r : Row) (rest : Rows) → span r ≡ 0 → total (rows_then (cond t (one r) none) rest) ≡ total rest
-own-none t r rest e = own-total t r rest ∙ rw (e, same_either t) (zero-add (total rest))
+own_none : (t : Bool) (r : Row) (rest : Rows) → span r ≡ 0 → total (rows_then (cond t (one r) none) rest) ≡ total rest
+own_none t r rest e = own_total t r rest ∙ rw (e, same_either t) (zero-add (total rest))
 
 pub fixed_adds : (d : ℕ) (s : List ℕ) (k : ℕ) (x : List ℕ) (j : ℕ) → row_adds d s k (fixed x) j ≡ 0
 unfolding row_adds gives total
 fixed_adds zero s k x j = refl
-fixed_adds (suc d) s k x j = own-none (eqb k j) (fixed x) none refl
+fixed_adds (suc d) s k x j = own_none (eqb k j) (fixed x) none refl
 
 nodes_add : (f : ℕ → Rows) → ((c : ℕ) → total (f c) ≡ 0) → (c n : ℕ) → total (over_nodes f c n) ≡ 0
 unfolding over_nodes total
@@ -55,7 +55,7 @@ pub null_adds : (d : ℕ) (s : List ℕ) (k j : ℕ) → row_adds d s k null j �
 unfolding row_adds gives total
 null_adds zero s k j = refl
 null_adds (suc d) s k j =
-    own-none (eqb k j) null (cond (eqb (code_of s k) 38) (over_nodes (λ c. gives d s c (gap_row s c) j) (first_child s k) (child_count s k)) none) refl
+    own_none (eqb k j) null (cond (eqb (code_of s k) 38) (over_nodes (λ c. gives d s c (gap_row s c) j) (first_child s k) (child_count s k)) none) refl
     ∙ below (eqb (code_of s k) 38) (λ c. gap_adds d s c j (takes_bitmap (layout_of (code_of s c))) (null_adds d s c j))
   where
     below : (t : Bool) → ((c : ℕ) → row_adds d s c (gap_row s c) j ≡ 0) → total (cond t (over_nodes (λ c. gives d s c (gap_row s c) j) (first_child s k) (child_count s k)) none) ≡ 0
@@ -64,15 +64,15 @@ null_adds (suc d) s k j =
 
 pub sized_adds_lem : (d : ℕ) (s : List ℕ) (k : ℕ) (x : List ℕ) (j : ℕ) → row_adds (suc d) s k (sized x) j ≡ sized_adds k x j
 unfolding row_adds gives total sized_adds
-sized_adds_lem d s k x j = own-total (eqb k j) (sized x) none ∙ add-zero (cond (eqb k j) (length x) 0)
+sized_adds_lem d s k x j = own_total (eqb k j) (sized x) none ∙ add-zero (cond (eqb k j) (length x) 0)
 
 pub counted_adds_lem : (d : ℕ) (s : List ℕ) (k : ℕ) (rs : Rows) (j : ℕ) → row_adds (suc d) s k (counted rs) j ≡ counted_adds d s k rs j
 unfolding row_adds gives counted_adds rows_add
-counted_adds_lem d s k rs j = own-total (eqb k j) (counted rs) (from_each (λ r. gives d s (first_child s k) r j) rs)
+counted_adds_lem d s k rs j = own_total (eqb k j) (counted rs) (from_each (λ r. gives d s (first_child s k) r j) rs)
 
 pub joined_adds : (d : ℕ) (s : List ℕ) (k : ℕ) (rs : Rows) (j : ℕ) → row_adds (suc d) s k (joined rs) j ≡ each_adds d s (first_child s k) rs j
 unfolding row_adds gives each_adds
-joined_adds d s k rs j = own-none (eqb k j) (joined rs) (over_each (λ c r. gives d s c r j) (first_child s k) rs) refl
+joined_adds d s k rs j = own_none (eqb k j) (joined rs) (over_each (λ c r. gives d s c r j) (first_child s k) rs) refl
 
 pub no_rows_add : (d : ℕ) (s : List ℕ) (k j : ℕ) → rows_add d s k none j ≡ 0
 unfolding rows_add from_each total

@@ -30,36 +30,36 @@ use Rattle.parse.proofs.Scans.{stopped, reached, made_scans}
 
 -- The children of a node of an accepted image are nodes of it.
 module _ {s : List ℕ} {k : ℕ} (within : Within s k) where
-  pub node-few : k < 256
-  node-few = omega (arith, within.node, within.image.tables.few-nodes)
+  pub node_few : k < 256
+  node_few = omega (arith, within.node, within.image.tables.few_nodes)
 
-  pub child-within : (c : ℕ) → c < child_count s k → Within s (first_child s k + c)
+  pub child_within : (c : ℕ) → c < child_count s k → Within s (first_child s k + c)
   unfolding child_end
-  child-within c few = record { image = within.image; node = omega (arith, few, (within.image.node k within.node).tree.ends) }
+  child_within c few = record { image = within.image; node = omega (arith, few, (within.image.node k within.node).tree.ends) }
 
-  pub list-child : layout_of (code_of s k) ≡ Lists → Within s (first_child s k)
-  list-child e =
+  pub list_child : layout_of (code_of s k) ≡ Lists → Within s (first_child s k)
+  list_child e =
       let single : child_count s k ≡ 1 = (within.image.node k within.node).tree.exactly 1 (rw e) in
-      let child : Within s (first_child s k + 0) = child-within 0 (omega arith) in
+      let child : Within s (first_child s k + 0) = child_within 0 (omega arith) in
       rw (add-zero (first_child s k)) at child
 
   -- as the code reads it
-  pub struct-child : {first many c : ℕ} → Read (first_child s k) 16 first → Read (child_count s k) 16 many → c < many → Within s (first + c)
-  struct-child {first} {many} {c} child count lt = rw child.value (child-within c (omega (arith, count.value, lt)))
+  pub struct_child : {first many c : ℕ} → Read (first_child s k) 16 first → Read (child_count s k) 16 many → c < many → Within s (first + c)
+  struct_child {first} {many} {c} child count lt = rw child.value (child_within c (omega (arith, count.value, lt)))
 
-  pub first-child : {first : ℕ} → layout_of (code_of s k) ≡ Lists → Read (first_child s k) 16 first → Within s first
-  first-child {first} e child = rw child.value (list-child e)
+  pub first_child_lem : {first : ℕ} → layout_of (code_of s k) ≡ Lists → Read (first_child s k) 16 first → Within s first
+  first_child_lem {first} e child = rw child.value (list_child e)
 
 -- What the code of a node says, as it was read.
 module _ {x code : ℕ} (read : Read x 8 code) where
   pub layout_is : {l : Layout} → l ≡ layout_of code → layout_of x ≡ l
   layout_is {l} e = sym (e ∙ ap layout_of read.value)
 
-  pub layout-told : {l m : Layout} → l ≡ layout_of code → l ≡ m → layout_of x ≡ m
-  layout-told {l} {m} e told = layout_is e ∙ told
+  pub layout_told : {l m : Layout} → l ≡ layout_of code → l ≡ m → layout_of x ≡ m
+  layout_told {l} {m} e told = layout_is e ∙ told
 
-  pub bitmap-told : {t u : Bool} → t ≡ takes_bitmap (layout_of code) → t ≡ u → takes_bitmap (layout_of x) ≡ u
-  bitmap-told {t} {u} e told = sym (e ∙ ap (λ (n : ℕ). takes_bitmap (layout_of n)) read.value) ∙ told
+  pub bitmap_told : {t u : Bool} → t ≡ takes_bitmap (layout_of code) → t ≡ u → takes_bitmap (layout_of x) ≡ u
+  bitmap_told {t} {u} e told = sym (e ∙ ap (λ (n : ℕ). takes_bitmap (layout_of n)) read.value) ∙ told
 
 -- the codes from 2 to 25
 fixed_codes : (code : ℕ) → 2 ≤ code → code ≤ 25 → layout_of code ≡ FixedWidth
@@ -67,9 +67,9 @@ unfolding layout_of entry_of entries
 fixed_codes code low high = sym (constant [] FixedWidth layout_of 2 24 refl code low (omega arith) tt)
 
 -- a code whose values have a width that the code alone says
-pub plain-width : (s : List ℕ) (k : ℕ) → 0 < plain_width (code_of s k) → (layout_of (code_of s k) ≡ FixedWidth) × (element_width s k ≡ plain_width (code_of s k))
+pub plain_width_lem : (s : List ℕ) (k : ℕ) → 0 < plain_width (code_of s k) → (layout_of (code_of s k) ≡ FixedWidth) × (element_width s k ≡ plain_width (code_of s k))
 unfolding plain_width element_width width_of
-plain-width s k some = cases (leb 2 (code_of s k) && leb (code_of s k) 25) refl some
+plain_width_lem s k some = cases (leb 2 (code_of s k) && leb (code_of s k) 25) refl some
   where
     cases : (t : Bool) → leb 2 (code_of s k) && leb (code_of s k) 25 ≡ t → 0 < cond t (entry_of (code_of s k)).width 0 → (layout_of (code_of s k) ≡ FixedWidth) × (width_of (code_of s k) (p1_of s k) ≡ cond t (entry_of (code_of s k)).width 0)
     cases true e lt =
@@ -89,8 +89,8 @@ module _ (d : ℕ) (s : List ℕ) (k : ℕ) (b : List ℕ) (at : ℕ) where
   pub value_of_lem : {before after : List ℕ} {answer : ℕ} (l : Layout) → layout_of (code_of s k) ≡ l → Scans b at 0 (value_in l (row_in d s) s k (drop at b)) (row_adds (suc d) s k) before after answer → Scans b at 0 (value_in (layout_of (code_of s k)) (row_in d s) s k (drop at b)) (row_adds (suc d) s k) before after answer
   value_of_lem {before} {after} {answer} l e h = subst (λ (x : Layout). Scans b at 0 (value_in x (row_in d s) s k (drop at b)) (row_adds (suc d) s k) before after answer) (sym e) h
 
-  pub null-value : (spans : List ℕ) → layout_of (code_of s k) ≡ Null → at ≤ length b → Scans b at 0 (value_in (layout_of (code_of s k)) (row_in d s) s k (drop at b)) (row_adds (suc d) s k) spans spans at
-  null-value spans e inside =
+  pub null_value : (spans : List ℕ) → layout_of (code_of s k) ≡ Null → at ≤ length b → Scans b at 0 (value_in (layout_of (code_of s k)) (row_in d s) s k (drop at b)) (row_adds (suc d) s k) spans spans at
+  null_value spans e inside =
       value_of_lem Null e
       (reached refl (record {
         what = fixed [];
@@ -101,36 +101,36 @@ module _ (d : ℕ) (s : List ℕ) (k : ℕ) (b : List ℕ) (at : ℕ) where
       }))
 
   module _ {answer : ℕ} where
-    fixed-value : (p : Parsed (List ℕ)) (spans : List ℕ) → Leaves b at p answer → Scans b at 0 (made fixed p) (row_adds (suc d) s k) spans spans answer
+    fixed_value : (p : Parsed (List ℕ)) (spans : List ℕ) → Leaves b at p answer → Scans b at 0 (made fixed p) (row_adds (suc d) s k) spans spans answer
     unfolding nothing
-    fixed-value p spans h = made_scans fixed (λ x j. fixed_adds (suc d) s k x j) (h spans)
+    fixed_value p spans h = made_scans fixed (λ x j. fixed_adds (suc d) s k x j) (h spans)
 
-    pub boolean-value : (spans : List ℕ) → layout_of (code_of s k) ≡ Boolean → Leaves b at (boolean_in (drop at b)) answer → Scans b at 0 (value_in (layout_of (code_of s k)) (row_in d s) s k (drop at b)) (row_adds (suc d) s k) spans spans answer
+    pub boolean_value : (spans : List ℕ) → layout_of (code_of s k) ≡ Boolean → Leaves b at (boolean_in (drop at b)) answer → Scans b at 0 (value_in (layout_of (code_of s k)) (row_in d s) s k (drop at b)) (row_adds (suc d) s k) spans spans answer
     unfolding boolean_in
-    boolean-value spans e h =
+    boolean_value spans e h =
         value_of_lem Boolean e
-        (rw (← made_when (leb (byte_at (drop at b) 0) 1) (bytes_in 1 (drop at b))) (fixed-value (boolean_in (drop at b)) spans h))
+        (rw (← made_when (leb (byte_at (drop at b) 0) 1) (bytes_in 1 (drop at b))) (fixed_value (boolean_in (drop at b)) spans h))
 
-    pub bytes-value : (spans : List ℕ) (w : ℕ) → layout_of (code_of s k) ≡ FixedWidth → w ≡ element_width s k → Leaves b at (bytes_in w (drop at b)) answer → Scans b at 0 (value_in (layout_of (code_of s k)) (row_in d s) s k (drop at b)) (row_adds (suc d) s k) spans spans answer
-    bytes-value spans w e width h = value_of_lem FixedWidth e (rw (← width) (fixed-value (bytes_in w (drop at b)) spans h))
+    pub bytes_value_lem : (spans : List ℕ) (w : ℕ) → layout_of (code_of s k) ≡ FixedWidth → w ≡ element_width s k → Leaves b at (bytes_in w (drop at b)) answer → Scans b at 0 (value_in (layout_of (code_of s k)) (row_in d s) s k (drop at b)) (row_adds (suc d) s k) spans spans answer
+    bytes_value_lem spans w e width h = value_of_lem FixedWidth e (rw (← width) (fixed_value (bytes_in w (drop at b)) spans h))
 
     pub plain_value : {code w : ℕ} (spans : List ℕ) → Read (code_of s k) 8 code → w ≡ plain_width code → 0 < w → Leaves b at (bytes_in w (drop at b)) answer → Scans b at 0 (value_in (layout_of (code_of s k)) (row_in d s) s k (drop at b)) (row_adds (suc d) s k) spans spans answer
     plain_value {code} {w} spans read width some h =
         let e : w ≡ plain_width (code_of s k) = width ∙ ap plain_width read.value in
-        let plain = plain-width s k (omega (arith, some)) in
-        bytes-value spans w plain.0 (e ∙ sym plain.1) h
+        let plain = plain_width_lem s k (omega (arith, some)) in
+        bytes_value_lem spans w plain.0 (e ∙ sym plain.1) h
 
     module _ {before after : List ℕ} where
-      pub text-value : {code : ℕ} → Read (code_of s k) 8 code → layout_of (code_of s k) ≡ VariableSize → Scans b at 0 (text_in code (drop at b)) (sized_adds k) before after answer → Scans b at 0 (value_in (layout_of (code_of s k)) (row_in d s) s k (drop at b)) (row_adds (suc d) s k) before after answer
+      pub text_value_lem : {code : ℕ} → Read (code_of s k) 8 code → layout_of (code_of s k) ≡ VariableSize → Scans b at 0 (text_in code (drop at b)) (sized_adds k) before after answer → Scans b at 0 (value_in (layout_of (code_of s k)) (row_in d s) s k (drop at b)) (row_adds (suc d) s k) before after answer
       unfolding text_in
-      text-value {code} read e h = value_of_lem VariableSize e (rw (← read.value) (made_scans sized (sized_adds_lem d s k) h))
+      text_value_lem {code} read e h = value_of_lem VariableSize e (rw (← read.value) (made_scans sized (sized_adds_lem d s k) h))
 
-      pub list-value : layout_of (code_of s k) ≡ Lists → Scans b at 0 (list_in (row_in d s (first_child s k)) (drop at b)) (counted_adds d s k) before after answer → Scans b at 0 (value_in (layout_of (code_of s k)) (row_in d s) s k (drop at b)) (row_adds (suc d) s k) before after answer
+      pub list_value_lem : layout_of (code_of s k) ≡ Lists → Scans b at 0 (list_in (row_in d s (first_child s k)) (drop at b)) (counted_adds d s k) before after answer → Scans b at 0 (value_in (layout_of (code_of s k)) (row_in d s) s k (drop at b)) (row_adds (suc d) s k) before after answer
       unfolding list_in
-      list-value e h = value_of_lem Lists e (made_scans counted (counted_adds_lem d s k) h)
+      list_value_lem e h = value_of_lem Lists e (made_scans counted (counted_adds_lem d s k) h)
 
-      pub struct-value : layout_of (code_of s k) ≡ Struct → Scans b at 0 (row_of_each (row_in d s) (first_child s k) (child_count s k) (drop at b)) (each_adds d s (first_child s k)) before after answer → Scans b at 0 (value_in (layout_of (code_of s k)) (row_in d s) s k (drop at b)) (row_adds (suc d) s k) before after answer
-      struct-value e h = value_of_lem Struct e (made_scans joined (joined_adds d s k) h)
+      pub struct_value : layout_of (code_of s k) ≡ Struct → Scans b at 0 (row_of_each (row_in d s) (first_child s k) (child_count s k) (drop at b)) (each_adds d s (first_child s k)) before after answer → Scans b at 0 (value_in (layout_of (code_of s k)) (row_in d s) s k (drop at b)) (row_adds (suc d) s k) before after answer
+      struct_value e h = value_of_lem Struct e (made_scans joined (joined_adds d s k) h)
 
     -- 23 keeps the other layouts out: those at these places of the declaration
     pub other_value : (spans : List ℕ) (l : Layout) → layout_of (code_of s k) ≡ l → OneOf (4 ∷ 6 ∷ 7 ∷ 9 ∷ 10 ∷ 11 ∷ 12 ∷ []) (tag_of the_type l) → length b < answer → Scans b at 0 (value_in (layout_of (code_of s k)) (row_in d s) s k (drop at b)) (row_adds (suc d) s k) spans spans answer

@@ -18,16 +18,16 @@ use Rattle.image.specs.Row.{Rows}
 use Rattle.image.specs.Utf8.{next_states}
 use Rattle.image.specs.Parse.{parsed, readable, rows_of, row_in, rows_in}
 use Rattle.laws.proofs.Accepted.{accepted}
-use Rattle.built.proofs.Parsed.{failed-not}
-use Rattle.built.proofs.Typed.{rows-typed}
+use Rattle.built.proofs.Parsed.{failed_not}
+use Rattle.built.proofs.Typed.{rows_typed}
 use Rattle.built.proofs.Walk.{columns_given}
 use Rattle.parse.specs.Answer.{are_rows, Spanned}
 use Rattle.parse.specs.Scan.{not_rows, rows_add, Within, Begun, Scans}
 
-pub root-within : (s : List ℕ) → check_image s ≡ Accepted → Within s 0
-root-within s e =
+pub root_within : (s : List ℕ) → check_image s ≡ Accepted → Within s 0
+root_within s e =
     let image = accepted s e in
-    record { image = image; node = omega (arith, image.tables.some-nodes) }
+    record { image = image; node = omega (arith, image.tables.some_nodes) }
 
 -- all spans are 0 at first
 pub begun_first : (b table spans : List ℕ) → length b < not_rows → table ≡ next_states → spans ≡ replicate 256 0 → Begun b 0 table spans
@@ -42,8 +42,8 @@ begun_first b table spans short states zeros =
     })
 
 -- two readings of one string
-parsed-same : {rs qs : Rows} {x y : List ℕ} → parsed rs x ≡ parsed qs y → rs ≡ qs
-parsed-same e = cc
+parsed_same : {rs qs : Rows} {x y : List ℕ} → parsed rs x ≡ parsed qs y → rs ≡ qs
+parsed_same e = cc
 
 -- so many rows of the root, from the string's first byte on
 module _ (s : List ℕ) (n : ℕ) (b : List ℕ) {before after : List ℕ} {answer : ℕ} (h : Scans b 0 n (rows_of (row_in 16 s 0) n (drop 0 b)) (rows_add 16 s 0) before after answer) where
@@ -51,9 +51,9 @@ module _ (s : List ℕ) (n : ℕ) (b : List ℕ) {before after : List ℕ} {answ
   some_left : (rs : Rows) → answer < length b → are_rows (parsed rs (drop answer b)) ≡ false
   some_left rs lt = rw (drop-cons b answer 0 lt)
 
-  pub whole-answer : eqb answer (length b) ≡ are_rows (rows_in s n b)
+  pub whole_answer : eqb answer (length b) ≡ are_rows (rows_in s n b)
   unfolding rows_in
-  whole-answer = cases (ltb (length b) answer) refl
+  whole_answer = cases (ltb (length b) answer) refl
     where
       inside : answer ≤ length b → (answer ≡ length b) ⊎ (answer < length b) → eqb answer (length b) ≡ are_rows (rows_of (row_in 16 s 0) n b)
       inside le (inl e) =
@@ -77,19 +77,19 @@ module _ (s : List ℕ) (n : ℕ) (b : List ℕ) {before after : List ℕ} {answ
   came rs rest e = cases (ltb (length b) answer) refl
     where
       cases : (t : Bool) → ltb (length b) answer ≡ t → answer ≤ length b
-      cases true past = absurd (failed-not (sym (h.stops (ltb-true (length b) answer past)) ∙ e))
+      cases true past = absurd (failed_not (sym (h.stops (ltb-true (length b) answer past)) ∙ e))
       cases false le = ltb-false (length b) answer le
 
-  pub whole-spans : check_image s ≡ Accepted → readable s ≡ true → AllBytes b → before ≡ replicate 256 0 → Spanned s (rows_in s n b) after
+  pub whole_spans : check_image s ≡ Accepted → readable s ≡ true → AllBytes b → before ≡ replicate 256 0 → Spanned s (rows_in s n b) after
   unfolding rows_in rows_add
-  whole-spans check codes all zeros = record {
+  whole_spans check codes all zeros = record {
     sized = h.sized ∙ rw zeros (length-replicate {A = ℕ} 256 0);
     spans = λ rs e j lt.
         let image = accepted s check in
         let r = h.goes (came rs [] e) in
-        let same : r.what ≡ rs = parsed-same (sym r.is ∙ e) in
-        let few : j < 256 = omega (arith, image.tables.few-nodes) in
+        let same : r.what ≡ rs = parsed_same (sym r.is ∙ e) in
+        let few : j < 256 = omega (arith, image.tables.few_nodes) in
         let first : get_or before j 0 ≡ 0 = rw zeros (get_or-replicate {A = ℕ} 256 j 0 0 few) in
-        let given = columns_given s image codes rs (rows-typed s n b all rs [] e) j lt in
+        let given = columns_given s image codes rs (rows_typed s n b all rs [] e) j lt in
         rw (given, ← same) (omega (arith, r.spans j few, first));
   }

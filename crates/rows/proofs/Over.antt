@@ -10,12 +10,12 @@ use Rattle.image.specs.Ranges.{pieces}
 use Rattle.image.specs.Bytes.{byte_at, number_bytes, bytes_at}
 use Rattle.image.specs.Row.{row_at}
 use Rattle.image.specs.RowBytes.{row_bytes}
-use Rattle.laws.proofs.Lengths.{number-length, bytes-length}
+use Rattle.laws.proofs.Lengths.{number_length, bytes_length}
 use Rattle.rows.specs.declared.value.Value.{Value}
 use Rattle.rows.specs.Output.{over, Fits}
 use Rattle.rows.specs.Value.{front_bytes, own_bytes}
-use Rattle.rows.proofs.Joined.{joined-start, joined-next, joined_end, bytes-joined, number-next}
-use Rattle.rows.proofs.RowParts.{RowValue, children_bytes, own-length}
+use Rattle.rows.proofs.Joined.{joined_start, joined_next, joined_end, bytes_joined, number_next}
+use Rattle.rows.proofs.RowParts.{RowValue, children_bytes, own_length}
 
 -- nothing, one byte
 pub over_none : (out : List ℕ) (at : ℕ) → over out at [] ≡ out
@@ -24,9 +24,9 @@ over_none out at =
     let e : at + 0 ≡ at = omega arith in
     rw e (take-append-drop at out)
 
-pub over-one : (out : List ℕ) (at x : ℕ) → at < length out → set out at x ≡ over out at (x ∷ [])
+pub over_one : (out : List ℕ) (at x : ℕ) → at < length out → set out at x ≡ over out at (x ∷ [])
 unfolding over
-over-one out at x lt =
+over_one out at x lt =
     let e : at + 1 ≡ suc at = omega arith in
     rw e (set_split out at x lt)
 
@@ -40,28 +40,28 @@ module _ (out : List ℕ) (at : ℕ) (x : List ℕ) (fits : at + length x ≤ le
   front_length : length (take at out ++ x) ≡ at + length x
   front_length = omega (arith, length-append (take at out) x, length-take-le at out (omega arith))
 
-  over-front : over out at x ≡ (take at out ++ x) ++ drop (at + length x) out
+  over_front : over out at x ≡ (take at out ++ x) ++ drop (at + length x) out
   unfolding over
-  over-front = sym (append_assoc (take at out) x (drop (at + length x) out))
+  over_front = sym (append_assoc (take at out) x (drop (at + length x) out))
 
   -- the buffer keeps its length
-  pub over-length : length (over out at x) ≡ length out
-  over-length =
-      let a : length (over out at x) ≡ length ((take at out ++ x) ++ drop (at + length x) out) = ap length over-front in
+  pub over_length : length (over out at x) ≡ length out
+  over_length =
+      let a : length (over out at x) ≡ length ((take at out ++ x) ++ drop (at + length x) out) = ap length over_front in
       omega (arith, a, length-append (take at out ++ x) (drop (at + length x) out), front_length, length-drop (at + length x) out)
 
   -- two pieces, one after the other
-  pub over-over : (y : List ℕ) → over (over out at x) (at + length x) y ≡ over out at (x ++ y)
+  pub over_over : (y : List ℕ) → over (over out at x) (at + length x) y ≡ over out at (x ++ y)
   unfolding over
-  over-over y =
+  over_over y =
       let before : List ℕ = take at out in
       let after : List ℕ = drop (at + length x) out in
       let end : ℕ = at + length x in
       let same : end + length y ≡ at + length (x ++ y) = omega (arith, length-append x y) in
-      let front : take end (over out at x) ≡ before ++ x = ap (take end) over-front ∙ take_at (before ++ x) after end front_length in
+      let front : take end (over out at x) ≡ before ++ x = ap (take end) over_front ∙ take_at (before ++ x) after end front_length in
       let back : drop (end + length y) (over out at x) ≡ drop (at + length (x ++ y)) out =
       sym (drop-drop (length y) end (over out at x))
-      ∙ ap (drop (length y)) (ap (drop end) over-front ∙ drop_at (before ++ x) after end front_length)
+      ∙ ap (drop (length y)) (ap (drop end) over_front ∙ drop_at (before ++ x) after end front_length)
       ∙ drop-drop (length y) end out
       ∙ ap (λ (n : ℕ). drop n out) same
       in
@@ -74,14 +74,14 @@ module _ (out : List ℕ) (at : ℕ) (x : List ℕ) (fits : at + length x ≤ le
   unfolding over
   over_there =
       let front : length (take at out) ≡ at = length-take-le at out (omega arith) in
-      let whole : length (over out at x) ≡ length out = over-length in
+      let whole : length (over out at x) ≡ length out = over_length in
       bytes_taken (length x) at (over out at x) (omega arith)
       ∙ ap (take (length x)) (drop_at (take at out) (x ++ drop (at + length x) out) at front)
       ∙ take-append_seam x (drop (at + length x) out)
 
-  pub over-before : (p : ℕ) → p < at → byte_at (over out at x) p ≡ byte_at out p
+  pub over_before : (p : ℕ) → p < at → byte_at (over out at x) p ≡ byte_at out p
   unfolding over
-  over-before p lt =
+  over_before p lt =
       let front : length (take at out) ≡ at = length-take-le at out (omega arith) in
       get_or-append (take at out) (x ++ drop (at + length x) out) 0 p (omega arith) ∙ get_or-take at out p 0 lt
 
@@ -92,8 +92,8 @@ pub record ToPut (out₀ : List ℕ) (at : ℕ) (whole out : List ℕ) (next : �
   pub long : length out ≡ length out₀
   pub fits : next + length rest ≤ length out
 
-pub put-start : {out : List ℕ} {at : ℕ} {whole : List ℕ} → Fits out at whole → ToPut out at whole out at whole
-put-start fits = record { same = refl; ends = refl; long = refl; fits = fits.within }
+pub put_start : {out : List ℕ} {at : ℕ} {whole : List ℕ} → Fits out at whole → ToPut out at whole out at whole
+put_start fits = record { same = refl; ends = refl; long = refl; fits = fits.within }
 
 -- the same bytes, said in another way
 pub put_as : {out₀ whole out rest other : List ℕ} {at next : ℕ} → ToPut out₀ at whole out next rest → rest ≡ other → ToPut out₀ at whole out next other
@@ -105,15 +105,15 @@ module _ {out₀ whole out : List ℕ} {at next : ℕ} where
     piece_fits : next + length x ≤ length out
     piece_fits = omega (arith, t.fits, length-append x rest)
 
-    pub put-fits : Fits out next x
-    put-fits = record { within = piece_fits }
+    pub put_fits : Fits out next x
+    put_fits = record { within = piece_fits }
 
     -- the piece is put
-    pub put-more : {after : List ℕ} {end : ℕ} → after ≡ over out next x → end ≡ next + length x → ToPut out₀ at whole after end rest
-    put-more {after} {end} e f =
-        let long : length after ≡ length out = ap length e ∙ over-length out next x piece_fits in
+    pub put_more : {after : List ℕ} {end : ℕ} → after ≡ over out next x → end ≡ next + length x → ToPut out₀ at whole after end rest
+    put_more {after} {end} e f =
+        let long : length after ≡ length out = ap length e ∙ over_length out next x piece_fits in
         record {
-          same = rw (e, f) (over-over out next x piece_fits rest ∙ t.same);
+          same = rw (e, f) (over_over out next x piece_fits rest ∙ t.same);
           ends = omega (arith, f, t.ends, length-append x rest);
           long = long ∙ t.long;
           fits = omega (arith, f, long, t.fits, length-append x rest);
@@ -121,7 +121,7 @@ module _ {out₀ whole out : List ℕ} {at next : ℕ} where
 
   -- the next byte is put
   pub put_byte : {x : ℕ} {rest : List ℕ} → ToPut out₀ at whole out next (x ∷ rest) → ToPut out₀ at whole (set out next x) (next + 1) rest
-  put_byte {x} {rest} t = put-more (x ∷ []) rest t (over-one out next x (omega (arith, t.fits))) refl
+  put_byte {x} {rest} t = put_more (x ∷ []) rest t (over_one out next x (omega (arith, t.fits))) refl
 
   -- the last piece is put
   pub put_last : {x after : List ℕ} {end : ℕ} → ToPut out₀ at whole out next x → after ≡ over out next x → end ≡ next + length x → (end ≡ at + length whole) × (after ≡ over out₀ at whole)
@@ -129,68 +129,68 @@ module _ {out₀ whole out : List ℕ} {at next : ℕ} where
 
   -- all is put
   module _ (t : ToPut out₀ at whole out next []) where
-    pub put-place : next ≡ at + length whole
-    put-place = omega (arith, t.ends)
+    pub put_place : next ≡ at + length whole
+    put_place = omega (arith, t.ends)
 
-    pub put-done : out ≡ over out₀ at whole
-    put-done = sym (over_none out next) ∙ t.same
+    pub put_done : out ≡ over out₀ at whole
+    put_done = sym (over_none out next) ∙ t.same
 
 -- what stood before the bytes that are put stays
-before-kept : {out₀ whole out rest : List ℕ} {at next : ℕ} → ToPut out₀ at whole out next rest → (p : ℕ) → p < at → at ≤ next → byte_at out p ≡ byte_at out₀ p
-before-kept {out₀} {whole} {out} {rest} {at} {next} t p lt le =
-    sym (over-before out next rest t.fits p (omega arith))
+before_kept : {out₀ whole out rest : List ℕ} {at next : ℕ} → ToPut out₀ at whole out next rest → (p : ℕ) → p < at → at ≤ next → byte_at out p ≡ byte_at out₀ p
+before_kept {out₀} {whole} {out} {rest} {at} {next} t p lt le =
+    sym (over_before out next rest t.fits p (omega arith))
     ∙ ap (λ (b : List ℕ). byte_at b p) t.same
-    ∙ over-before out₀ at whole (omega (arith, t.ends, t.long, t.fits)) p lt
+    ∙ over_before out₀ at whole (omega (arith, t.ends, t.long, t.fits)) p lt
 
 -- Of n pieces from piece i on, those from piece k on are still to be put.
 pub record PiecesToPut (p : ℕ → List ℕ) (i n : ℕ) (out₀ : List ℕ) (at : ℕ) (out : List ℕ) (next k : ℕ) : Type 0 where
   pub put : ToPut out₀ at (pieces p i n) out next (pieces p (i + k) (n - k))
 
-pub pieces-start : (p : ℕ → List ℕ) (i n : ℕ) {out : List ℕ} {at : ℕ} → Fits out at (pieces p i n) → PiecesToPut p i n out at out at 0
-pieces-start p i n fits = record { put = put_as (put-start fits) (sym (joined-start p i n)) }
+pub pieces_start : (p : ℕ → List ℕ) (i n : ℕ) {out : List ℕ} {at : ℕ} → Fits out at (pieces p i n) → PiecesToPut p i n out at out at 0
+pieces_start p i n fits = record { put = put_as (put_start fits) (sym (joined_start p i n)) }
 
 module _ {p : ℕ → List ℕ} {i n : ℕ} {out₀ : List ℕ} {at : ℕ} {out : List ℕ} {next k : ℕ} (t : PiecesToPut p i n out₀ at out next k) where
   module _ (lt : k < n) where
     piece_next : ToPut out₀ at (pieces p i n) out next (p (i + k) ++ pieces p (i + (k + 1)) (n - (k + 1)))
-    piece_next = put_as t.put (joined-next p i n k lt)
+    piece_next = put_as t.put (joined_next p i n k lt)
 
     pub pieces_fit : Fits out next (p (i + k))
-    pieces_fit = put-fits _ _ piece_next
+    pieces_fit = put_fits _ _ piece_next
 
     pub pieces_more : {after : List ℕ} {end : ℕ} → after ≡ over out next (p (i + k)) → end ≡ next + length (p (i + k)) → PiecesToPut p i n out₀ at after end (k + 1)
-    pieces_more e f = record { put = put-more _ _ piece_next e f }
+    pieces_more e f = record { put = put_more _ _ piece_next e f }
 
   module _ (le : n ≤ k) where
     none_left : ToPut out₀ at (pieces p i n) out next []
     none_left = put_as t.put (joined_end p i n k le)
 
-    pub pieces-place : next ≡ at + length (pieces p i n)
-    pieces-place = put-place none_left
+    pub pieces_place : next ≡ at + length (pieces p i n)
+    pieces_place = put_place none_left
 
-    pub pieces-done : out ≡ over out₀ at (pieces p i n)
-    pieces-done = put-done none_left
+    pub pieces_done : out ≡ over out₀ at (pieces p i n)
+    pieces_done = put_done none_left
 
 -- The w bytes of a number x, of which those from byte k on are still to be put; rest is what is left of the number.
 pub record NumberToPut (w x : ℕ) (out₀ : List ℕ) (at : ℕ) (out : List ℕ) (rest k : ℕ) : Type 0 where
   pub put : ToPut out₀ at (number_bytes w x) out (at + k) (number_bytes (w - k) rest)
 
-pub number-start : {w x at : ℕ} {out : List ℕ} → at + w ≤ length out → NumberToPut w x out at out x 0
-number-start {w} {x} {at} {out} fits =
+pub number_start : {w x at : ℕ} {out : List ℕ} → at + w ≤ length out → NumberToPut w x out at out x 0
+number_start {w} {x} {at} {out} fits =
     let a : at + 0 ≡ at = omega arith in
     let b : w - 0 ≡ w = omega arith in
-    record { put = rw (a, b) (put-start (record { within = omega (arith, number-length w x) })) }
+    record { put = rw (a, b) (put_start (record { within = omega (arith, number_length w x) })) }
 
 module _ {w x : ℕ} {out₀ : List ℕ} {at : ℕ} {out : List ℕ} {rest k : ℕ} (t : NumberToPut w x out₀ at out rest k) where
   pub number_more : k < w → NumberToPut w x out₀ at (set out (at + k) (rest % 256)) (rest / 256) (k + 1)
   number_more lt =
       let e : at + (k + 1) ≡ at + k + 1 = omega arith in
-      record { put = rw e (put_byte (put_as t.put (number-next w k rest lt))) }
+      record { put = rw e (put_byte (put_as t.put (number_next w k rest lt))) }
 
-  pub number-done : w ≤ k → out ≡ over out₀ at (number_bytes w x)
+  pub number_done : w ≤ k → out ≡ over out₀ at (number_bytes w x)
   unfolding number_bytes
-  number-done le =
+  number_done le =
       let e : w - k ≡ 0 = omega arith in
-      put-done (rw e at t.put)
+      put_done (rw e at t.put)
 
 -- Of n bytes of an image from a place on, those from byte k on are still to be put.
 abbrev one_byte_lem : List ℕ → ℕ → List ℕ
@@ -199,65 +199,65 @@ one_byte_lem s j = byte_at s j ∷ []
 pub record BytesToPut (s : List ℕ) (place n : ℕ) (out₀ : List ℕ) (at : ℕ) (out : List ℕ) (k : ℕ) : Type 0 where
   pub put : PiecesToPut (one_byte_lem s) place n out₀ at out (at + k) k
 
-pub bytes-start : {s : List ℕ} {place n at : ℕ} {out : List ℕ} → at + n ≤ length out → BytesToPut s place n out at out 0
-bytes-start {s} {place} {n} {at} {out} fits =
+pub bytes_start : {s : List ℕ} {place n at : ℕ} {out : List ℕ} → at + n ≤ length out → BytesToPut s place n out at out 0
+bytes_start {s} {place} {n} {at} {out} fits =
     let a : at + 0 ≡ at = omega arith in
-    let b : length (pieces (one_byte_lem s) place n) ≡ n = sym (ap length (bytes-joined s place n)) ∙ bytes-length s place n in
-    record { put = rw a (pieces-start (one_byte_lem s) place n (record { within = omega arith })) }
+    let b : length (pieces (one_byte_lem s) place n) ≡ n = sym (ap length (bytes_joined s place n)) ∙ bytes_length s place n in
+    record { put = rw a (pieces_start (one_byte_lem s) place n (record { within = omega arith })) }
 
 module _ {s : List ℕ} {place n : ℕ} {out₀ : List ℕ} {at : ℕ} {out : List ℕ} {k : ℕ} (t : BytesToPut s place n out₀ at out k) where
-  pub bytes-more : k < n → BytesToPut s place n out₀ at (set out (at + k) (byte_at s (place + k))) (k + 1)
-  bytes-more lt = record { put = pieces_more t.put lt (over-one out (at + k) _ (omega (arith, (pieces_fit t.put lt).within))) (omega arith) }
+  pub bytes_more : k < n → BytesToPut s place n out₀ at (set out (at + k) (byte_at s (place + k))) (k + 1)
+  bytes_more lt = record { put = pieces_more t.put lt (over_one out (at + k) _ (omega (arith, (pieces_fit t.put lt).within))) (omega arith) }
 
-  pub bytes-done : n ≤ k → out ≡ over out₀ at (bytes_at s place n)
-  bytes-done le = pieces-done t.put le ∙ ap (over out₀ at) (sym (bytes-joined s place n))
+  pub bytes_done : n ≤ k → out ≡ over out₀ at (bytes_at s place n)
+  bytes_done le = pieces_done t.put le ∙ ap (over out₀ at) (sym (bytes_joined s place n))
 
 -- The same of bytes of the buffer itself, which stand before the place where they are put.
 module _ {place n : ℕ} {out₀ : List ℕ} {at : ℕ} {out : List ℕ} {k : ℕ} (t : BytesToPut out₀ place n out₀ at out k) where
   pub again_more : k < n → place + n ≤ at → BytesToPut out₀ place n out₀ at (set out (at + k) (byte_at out (place + k))) (k + 1)
-  again_more lt le = rw (before-kept t.put.put (place + k) (omega arith) (omega arith)) (bytes-more t lt)
+  again_more lt le = rw (before_kept t.put.put (place + k) (omega arith) (omega arith)) (bytes_more t lt)
 
 -- a null, one byte
 module _ {out bytes : List ℕ} {at : ℕ} (fits : Fits out at bytes) (e : bytes ≡ 0 ∷ []) where
-  null-length : length bytes ≡ 1
-  null-length = ap length e
+  null_length : length bytes ≡ 1
+  null_length = ap length e
 
-  pub null-fits : at + 1 ≤ length out
-  null-fits = omega (arith, fits.within, null-length)
+  pub null_fits : at + 1 ≤ length out
+  null_fits = omega (arith, fits.within, null_length)
 
-  pub null-put : {end : ℕ} {after : List ℕ} → (end ≡ at + 1) × (after ≡ over out at (number_bytes 1 0)) → (end ≡ at + length bytes) × (after ≡ over out at bytes)
+  pub null_put : {end : ℕ} {after : List ℕ} → (end ≡ at + 1) × (after ≡ over out at (number_bytes 1 0)) → (end ≡ at + length bytes) × (after ≡ over out at bytes)
   unfolding number_bytes
-  null-put f = put_last (put_as (put-start fits) e) f.1 f.0
+  null_put f = put_last (put_as (put_start fits) e) f.1 f.0
 
 -- the bytes that are left, as pieces
-pub pieces-from : {p : ℕ → List ℕ} {i n : ℕ} {out₀ whole out : List ℕ} {at next : ℕ} → ToPut out₀ at whole out next (pieces p i n) → PiecesToPut p i n out next out next 0
-pieces-from {p} {i} {n} t = pieces-start p i n (record { within = t.fits })
+pub pieces_from : {p : ℕ → List ℕ} {i n : ℕ} {out₀ whole out : List ℕ} {at next : ℕ} → ToPut out₀ at whole out next (pieces p i n) → PiecesToPut p i n out next out next 0
+pieces_from {p} {i} {n} t = pieces_start p i n (record { within = t.fits })
 
 -- What a value has before its child rows: the byte 01, the number in front, the image's bytes.
 module _ (s : List ℕ) (v : Value) {out : List ℕ} {at : ℕ} (fits : Fits out at (own_bytes s v)) where
-  pub own-fits : at + 1 + v.width + v.size ≤ length out
-  own-fits = omega (arith, fits.within, own-length s v)
+  pub own_fits : at + 1 + v.width + v.size ≤ length out
+  own_fits = omega (arith, fits.within, own_length s v)
 
-  own-start : ToPut out at (own_bytes s v) out at (1 ∷ (number_bytes v.width v.head ++ bytes_at s v.place v.size))
+  own_start : ToPut out at (own_bytes s v) out at (1 ∷ (number_bytes v.width v.head ++ bytes_at s v.place v.size))
   unfolding own_bytes front_bytes
-  own-start = put-start fits
+  own_start = put_start fits
 
   pub own_put : {number place end : ℕ} {marked headed own : List ℕ} → (number ≡ at + 1) × (marked ≡ over out at (number_bytes 1 1)) → (place ≡ number + v.width) × (headed ≡ over marked number (number_bytes v.width v.head)) → (end ≡ place + v.size) × (own ≡ over headed place (bytes_at s v.place v.size))
       → (end ≡ at + length (own_bytes s v)) × (own ≡ over out at (own_bytes s v))
   unfolding number_bytes
   own_put {number} {place} e f g =
       put_last
-      (put-more _ _ (put-more (1 ∷ []) _ own-start e.1 e.0) f.1 (f.0 ∙ ap (λ (n : ℕ). number + n) (sym (number-length v.width v.head))))
+      (put_more _ _ (put_more (1 ∷ []) _ own_start e.1 e.0) f.1 (f.0 ∙ ap (λ (n : ℕ). number + n) (sym (number_length v.width v.head))))
       g.1
-      (g.0 ∙ ap (λ (n : ℕ). place + n) (sym (bytes-length s v.place v.size)))
+      (g.0 ∙ ap (λ (n : ℕ). place + n) (sym (bytes_length s v.place v.size)))
 
 -- A value: its own bytes, then its child rows.
 module _ {depth : ℕ} {s : List ℕ} {k i : ℕ} {v : Value} (r : RowValue depth s k i v) {out : List ℕ} {at : ℕ} (fits : Fits out at (row_bytes (row_at depth s k i))) where
-  value-start : ToPut out at (row_bytes (row_at depth s k i)) out at (own_bytes s v ++ children_bytes depth s v)
-  value-start = put_as (put-start fits) r.bytes
+  value_start : ToPut out at (row_bytes (row_at depth s k i)) out at (own_bytes s v ++ children_bytes depth s v)
+  value_start = put_as (put_start fits) r.bytes
 
-  pub value-fits : Fits out at (own_bytes s v)
-  value-fits = put-fits _ _ value-start
+  pub value_fits : Fits out at (own_bytes s v)
+  value_fits = put_fits _ _ value_start
 
-  pub value-put : {own : List ℕ} {next : ℕ} → own ≡ over out at (own_bytes s v) → next ≡ at + length (own_bytes s v) → ToPut out at (row_bytes (row_at depth s k i)) own next (children_bytes depth s v)
-  value-put e f = put-more _ _ value-start e f
+  pub value_put : {own : List ℕ} {next : ℕ} → own ≡ over out at (own_bytes s v) → next ≡ at + length (own_bytes s v) → ToPut out at (row_bytes (row_at depth s k i)) own next (children_bytes depth s v)
+  value_put e f = put_more _ _ value_start e f

@@ -9,9 +9,9 @@ use native.Mathlib.Nat.{zero-mul, suc-mul}
 use lib.ListN.{length, length-append, take}
 use lib.Seq.{take_at}
 use Rattle.image.specs.Bytes.{byte_at, bytes_at}
-use Rattle.laws.proofs.Lengths.{bytes-length}
+use Rattle.laws.proofs.Lengths.{bytes_length}
 use Rattle.rows.specs.Output.{over, repeated, Fits}
-use Rattle.rows.proofs.Over.{over_there, over-before, ToPut, put-start, put_as, put-fits, put-more, put-place, put-done}
+use Rattle.rows.proofs.Over.{over_there, over_before, ToPut, put_start, put_as, put_fits, put_more, put_place, put_done}
 
 -- bytes so many times, and more
 repeated_add : (m n : ℕ) (x : List ℕ) → repeated (m + n) x ≡ repeated m x ++ repeated n x
@@ -23,10 +23,10 @@ repeated_add (suc m) n x =
     let e : suc m + n ≡ suc (m + n) = omega arith in
     rw e (ap (λ (b : List ℕ). x ++ b) (repeated_add m n x) ∙ sym (append_assoc x (repeated m x) (repeated n x)))
 
-pub repeated-length : (n : ℕ) (x : List ℕ) → length (repeated n x) ≡ n * length x
+pub repeated_length : (n : ℕ) (x : List ℕ) → length (repeated n x) ≡ n * length x
 unfolding repeated
-repeated-length zero x = sym (zero-mul (length x))
-repeated-length (suc n) x = omega (arith, length-append x (repeated n x), repeated-length n x, suc-mul n (length x))
+repeated_length zero x = sym (zero-mul (length x))
+repeated_length (suc n) x = omega (arith, length-append x (repeated n x), repeated_length n x, suc-mul n (length x))
 
 -- bytes from a place on: more of them, and those of two buffers that agree there
 pub bytes_add : (s : List ℕ) (i m n : ℕ) → bytes_at s i (m + n) ≡ bytes_at s i m ++ bytes_at s (i + m) n
@@ -58,7 +58,7 @@ stands_put {out} {after} {bytes} {at} fits e f = record { ends = f; same = rw e 
 stands_front : {out : List ℕ} {from next : ℕ} (x y : List ℕ) → Stands out from next (x ++ y) → bytes_at out from (length x) ≡ x
 stands_front {out} {from} x y t =
     let whole : bytes_at out from (length x) ++ bytes_at out (from + length x) (length y) ≡ x ++ y = sym (bytes_add out from (length x) (length y)) ∙ rw (length-append x y) at t.same in
-    sym (take_at (bytes_at out from (length x)) (bytes_at out (from + length x) (length y)) (length x) (bytes-length out from (length x)))
+    sym (take_at (bytes_at out from (length x)) (bytes_at out (from + length x) (length y)) (length x) (bytes_length out from (length x)))
     ∙ ap (take (length x)) whole
     ∙ take_at x y (length x) refl
 
@@ -66,7 +66,7 @@ stands_front {out} {from} x y t =
 stands_more : {out after : List ℕ} {from next end : ℕ} {x y : List ℕ} → Stands out from next x → Fits out next y → after ≡ over out next y → end ≡ next + length y → Stands after from end (x ++ y)
 stands_more {out} {after} {from} {next} {end} {x} {y} t fits e f =
     let place : from + length x ≡ next = sym t.ends in
-    let before : bytes_at (over out next y) from (length x) ≡ x = bytes_agree (over out next y) out from (length x) (λ p lt. over-before out next y fits.within p (omega (arith, place))) ∙ t.same in
+    let before : bytes_at (over out next y) from (length x) ≡ x = bytes_agree (over out next y) out from (length x) (λ p lt. over_before out next y fits.within p (omega (arith, place))) ∙ t.same in
     let behind : bytes_at (over out next y) (from + length x) (length y) ≡ y = rw place (over_there out next y fits.within) in
     record {
       ends = omega (arith, length-append x y, place);
@@ -85,20 +85,20 @@ pub repeating_start : {out : List ℕ} {at n times : ℕ} → n ≤ at → at + 
 unfolding repeated
 repeating_start {out} {at} {n} {times} le fits =
     let x : List ℕ = bytes_at out (at - n) n in
-    let size : n ≡ length x = sym (bytes-length out (at - n) n) in
+    let size : n ≡ length x = sym (bytes_length out (at - n) n) in
     record {
       size = size;
       some = omega arith;
       all = omega arith;
-      put = put-start (record { within = omega (arith, repeated-length times x, rw size at fits) });
+      put = put_start (record { within = omega (arith, repeated_length times x, rw size at fits) });
       stands = rw (append-nil x) (record { ends = omega (arith, size); same = rw (← size) });
     }
 
 module _ {x : List ℕ} {n times : ℕ} {out₀ : List ℕ} {at from : ℕ} {out : List ℕ} {next there left : ℕ} (t : Repeating x n times out₀ at from out next there left) where
   -- some of those that stand are put
   module _ {m : ℕ} (em : m ≡ min there left) where
-    length-is : length (repeated m x) ≡ m * n
-    length-is = repeated-length m x ∙ ap (λ (w : ℕ). m * w) (sym t.size)
+    length_is : length (repeated m x) ≡ m * n
+    length_is = repeated_length m x ∙ ap (λ (w : ℕ). m * w) (sym t.size)
 
     front : repeated there x ≡ repeated m x ++ repeated (there - m) x
     front =
@@ -113,21 +113,21 @@ module _ {x : List ℕ} {n times : ℕ} {out₀ : List ℕ} {at from : ℕ} {out
     pub again_requires : (from + m * n ≤ next) × (next + m * n ≤ length out)
     again_requires =
         let whole : length (repeated there x) ≡ length (repeated m x ++ repeated (there - m) x) = ap length front in
-        (omega (arith, t.stands.ends, whole, length-append (repeated m x) (repeated (there - m) x), length-is), omega (arith, (put-fits (repeated m x) (repeated (left - m) x) rest).within, length-is))
+        (omega (arith, t.stands.ends, whole, length-append (repeated m x) (repeated (there - m) x), length_is), omega (arith, (put_fits (repeated m x) (repeated (left - m) x) rest).within, length_is))
 
     same_bytes_lem : bytes_at out from (m * n) ≡ repeated m x
-    same_bytes_lem = rw length-is at (stands_front (repeated m x) (repeated (there - m) x) (rw front at t.stands))
+    same_bytes_lem = rw length_is at (stands_front (repeated m x) (repeated (there - m) x) (rw front at t.stands))
 
     pub again_more : {end : ℕ} {after : List ℕ} → (end ≡ next + m * n) × (after ≡ over out next (bytes_at out from (m * n))) → Repeating x n times out₀ at from after end (there + m) (left - m)
     again_more {end} {after} f =
         let put : after ≡ over out next (repeated m x) = f.1 ∙ ap (over out next) same_bytes_lem in
-        let ends : end ≡ next + length (repeated m x) = omega (arith, f.0, length-is) in
+        let ends : end ≡ next + length (repeated m x) = omega (arith, f.0, length_is) in
         record {
           size = t.size;
           some = omega (arith, t.some);
           all = omega (arith, t.all);
-          put = put-more _ _ rest put ends;
-          stands = rw (repeated_add there m x) (stands_more t.stands (put-fits (repeated m x) (repeated (left - m) x) rest) put ends);
+          put = put_more _ _ rest put ends;
+          stands = rw (repeated_add there m x) (stands_more t.stands (put_fits (repeated m x) (repeated (left - m) x) rest) put ends);
         }
 
   none_left : left ≡ 0 → repeated left x ≡ []
@@ -137,4 +137,4 @@ module _ {x : List ℕ} {n times : ℕ} {out₀ : List ℕ} {at from : ℕ} {out
   pub again_done : left ≡ 0 → (next ≡ at + times * n) × (out ≡ over out₀ at (repeated times x))
   again_done e =
       let done : ToPut out₀ at (repeated times x) out next [] = put_as t.put (none_left e) in
-      (omega (arith, put-place done, repeated-length times x, ap (λ (w : ℕ). times * w) t.size), put-done done)
+      (omega (arith, put_place done, repeated_length times x, ap (λ (w : ℕ). times * w) t.size), put_done done)

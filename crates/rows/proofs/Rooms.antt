@@ -15,22 +15,22 @@ use Rattle.image.specs.RowBytes.{row_bytes}
 use Rattle.rows.specs.declared.measure.Room.TheVariants.{Left, Short}
 use Rattle.rows.specs.declared.value.Value.{Value}
 use Rattle.rows.specs.Output.{room_after}
-use Rattle.rows.proofs.Joined.{joined-start, joined-next, joined_end}
-use Rattle.rows.proofs.RowParts.{RowValue, children_bytes, row-some, value-length}
+use Rattle.rows.proofs.Joined.{joined_start, joined_next, joined_end}
+use Rattle.rows.proofs.RowParts.{RowValue, children_bytes, row_some, value_length}
 
 -- bytes that fit, and bytes that do not
-pub fits-left : (room n : ℕ) → n ≤ room → Left (room - n) ≡ room_after room n
+pub fits_left : (room n : ℕ) → n ≤ room → Left (room - n) ≡ room_after room n
 unfolding room_after
-fits-left room n le = rw (le-ltb room n le)
+fits_left room n le = rw (le-ltb room n le)
 
 pub past_short : (room n : ℕ) → room < n → Short ≡ room_after room n
 unfolding room_after
 past_short room n lt = rw (lt-ltb room n lt)
 
 -- what an answer tells
-pub left-told : (room n left : ℕ) → Left left ≡ room_after room n → room ≡ left + n
+pub left_told : (room n left : ℕ) → Left left ≡ room_after room n → room ≡ left + n
 unfolding room_after
-left-told room n left e = cases (ltb room n) refl e
+left_told room n left e = cases (ltb room n) refl e
   where
     cases : (b : Bool) → ltb room n ≡ b → Left left ≡ cond b Short (Left (room - n)) → room ≡ left + n
     cases true t e = cc
@@ -39,9 +39,9 @@ left-told room n left e = cases (ltb room n) refl e
         let same : left ≡ room - n = cc in
         omega arith
 
-pub short-told : (room n : ℕ) → Short ≡ room_after room n → room < n
+pub short_told : (room n : ℕ) → Short ≡ room_after room n → room < n
 unfolding room_after
-short-told room n e = cases (ltb room n) refl e
+short_told room n e = cases (ltb room n) refl e
   where
     cases : (b : Bool) → ltb room n ≡ b → Short ≡ cond b Short (Left (room - n)) → room < n
     cases true t e = ltb-true room n t
@@ -60,7 +60,7 @@ room_moved room n x = cases (ltb room n) refl
     cases false t =
         let le : n ≤ room = ltb-false room n t in
         let same : room - n ≡ room + x - (x + n) = omega arith in
-        sym (fits-left room n le) ∙ ap Left same ∙ fits-left (room + x) (x + n) (omega arith)
+        sym (fits_left room n le) ∙ ap Left same ∙ fits_left (room + x) (x + n) (omega arith)
 
 -- bytes so many times, by the quotient
 module _ (room size times : ℕ) (some : 0 < size) where
@@ -68,7 +68,7 @@ module _ (room size times : ℕ) (some : 0 < size) where
   times_none e =
       let none : times * size ≡ 0 = rw e (zero-mul size) in
       let same : room ≡ room - times * size = omega arith in
-      ap Left same ∙ fits-left room (times * size) (omega arith)
+      ap Left same ∙ fits_left room (times * size) (omega arith)
 
   pub times_short : room / size < times → Short ≡ room_after room (times * size)
   times_short lt = past_short room (times * size) ((div-lt_iff_lt-mul some).0 lt)
@@ -86,48 +86,48 @@ module _ {room all left n : ℕ} (t : ToMeasure room all left n) (x rest : ℕ) 
   measure_fit {next} f = record { same = room_moved next rest x ∙ rw (← f, ← e) t.same }
 
   pub measure_more : {next : ℕ} → Left next ≡ room_after left x → ToMeasure room all next rest
-  measure_more {next} g = measure_fit (left-told left x next g)
+  measure_more {next} g = measure_fit (left_told left x next g)
 
   -- x of them do not
   pub measure_past : left < x → Short ≡ room_after room all
   measure_past lt = past_short left n (omega arith) ∙ t.same
 
   pub measure_short : Short ≡ room_after left x → Short ≡ room_after room all
-  measure_short g = measure_past (short-told left x g)
+  measure_short g = measure_past (short_told left x g)
 
 pub measure_done : {room all left n : ℕ} → ToMeasure room all left n → n ≡ 0 → Left left ≡ room_after room all
 measure_done {left = left} {n} t e =
     let same : left ≡ left - n = omega arith in
-    ap Left same ∙ fits-left left n (omega arith) ∙ t.same
+    ap Left same ∙ fits_left left n (omega arith) ∙ t.same
 
 -- Of n pieces from piece i on, those from piece k on are still to be measured.
 pub record PiecesToMeasure (p : ℕ → List ℕ) (i n room left k : ℕ) : Type 0 where
   pub measure : ToMeasure room (length (pieces p i n)) left (length (pieces p (i + k) (n - k)))
 
 pub measuring_start : (p : ℕ → List ℕ) (i n : ℕ) {room : ℕ} → PiecesToMeasure p i n room room 0
-measuring_start p i n {room} = record { measure = record { same = ap (λ (b : List ℕ). room_after room (length b)) (joined-start p i n) } }
+measuring_start p i n {room} = record { measure = record { same = ap (λ (b : List ℕ). room_after room (length b)) (joined_start p i n) } }
 
 module _ {p : ℕ → List ℕ} {i n room left k : ℕ} (t : PiecesToMeasure p i n room left k) where
   module _ (lt : k < n) where
-    next-length : length (pieces p (i + k) (n - k)) ≡ length (p (i + k)) + length (pieces p (i + (k + 1)) (n - (k + 1)))
-    next-length = ap length (joined-next p i n k lt) ∙ length-append (p (i + k)) (pieces p (i + (k + 1)) (n - (k + 1)))
+    next_length : length (pieces p (i + k) (n - k)) ≡ length (p (i + k)) + length (pieces p (i + (k + 1)) (n - (k + 1)))
+    next_length = ap length (joined_next p i n k lt) ∙ length-append (p (i + k)) (pieces p (i + (k + 1)) (n - (k + 1)))
 
     pub measuring_more : {next : ℕ} → Left next ≡ room_after left (length (p (i + k))) → PiecesToMeasure p i n room next (k + 1)
-    measuring_more e = record { measure = measure_more t.measure _ _ next-length e }
+    measuring_more e = record { measure = measure_more t.measure _ _ next_length e }
 
     pub measuring_short : Short ≡ room_after left (length (p (i + k))) → Short ≡ room_after room (length (pieces p i n))
-    measuring_short e = measure_short t.measure _ _ next-length e
+    measuring_short e = measure_short t.measure _ _ next_length e
 
   pub measuring_done : n ≤ k → Left left ≡ room_after room (length (pieces p i n))
   measuring_done le = measure_done t.measure (ap length (joined_end p i n k le))
 
 -- a row where no room is left
-pub none-short : (room : ℕ) (r : Row) → room ≡ 0 → Short ≡ room_after room (length (row_bytes r))
-none-short room r e = past_short room (length (row_bytes r)) (omega (arith, row-some r))
+pub none_short : (room : ℕ) (r : Row) → room ≡ 0 → Short ≡ room_after room (length (row_bytes r))
+none_short room r e = past_short room (length (row_bytes r)) (omega (arith, row_some r))
 
 -- a null
-pub null-left : (room : ℕ) (bytes : List ℕ) → bytes ≡ 0 ∷ [] → (room ≡ 0 → ⊥) → Left (room - 1) ≡ room_after room (length bytes)
-null-left room bytes e some = ap Left same ∙ fits-left room (length bytes) (omega (arith, one))
+pub null_left : (room : ℕ) (bytes : List ℕ) → bytes ≡ 0 ∷ [] → (room ≡ 0 → ⊥) → Left (room - 1) ≡ room_after room (length bytes)
+null_left room bytes e some = ap Left same ∙ fits_left room (length bytes) (omega (arith, one))
   where
     one : length bytes ≡ 1
     one = ap length e
@@ -137,11 +137,11 @@ null-left room bytes e some = ap Left same ∙ fits-left room (length bytes) (om
 
 -- a value: its own bytes, then its child rows
 module _ {depth : ℕ} {s : List ℕ} {k i : ℕ} {v : Value} (r : RowValue depth s k i v) (room : ℕ) where
-  pub value-short : room < 1 + v.width + v.size → Short ≡ room_after room (length (row_bytes (row_at depth s k i)))
-  value-short lt = past_short room _ (omega (arith, value-length r))
+  pub value_short : room < 1 + v.width + v.size → Short ≡ room_after room (length (row_bytes (row_at depth s k i)))
+  value_short lt = past_short room _ (omega (arith, value_length r))
 
-  pub value-left : 1 + v.width + v.size ≤ room → room_after (room - (1 + v.width + v.size)) (length (children_bytes depth s v)) ≡ room_after room (length (row_bytes (row_at depth s k i)))
-  value-left le =
+  pub value_left : 1 + v.width + v.size ≤ room → room_after (room - (1 + v.width + v.size)) (length (children_bytes depth s v)) ≡ room_after room (length (row_bytes (row_at depth s k i)))
+  value_left le =
       let own : ℕ = 1 + v.width + v.size in
       let e : room - own + own ≡ room = omega arith in
-      room_moved (room - own) (length (children_bytes depth s v)) own ∙ rw (e, ← value-length r)
+      room_moved (room - own) (length (children_bytes depth s v)) own ∙ rw (e, ← value_length r)

@@ -15,26 +15,26 @@ use Rattle.image.specs.Element.{valid}
 use Rattle.image.specs.Reads.{Read}
 use Rattle.image.specs.Row.{Row, null, fixed, sized, joined, counted, tagged, range, value_at, row_at}
 use Rattle.image.specs.RowBytes.{row_bytes, rows_bytes}
-use Rattle.laws.proofs.Lengths.{number-length, bytes-length}
+use Rattle.laws.proofs.Lengths.{number_length, bytes_length}
 use Rattle.accepted.specs.Parts.{Side, Part}
-use Rattle.accepted.proofs.Nodes.{side-part}
-use Rattle.accepted.proofs.Nodes.{side-small}
+use Rattle.accepted.proofs.Nodes.{side_part}
+use Rattle.accepted.proofs.Nodes.{side_small}
 use Rattle.rows.specs.declared.value.Value.{Value}
 use Rattle.rows.specs.Value.{is_null, front_bytes, own_bytes, child_rows}
 use Rattle.rows.specs.ValueOf.{value_of}
-use Rattle.rows.proofs.Joined.{parts-joined}
+use Rattle.rows.proofs.Joined.{parts_joined}
 use Rattle.rows.proofs.ValueRows.{value_written}
-use Rattle.rows.proofs.ValuePlaces.{Placed, value-placed}
+use Rattle.rows.proofs.ValuePlaces.{Placed, value_placed}
 
 -- every row has a byte
-pub row-some : (r : Row) → 0 < length (row_bytes r)
+pub row_some : (r : Row) → 0 < length (row_bytes r)
 unfolding row_bytes
-row-some null = omega arith
-row-some (fixed b) = omega arith
-row-some (sized b) = omega arith
-row-some (joined rs) = omega arith
-row-some (counted rs) = omega arith
-row-some (tagged id r) = omega arith
+row_some null = omega arith
+row_some (fixed b) = omega arith
+row_some (sized b) = omega arith
+row_some (joined rs) = omega arith
+row_some (counted rs) = omega arith
+row_some (tagged id r) = omega arith
 
 -- whether a row is null
 pub ended_null : (depth : ℕ) (s : List ℕ) (k i : ℕ) → depth ≡ 0 → true ≡ is_null depth s k i
@@ -51,15 +51,15 @@ pub no_bitmap : (s : List ℕ) (k i : ℕ) → has_bitmap s k ≡ false → true
 unfolding valid
 no_bitmap s k i e = rw e
 
-pub by-bitmap : (s : List ℕ) (k i : ℕ) {p f : ℕ} {b : Bool} → has_bitmap s k ≡ true → Read (bitmap_place s k) 32 p → Read (first_bit s k) 32 f → b ≡ bit_at s p (f + i) → b ≡ valid s k i
+pub by_bitmap : (s : List ℕ) (k i : ℕ) {p f : ℕ} {b : Bool} → has_bitmap s k ≡ true → Read (bitmap_place s k) 32 p → Read (first_bit s k) 32 f → b ≡ bit_at s p (f + i) → b ≡ valid s k i
 unfolding valid
-by-bitmap s k i e ep ef eb = rw (e, ← ep.value, ← ef.value) eb
+by_bitmap s k i e ep ef eb = rw (e, ← ep.value, ← ef.value) eb
 
 -- a null is one byte
-pub row-null : (depth : ℕ) (s : List ℕ) (k i : ℕ) → is_null depth s k i ≡ true → row_bytes (row_at depth s k i) ≡ 0 ∷ []
+pub row_null : (depth : ℕ) (s : List ℕ) (k i : ℕ) → is_null depth s k i ≡ true → row_bytes (row_at depth s k i) ≡ 0 ∷ []
 unfolding is_null row_at row_bytes
-row-null zero s k i e = refl
-row-null (suc depth) s k i e = rw (not-true (valid s k i) e)
+row_null zero s k i e = refl
+row_null (suc depth) s k i e = rw (not-true (valid s k i) e)
 
 -- what is not null has a depth left and its bit set
 not_ended : (depth : ℕ) (s : List ℕ) (k i : ℕ) → is_null depth s k i ≡ false → depth ≡ 0 → ⊥
@@ -88,49 +88,49 @@ pub record RowValue (depth : ℕ) (s : List ℕ) (k i : ℕ) (v : Value) : Type 
   pub bytes : row_bytes (row_at depth s k i) ≡ own_bytes s v ++ children_bytes depth s v
   pub placed : Placed s v
 
-children-joined : (sub : ℕ → ℕ → Row) (v : Value) → rows_bytes (child_rows sub v) ≡ pieces (child_bytes sub v) v.child v.parts
+children_joined : (sub : ℕ → ℕ → Row) (v : Value) → rows_bytes (child_rows sub v) ≡ pieces (child_bytes sub v) v.child v.parts
 unfolding child_rows
-children-joined sub v = parts-joined sub v.child v.parts v.start v.count
+children_joined sub v = parts_joined sub v.child v.parts v.start v.count
 
-row-value : (depth : ℕ) (s : List ℕ) (k i : ℕ) → is_null depth s k i ≡ false → row_at depth s k i ≡ value_at (layout_of (code_of s k)) (row_at (depth - 1) s) s k (offset_of s k + i)
+row_value : (depth : ℕ) (s : List ℕ) (k i : ℕ) → is_null depth s k i ≡ false → row_at depth s k i ≡ value_at (layout_of (code_of s k)) (row_at (depth - 1) s) s k (offset_of s k + i)
 unfolding is_null row_at
-row-value zero s k i e = cc
-row-value (suc depth) s k i e =
+row_value zero s k i e = cc
+row_value (suc depth) s k i e =
     let less : suc depth - 1 ≡ depth = omega arith in
     rw (not-false (valid s k i) e, less)
 
 -- rows of a node
 module _ {s : List ℕ} {k i n : ℕ} (r : Side s k i n) where
-  pub side-few : offset_of s k + i + n ≤ 1073741824
-  side-few = side-small s k i n r
+  pub side_few : offset_of s k + i + n ≤ 1073741824
+  side_few = side_small s k i n r
 
-  pub side-row : {h : ℕ} → h < n → Side s k (i + h) 1
-  side-row {h} lt = record { image = r.image; node = r.node; rows = omega (arith, r.rows) }
+  pub side_row : {h : ℕ} → h < n → Side s k (i + h) 1
+  side_row {h} lt = record { image = r.image; node = r.node; rows = omega (arith, r.rows) }
 
 -- a row of a node that is not null
 module _ (depth : ℕ) {s : List ℕ} {k i : ℕ} (r : Side s k i 1) {b : Bool} (eb : b ≡ is_null depth s k i) (is : b ≡ false) {o : ℕ} (at : Read (offset_of s k) 32 o) where
-  pub row-part : Part s k (o + i) 1
-  row-part = rw at.value (side-part r (not_null depth s k i (sym eb ∙ is)))
+  pub row_part : Part s k (o + i) 1
+  row_part = rw at.value (side_part r (not_null depth s k i (sym eb ∙ is)))
 
   pub value_of_lem : {v : Value} → v ≡ value_of (layout_of (code_of s k)) s k (o + i) → RowValue depth s k i v
   value_of_lem {v} ev = record {
     deep = not_ended depth s k i (sym eb ∙ is);
     bytes =
-        ap row_bytes (row-value depth s k i (sym eb ∙ is))
-        ∙ rw (← ev, at.value) at (value_written row-part (row_at (depth - 1) s))
-        ∙ ap (λ (b : List ℕ). own_bytes s v ++ b) (children-joined (row_at (depth - 1) s) v);
-    placed = rw ev (value-placed row-part);
+        ap row_bytes (row_value depth s k i (sym eb ∙ is))
+        ∙ rw (← ev, at.value) at (value_written row_part (row_at (depth - 1) s))
+        ∙ ap (λ (b : List ℕ). own_bytes s v ++ b) (children_joined (row_at (depth - 1) s) v);
+    placed = rw ev (value_placed row_part);
   }
 
 -- how many bytes a value takes
-pub own-length : (s : List ℕ) (v : Value) → length (own_bytes s v) ≡ 1 + v.width + v.size
+pub own_length : (s : List ℕ) (v : Value) → length (own_bytes s v) ≡ 1 + v.width + v.size
 unfolding own_bytes front_bytes
-own-length s v =
+own_length s v =
     let number : List ℕ = number_bytes v.width v.head in
     let bytes : List ℕ = bytes_at s v.place v.size in
-    omega (arith, length-append number bytes, number-length v.width v.head, bytes-length s v.place v.size)
+    omega (arith, length-append number bytes, number_length v.width v.head, bytes_length s v.place v.size)
 
-pub value-length : {depth : ℕ} {s : List ℕ} {k i : ℕ} {v : Value} → RowValue depth s k i v → length (row_bytes (row_at depth s k i)) ≡ 1 + v.width + v.size + length (children_bytes depth s v)
-value-length {depth} {s} {k} {i} {v} r =
+pub value_length : {depth : ℕ} {s : List ℕ} {k i : ℕ} {v : Value} → RowValue depth s k i v → length (row_bytes (row_at depth s k i)) ≡ 1 + v.width + v.size + length (children_bytes depth s v)
+value_length {depth} {s} {k} {i} {v} r =
     let all : length (row_bytes (row_at depth s k i)) ≡ length (own_bytes s v ++ children_bytes depth s v) = ap length r.bytes in
-    omega (arith, all, length-append (own_bytes s v) (children_bytes depth s v), own-length s v)
+    omega (arith, all, length-append (own_bytes s v) (children_bytes depth s v), own_length s v)

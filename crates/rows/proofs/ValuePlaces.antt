@@ -18,12 +18,12 @@ use Rattle.image.specs.TypeCode.{layout_of, child_rule}
 use Rattle.image.specs.Element.{element_width, element_place, element_at, type_id_at, child_end, child_with_id, view_length, view_data, run_at}
 use Rattle.laws.specs.Accepted.{AcceptedImage, IdKnown}
 use Rattle.accepted.specs.Parts.{Side, Part, Elements, Viewed}
-use Rattle.accepted.proofs.Nodes.{child-node, first_child_node, part-node}
+use Rattle.accepted.proofs.Nodes.{child_node, first_child_node, part_node}
 use Rattle.accepted.proofs.Fixed.{spanned, spanned_small}
-use Rattle.accepted.proofs.Texts.{text-rises, text-inside}
-use Rattle.accepted.proofs.Views.{shown_short, shown_long, viewed, view-place}
-use Rattle.accepted.proofs.ChildRows.{fixed_list-within, fixed_list-small, key_below, dense-known, dense-within, sparse-known, sparse-within}
-use Rattle.accepted.proofs.RunEnds.{run-first, runs_cover}
+use Rattle.accepted.proofs.Texts.{text_rises, text_inside}
+use Rattle.accepted.proofs.Views.{shown_short, shown_long, viewed, view_place_lem}
+use Rattle.accepted.proofs.ChildRows.{fixed_list_within, fixed_list_small, key_below, dense_known, dense_within, sparse_known, sparse_within}
+use Rattle.accepted.proofs.RunEnds.{run_first, runs_cover}
 use Rattle.rows.specs.declared.value.Value.{Value}
 use Rattle.rows.specs.Value.{leaf_value, nested_value}
 use Rattle.rows.specs.ValueOf.{union_value, value_of}
@@ -36,8 +36,8 @@ pub record Placed (s : List ℕ) (v : Value) : Type 0 where
   pub few : v.child + v.parts ≤ 65536
 
 -- bytes of the image
-leaf-placed : (s : List ℕ) (head width place size : ℕ) → width ≤ 4 → place + size ≤ length s → Placed s (leaf_value head width place size)
-leaf-placed s head width place size narrow inside = record { narrow = narrow; inside = inside; parts = λ c lt. absurd (omega arith); few = omega arith }
+leaf_placed : (s : List ℕ) (head width place size : ℕ) → width ≤ 4 → place + size ≤ length s → Placed s (leaf_value head width place size)
+leaf_placed s head width place size narrow inside = record { narrow = narrow; inside = inside; parts = λ c lt. absurd (omega arith); few = omega arith }
 
 -- child rows
 nested_placed : {s : List ℕ} (head width child parts start count : ℕ) → AcceptedImage s → width ≤ 4
@@ -46,12 +46,12 @@ nested_placed head width child parts start count image narrow nodes rows = recor
   narrow = narrow;
   inside = omega arith;
   parts = λ c lt. record { image = image; node = omega arith; rows = rows c lt };
-  few = omega (arith, image.tables.few-nodes);
+  few = omega (arith, image.tables.few_nodes);
 }
 
 -- rows of one child
-child-placed : {s : List ℕ} (head width child start count : ℕ) → AcceptedImage s → width ≤ 4 → child < node_count s → start + count ≤ length_of s child → Placed s (nested_value head width child 1 start count)
-child-placed {s} head width child start count image narrow node rows =
+child_placed : {s : List ℕ} (head width child start count : ℕ) → AcceptedImage s → width ≤ 4 → child < node_count s → start + count ≤ length_of s child → Placed s (nested_value head width child 1 start count)
+child_placed {s} head width child start count image narrow node rows =
     nested_placed head width child 1 start count image narrow (omega arith)
     (λ c lt.
     let first : child + c ≡ child = omega arith in
@@ -70,7 +70,7 @@ module _ {s : List ℕ} {k j : ℕ} (r : Part s k j 1) where
   -- the child of a node of one child
   only_child : child_rule (layout_of (code_of s k)) ≡ Exactly 1 → first_child s k < node_count s
   only_child rule =
-      let one : child_count s k ≡ 1 = (part-node r).tree.exactly 1 rule in
+      let one : child_count s k ≡ 1 = (part_node r).tree.exactly 1 rule in
       first_child_node s k r.image r.node (omega arith)
 
   -- an element of fixed width
@@ -78,70 +78,70 @@ module _ {s : List ℕ} {k j : ℕ} (r : Part s k j 1) where
     element : Elements s k j 1
     element = record { image = r.image; node = r.node; fixed = widths; high = r.high }
 
-    fixed-inside : element_place s k j + element_width s k ≤ length s
+    fixed_inside : element_place s k j + element_width s k ≤ length s
     unfolding element_place
-    fixed-inside = rw one-mul at (spanned s k j 1 _ _ element refl refl).inside
+    fixed_inside = rw one-mul at (spanned s k j 1 _ _ element refl refl).inside
 
-    pub fixed-small : {w p : ℕ} → w ≡ element_width s k → p ≡ buffer_place s k 0 → p + j * w + w ≤ 16777216
-    fixed-small {w} {p} ew ep = rw one-mul at (spanned_small s k j 1 w p element ew ep)
+    pub fixed_small : {w p : ℕ} → w ≡ element_width s k → p ≡ buffer_place s k 0 → p + j * w + w ≤ 16777216
+    fixed_small {w} {p} ew ep = rw one-mul at (spanned_small s k j 1 w p element ew ep)
 
   -- a text's offsets
   module _ (text : layout_of (code_of s k) ≡ VariableSize) where
     pub text_up : element_at s k j ≤ element_at s k (suc j)
-    text_up = (text-rises s k j 1 r text).rise j (omega (arith, r.high))
+    text_up = (text_rises s k j 1 r text).rise j (omega (arith, r.high))
 
-    text-ends : buffer_place s k 1 + element_at s k (suc j) ≤ length s
-    text-ends = rw add-one at (text-inside s k j 1 r text)
+    text_ends : buffer_place s k 1 + element_at s k (suc j) ≤ length s
+    text_ends = rw add-one at (text_inside s k j 1 r text)
 
   -- a list's offsets
   module _ (lists : layout_of (code_of s k) ≡ Lists) where
-    pub list-rises : element_at s k j ≤ element_at s k (suc j)
-    list-rises = ((part-node r).places.lists lists).rise j (omega (arith, r.high))
+    pub list_rises : element_at s k j ≤ element_at s k (suc j)
+    list_rises = ((part_node r).places.lists lists).rise j (omega (arith, r.high))
 
-    list-ends : element_at s k (suc j) ≤ length_of s (first_child s k)
-    list-ends = ((part-node r).places.lists lists).within (suc j) (omega (arith, r.high))
+    list_ends : element_at s k (suc j) ≤ length_of s (first_child s k)
+    list_ends = ((part_node r).places.lists lists).within (suc j) (omega (arith, r.high))
 
   -- the child rows of a fixed-size list
-  pub fixed_list-fits : layout_of (code_of s k) ≡ FixedList → j * p1_of s k + p1_of s k ≤ 1073741824
-  fixed_list-fits lists = rw one-mul at (fixed_list-small r lists)
+  pub fixed_list_fits : layout_of (code_of s k) ≡ FixedList → j * p1_of s k + p1_of s k ≤ 1073741824
+  fixed_list_fits lists = rw one-mul at (fixed_list_small r lists)
 
   -- the row of a union whose id is known
   union_placed : (i : ℕ) → IdKnown s k j → i < length_of s (child_with_id s k (type_id_at s k j)) → Placed s (union_value s k (type_id_at s k j) i)
   union_placed i known within =
       rw (lt-ltb _ _ known.high)
-      (child-placed (type_id_at s k j) 1 (child_with_id s k (type_id_at s k j)) i 1 r.image (omega arith) (omega (arith, known.high, (part-node r).tree.ends)) (omega arith))
+      (child_placed (type_id_at s k j) 1 (child_with_id s k (type_id_at s k j)) i 1 r.image (omega arith) (omega (arith, known.high, (part_node r).tree.ends)) (omega arith))
 
   -- the bytes of a view, the rows of a Struct's children and of a run's values
-  view-inside : layout_of (code_of s k) ≡ View → view_data s k (element_place s k j) + view_length s (element_place s k j) ≤ length s
+  view_inside : layout_of (code_of s k) ≡ View → view_data s k (element_place s k j) + view_length s (element_place s k j) ≤ length s
   unfolding view_length
-  view-inside views = shown_inside (rw (view-place r views {p = buffer_place s k 0} refl) at (viewed r views refl refl)) _ refl
+  view_inside views = shown_inside (rw (view_place_lem r views {p = buffer_place s k 0} refl) at (viewed r views refl refl)) _ refl
 
   struct_placed : layout_of (code_of s k) ≡ Struct → Placed s (value_of Struct s k j)
   unfolding child_end
   struct_placed struct =
-      nested_placed 0 0 (first_child s k) (child_count s k) j 1 r.image (omega arith) (part-node r).tree.ends
-      (λ c lt. omega (arith, r.high, (part-node r).children.struct struct (first_child s k + c) (omega arith) (omega arith)))
+      nested_placed 0 0 (first_child s k) (child_count s k) j 1 r.image (omega arith) (part_node r).tree.ends
+      (λ c lt. omega (arith, r.high, (part_node r).children.struct struct (first_child s k + c) (omega arith) (omega arith)))
 
-  run-placed : layout_of (code_of s k) ≡ Runs → Placed s (value_of Runs s k j)
-  run-placed runs =
-      let two : child_count s k ≡ 2 = (part-node r).tree.exactly 2 (rw runs) in
-      let part = run-first r runs (omega arith) in
-      child-placed 0 0 (first_child s k + 1) (run_at s k j) 1 r.image (omega arith) (child-node s k 1 r.image r.node (omega arith)) (omega (arith, (runs_cover part).value j part.element))
+  run_placed : layout_of (code_of s k) ≡ Runs → Placed s (value_of Runs s k j)
+  run_placed runs =
+      let two : child_count s k ≡ 2 = (part_node r).tree.exactly 2 (rw runs) in
+      let part = run_first r runs (omega arith) in
+      child_placed 0 0 (first_child s k + 1) (run_at s k j) 1 r.image (omega arith) (child_node s k 1 r.image r.node (omega arith)) (omega (arith, (runs_cover part).value j part.element))
 
   by_layout : (x : Layout) → layout_of (code_of s k) ≡ x → Placed s (value_of x s k j)
-  by_layout Null e = leaf-placed s 0 0 0 0 (omega arith) (omega arith)
-  by_layout Boolean e = leaf-placed s _ 1 0 0 (omega arith) (omega arith)
-  by_layout FixedWidth e = leaf-placed s 0 0 _ _ (omega arith) (fixed-inside e)
-  by_layout VariableSize e = leaf-placed s _ 4 _ _ (omega arith) (omega (arith, text_up e, text-ends e))
-  by_layout View e = leaf-placed s _ 4 _ _ (omega arith) (view-inside e)
-  by_layout Lists e = child-placed _ 4 _ _ _ r.image (omega arith) (only_child (rw e)) (omega (arith, list-rises e, list-ends e))
-  by_layout ListView e = child-placed _ 4 _ _ _ r.image (omega arith) (only_child (rw e)) ((part-node r).places.list-view e j (omega (arith, r.high)))
-  by_layout FixedList e = child-placed 0 0 _ _ _ r.image (omega arith) (only_child (rw e)) (rw one-mul at (fixed_list-within r e))
+  by_layout Null e = leaf_placed s 0 0 0 0 (omega arith) (omega arith)
+  by_layout Boolean e = leaf_placed s _ 1 0 0 (omega arith) (omega arith)
+  by_layout FixedWidth e = leaf_placed s 0 0 _ _ (omega arith) (fixed_inside e)
+  by_layout VariableSize e = leaf_placed s _ 4 _ _ (omega arith) (omega (arith, text_up e, text_ends e))
+  by_layout View e = leaf_placed s _ 4 _ _ (omega arith) (view_inside e)
+  by_layout Lists e = child_placed _ 4 _ _ _ r.image (omega arith) (only_child (rw e)) (omega (arith, list_rises e, list_ends e))
+  by_layout ListView e = child_placed _ 4 _ _ _ r.image (omega arith) (only_child (rw e)) ((part_node r).places.list_view e j (omega (arith, r.high)))
+  by_layout FixedList e = child_placed 0 0 _ _ _ r.image (omega arith) (only_child (rw e)) (rw one-mul at (fixed_list_within r e))
   by_layout Struct e = struct_placed e
-  by_layout DenseUnion e = union_placed _ (dense-known r e) (dense-within r e)
-  by_layout SparseUnion e = union_placed j (sparse-known r e) (sparse-within r e)
-  by_layout Dictionary e = child-placed 0 0 _ _ 1 r.image (omega arith) (only_child (rw e)) (omega (arith, key_below r e))
-  by_layout Runs e = run-placed e
+  by_layout DenseUnion e = union_placed _ (dense_known r e) (dense_within r e)
+  by_layout SparseUnion e = union_placed j (sparse_known r e) (sparse_within r e)
+  by_layout Dictionary e = child_placed 0 0 _ _ 1 r.image (omega arith) (only_child (rw e)) (omega (arith, key_below r e))
+  by_layout Runs e = run_placed e
 
-  pub value-placed : Placed s (value_of (layout_of (code_of s k)) s k j)
-  value-placed = by_layout (layout_of (code_of s k)) refl
+  pub value_placed : Placed s (value_of (layout_of (code_of s k)) s k j)
+  value_placed = by_layout (layout_of (code_of s k)) refl

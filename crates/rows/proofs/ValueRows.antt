@@ -19,11 +19,11 @@ use Rattle.image.specs.Element.{child_end, child_with_id, type_id_at, dense_offs
 use Rattle.image.specs.Row.{Row, Rows, null, fixed, sized, joined, counted, tagged, none, more, range, rows_then, value_at, boolean_row, fixed_row, variable_row, view_row, list_row, list_view_row, fixed_list_row, struct_row, dense_row, sparse_row, dictionary_row, run_row}
 use Rattle.image.specs.RowBytes.{row_bytes, rows_bytes}
 use Rattle.laws.specs.Accepted.{IdKnown}
-use Rattle.laws.proofs.Codes.{dense-code, sparse-code}
-use Rattle.laws.proofs.Lengths.{bytes-length, range-count}
+use Rattle.laws.proofs.Codes.{dense_code, sparse_code}
+use Rattle.laws.proofs.Lengths.{bytes_length, range_count}
 use Rattle.accepted.specs.Parts.{Part}
-use Rattle.accepted.proofs.Nodes.{part-node}
-use Rattle.accepted.proofs.ChildRows.{dense-known, sparse-known}
+use Rattle.accepted.proofs.Nodes.{part_node}
+use Rattle.accepted.proofs.ChildRows.{dense_known, sparse_known}
 use Rattle.rows.specs.declared.value.Value.{Value}
 use Rattle.rows.specs.Value.{leaf_value, nested_value, front_bytes, own_bytes, part_rows, child_rows, tagged_first, row_of}
 use Rattle.rows.specs.ValueOf.{text_value, list_value, union_value, value_of}
@@ -34,9 +34,9 @@ then_none none = refl
 then_none (more r rs) = ap (more r) (then_none rs)
 
 -- rows of one child
-pub one-part : (sub : ℕ → ℕ → Row) (c i n : ℕ) → part_rows sub c 1 i n ≡ range (sub c) i n
+pub one_part : (sub : ℕ → ℕ → Row) (c i n : ℕ) → part_rows sub c 1 i n ≡ range (sub c) i n
 unfolding part_rows
-one-part sub c i n = then_none (range (sub c) i n)
+one_part sub c i n = then_none (range (sub c) i n)
 
 -- one row of each child
 pub each_part : (sub : ℕ → ℕ → Row) (c parts i : ℕ) → part_rows sub c parts i 1 ≡ range (λ x. sub x i) c parts
@@ -63,14 +63,14 @@ value_row Boolean sub s k j = ap fixed (bit_byte (bit_at s (buffer_place s k 0) 
 value_row FixedWidth sub s k j = refl
 value_row VariableSize sub s k j = refl
 value_row View sub s k j = refl
-value_row Lists sub s k j = ap counted (sym (one-part sub _ _ _))
-value_row ListView sub s k j = ap counted (sym (one-part sub _ _ _))
-value_row FixedList sub s k j = ap joined (sym (one-part sub _ _ _))
+value_row Lists sub s k j = ap counted (sym (one_part sub _ _ _))
+value_row ListView sub s k j = ap counted (sym (one_part sub _ _ _))
+value_row FixedList sub s k j = ap joined (sym (one_part sub _ _ _))
 value_row Struct sub s k j = ap joined (sym (each_part sub _ _ _))
 value_row DenseUnion sub s k j = union_row_lem sub _ (dense_offset_at s k j) (type_id_at s k j) (ltb (child_with_id s k (type_id_at s k j)) (child_end s k))
 value_row SparseUnion sub s k j = union_row_lem sub _ j (type_id_at s k j) (ltb (child_with_id s k (type_id_at s k j)) (child_end s k))
-value_row Dictionary sub s k j = ap joined (sym (one-part sub _ _ _))
-value_row Runs sub s k j = ap joined (sym (one-part sub _ _ _))
+value_row Dictionary sub s k j = ap joined (sym (one_part sub _ _ _))
+value_row Runs sub s k j = ap joined (sym (one_part sub _ _ _))
 
 -- The bytes of a row that a value makes are its own bytes, and then those of its child rows.
 abbrev Written : (ℕ → ℕ → Row) → List ℕ → Value → Row → Type 0
@@ -78,17 +78,17 @@ Written sub s v row = row_bytes row ≡ own_bytes s v ++ rows_bytes (child_rows 
 
 module _ (sub : ℕ → ℕ → Row) (s : List ℕ) where
   -- bytes without child rows, a text, child rows
-  leaf-written : (head width place size : ℕ) → Written sub s (leaf_value head width place size) (fixed (front_bytes s (leaf_value head width place size)))
+  leaf_written : (head width place size : ℕ) → Written sub s (leaf_value head width place size) (fixed (front_bytes s (leaf_value head width place size)))
   unfolding row_bytes own_bytes child_rows part_rows
-  leaf-written head width place size = sym (append-nil _)
+  leaf_written head width place size = sym (append-nil _)
 
-  text-written : (place size : ℕ) → Written sub s (text_value place size) (sized (bytes_at s place size))
+  text_written : (place size : ℕ) → Written sub s (text_value place size) (sized (bytes_at s place size))
   unfolding row_bytes own_bytes front_bytes child_rows part_rows
-  text-written place size = rw (bytes-length s place size, append-nil (number_bytes 4 size ++ bytes_at s place size))
+  text_written place size = rw (bytes_length s place size, append-nil (number_bytes 4 size ++ bytes_at s place size))
 
   list_written : (child start count : ℕ) → Written sub s (list_value child start count) (counted (child_rows sub (list_value child start count)))
   unfolding row_bytes own_bytes front_bytes child_rows bytes_at
-  list_written child start count = rw (one-part sub child start count, range-count (sub child) start count, append-nil (number_bytes 4 count))
+  list_written child start count = rw (one_part sub child start count, range_count (sub child) start count, append-nil (number_bytes 4 count))
 
   rows_written : (child parts start count : ℕ) → Written sub s (nested_value 0 0 child parts start count) (joined (child_rows sub (nested_value 0 0 child parts start count)))
   unfolding row_bytes own_bytes front_bytes number_bytes bytes_at
@@ -103,21 +103,21 @@ module _ (sub : ℕ → ℕ → Row) (s : List ℕ) where
       rw (lt-ltb _ _ known.high, byte, append-nil (row_bytes (sub (child_with_id s k (type_id_at s k j)) i)))
 
 module _ {s : List ℕ} {k j : ℕ} (r : Part s k j 1) (sub : ℕ → ℕ → Row) where
-  id-small : is_union (code_of s k) ≡ true → IdKnown s k j → id_of s (child_with_id s k (type_id_at s k j)) ≤ 127
-  id-small union known = ((part-node r).tree.ids union).small (child_with_id s k (type_id_at s k j)) known.low known.high
+  id_small : is_union (code_of s k) ≡ true → IdKnown s k j → id_of s (child_with_id s k (type_id_at s k j)) ≤ 127
+  id_small union known = ((part_node r).tree.ids union).small (child_with_id s k (type_id_at s k j)) known.low known.high
 
   by_layout : (x : Layout) → layout_of (code_of s k) ≡ x → Written sub s (value_of x s k j) (row_of x sub s (value_of x s k j))
-  by_layout Null e = leaf-written sub s 0 0 0 0
-  by_layout Boolean e = leaf-written sub s _ 1 0 0
-  by_layout FixedWidth e = leaf-written sub s 0 0 _ _
-  by_layout VariableSize e = text-written sub s _ _
-  by_layout View e = text-written sub s _ _
+  by_layout Null e = leaf_written sub s 0 0 0 0
+  by_layout Boolean e = leaf_written sub s _ 1 0 0
+  by_layout FixedWidth e = leaf_written sub s 0 0 _ _
+  by_layout VariableSize e = text_written sub s _ _
+  by_layout View e = text_written sub s _ _
   by_layout Lists e = list_written sub s _ _ _
   by_layout ListView e = list_written sub s _ _ _
   by_layout FixedList e = rows_written sub s _ _ _ _
   by_layout Struct e = rows_written sub s _ _ _ _
-  by_layout DenseUnion e = union_written sub s _ (dense-known r e) (id-small (dense-code (code_of s k) e) (dense-known r e))
-  by_layout SparseUnion e = union_written sub s _ (sparse-known r e) (id-small (sparse-code (code_of s k) e) (sparse-known r e))
+  by_layout DenseUnion e = union_written sub s _ (dense_known r e) (id_small (dense_code (code_of s k) e) (dense_known r e))
+  by_layout SparseUnion e = union_written sub s _ (sparse_known r e) (id_small (sparse_code (code_of s k) e) (sparse_known r e))
   by_layout Dictionary e = rows_written sub s _ _ _ _
   by_layout Runs e = rows_written sub s _ _ _ _
 

@@ -43,13 +43,13 @@ close_sound : (store : List ℕ) (s : SideState) → Sound s store → Sound (cl
 unfolding close_side image_of
 close_sound store s sound = by_closed s.closed
   where
-    by-check : (x : Checked) → check_image (image_of s store) ≡ x → Sound (closed_by x s.used).state store
-    by-check Accepted e = λ closed. e
-    by-check (CheckRefused f) e = open_sound emptied store refl
+    by_check : (x : Checked) → check_image (image_of s store) ≡ x → Sound (closed_by x s.used).state store
+    by_check Accepted e = λ closed. e
+    by_check (CheckRefused f) e = open_sound emptied store refl
 
     by_closed : (b : Bool) → Sound (cond b (side_stepped s (Refused 41)) (closed_by (check_image (image_of s store)) s.used)).state store
     by_closed true = sound
-    by_closed false = by-check (check_image (image_of s store)) refl
+    by_closed false = by_check (check_image (image_of s store)) refl
 
 frame_sound : (f : Frame) (b left right : List ℕ) (state : State) (out : List ℕ) → Sound state.left left → Sound state.right right → BothSound (obeyed f b left right state out)
 unfolding piece_stepped close_stepped write_stepped empty_stepped

@@ -23,10 +23,10 @@ no_feed_more c cs e = cases (eqb c 10) e
     cases true e' = (cc, cc)
     cases false e' = (refl, e')
 
-pub before-none : (cs : List ℕ) → has_feed (before_feed cs) ≡ false
+pub before_none : (cs : List ℕ) → has_feed (before_feed cs) ≡ false
 unfolding has_feed before_feed
-before-none [] = refl
-before-none (c ∷ cs) = cases (eqb c 10) refl (before-none cs)
+before_none [] = refl
+before_none (c ∷ cs) = cases (eqb c 10) refl (before_none cs)
   where
     cases : (b : Bool) → eqb c 10 ≡ b → has_feed (before_feed cs) ≡ false → has_feed (cond b [] (c ∷ before_feed cs)) ≡ false
     cases true e none = refl
@@ -39,12 +39,12 @@ none_both (c ∷ p) q e f =
     let both = no_feed_more c p e in
     rw both.0 (none_both p q both.1 f)
 
-pub before-all : (cs : List ℕ) → has_feed cs ≡ false → before_feed cs ≡ cs
+pub before_all : (cs : List ℕ) → has_feed cs ≡ false → before_feed cs ≡ cs
 unfolding before_feed
-before-all [] e = refl
-before-all (c ∷ cs) e =
+before_all [] e = refl
+before_all (c ∷ cs) e =
     let both = no_feed_more c cs e in
-    rw both.0 (ap (λ (r : List ℕ). c ∷ r) (before-all cs both.1))
+    rw both.0 (ap (λ (r : List ℕ). c ∷ r) (before_all cs both.1))
 
 -- a chunk with a line feed is what stands before it, and what stands after it
 pub around : (cs : List ℕ) → has_feed cs ≡ true → cs ≡ before_feed cs ++ 10 ∷ drop (suc (length (before_feed cs))) cs

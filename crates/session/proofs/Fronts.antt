@@ -20,10 +20,10 @@ module _ (n m : ℕ) (xs : List ℕ) (e : n ≡ length (take m xs)) where
   front_length = e ∙ ap length (sym front_same)
 
 -- what stands past a front is not missed where more follows
-pub front-over : (n : ℕ) (xs ys : List ℕ) → take n (take n xs ++ ys) ≡ take n (xs ++ ys)
-front-over zero xs ys = refl
-front-over (suc n) [] ys = refl
-front-over (suc n) (x ∷ xs) ys = ap (λ (r : List ℕ). x ∷ r) (front-over n xs ys)
+pub front_over : (n : ℕ) (xs ys : List ℕ) → take n (take n xs ++ ys) ≡ take n (xs ++ ys)
+front_over zero xs ys = refl
+front_over (suc n) [] ys = refl
+front_over (suc n) (x ∷ xs) ys = ap (λ (r : List ℕ). x ∷ r) (front_over n xs ys)
 
-pub front-within : (n : ℕ) (xs ys : List ℕ) → n ≡ length xs → take n ys ≡ xs → n ≤ length ys
-front-within n xs ys e is = omega (arith, length-take n ys, ap length is)
+pub front_within : (n : ℕ) (xs ys : List ℕ) → n ≡ length xs → take n ys ≡ xs → n ≤ length ys
+front_within n xs ys e is = omega (arith, length-take n ys, ap length is)

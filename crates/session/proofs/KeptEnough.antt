@@ -59,23 +59,23 @@ three_each (c ∷ cs) between =
     (fewer n (length cs + 1) (scan cs begin) (omega arith) (three_each cs begin))
     (either n (ltb d 16) (scan cs (half d)) bad (fewer n (length cs + 2) (scan cs (half d)) (omega arith) (three_each cs (half d))) tt)
 
-long-refused : (line : List ℕ) → 195 ≤ length line → bytes_of line ≡ []
+long_refused : (line : List ℕ) → 195 ≤ length line → bytes_of line ≡ []
 unfolding bytes_of not_too_long AtMost behind
-long-refused line h = refused (scan line begin) (three_each line begin)
+long_refused line h = refused (scan line begin) (three_each line begin)
   where
     refused : (f : Found) → AtMost (length line + behind begin) f → not_too_long f ≡ []
     refused bad p = refl
     refused (good xs) p = let over : 65 < length xs = omega arith in rw (lt-ltb _ _ over)
 
-pub kept-enough : (line : List ℕ) → bytes_of (take 195 line) ≡ bytes_of line
-kept-enough line = cases (ltb (length line) 195) refl
+pub kept_enough : (line : List ℕ) → bytes_of (take 195 line) ≡ bytes_of line
+kept_enough line = cases (ltb (length line) 195) refl
   where
     cases : (b : Bool) → ltb (length line) 195 ≡ b → bytes_of (take 195 line) ≡ bytes_of line
     cases true e = let h : length line < 195 = ltb-true _ _ e in ap bytes_of (take_all 195 line (omega arith))
     cases false e =
         let h : 195 ≤ length line = ltb-false _ _ e in
-        long-refused (take 195 line) (omega (arith, length-take-le 195 line h)) ∙ sym (long-refused line h)
+        long_refused (take 195 line) (omega (arith, length-take-le 195 line h)) ∙ sym (long_refused line h)
 
 pub kept_answers : (line left right : List ℕ) (state : State) (out : List ℕ) → after_line (take 195 line) left right state out ≡ after_line line left right state out
 unfolding after_line
-kept_answers line left right state out = rw (kept-enough line)
+kept_answers line left right state out = rw (kept_enough line)

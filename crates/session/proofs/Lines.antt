@@ -19,33 +19,33 @@ same_arms false x = refl
 -- a digit's value is below 16, and that of any other character is 16
 digit_most : (c : ℕ) → digit_of c ≤ 16
 unfolding digit_of
-digit_most c = by-low (ltb c 48) refl
+digit_most c = by_low (ltb c 48) refl
   where
-    by-letter : (b : Bool) → ltb c 103 ≡ b → 97 ≤ c → cond b (c - 87) 16 ≤ 16
-    by-letter true e h = let t : c < 103 = ltb-true _ _ e in omega arith
-    by-letter false e h = omega arith
+    by_letter : (b : Bool) → ltb c 103 ≡ b → 97 ≤ c → cond b (c - 87) 16 ≤ 16
+    by_letter true e h = let t : c < 103 = ltb-true _ _ e in omega arith
+    by_letter false e h = omega arith
 
     by_gap : (b : Bool) → ltb c 97 ≡ b → cond b 16 (cond (ltb c 103) (c - 87) 16) ≤ 16
     by_gap true e = omega arith
-    by_gap false e = by-letter (ltb c 103) refl (ltb-false _ _ e)
+    by_gap false e = by_letter (ltb c 103) refl (ltb-false _ _ e)
 
     by_figure : (b : Bool) → ltb c 58 ≡ b → 48 ≤ c → cond b (c - 48) (cond (ltb c 97) 16 (cond (ltb c 103) (c - 87) 16)) ≤ 16
     by_figure true e h = let t : c < 58 = ltb-true _ _ e in omega arith
     by_figure false e h = by_gap (ltb c 97) refl
 
-    by-low : (b : Bool) → ltb c 48 ≡ b → cond b 16 (cond (ltb c 58) (c - 48) (cond (ltb c 97) 16 (cond (ltb c 103) (c - 87) 16))) ≤ 16
-    by-low true e = omega arith
-    by-low false e = by_figure (ltb c 58) refl (ltb-false _ _ e)
+    by_low : (b : Bool) → ltb c 48 ≡ b → cond b 16 (cond (ltb c 58) (c - 48) (cond (ltb c 97) 16 (cond (ltb c 103) (c - 87) 16))) ≤ 16
+    by_low true e = omega arith
+    by_low false e = by_figure (ltb c 58) refl (ltb-false _ _ e)
 
 pub digit_small : (c r : ℕ) → r ≡ digit_of c → (r ≡ 16 → ⊥) → r < 16
 digit_small c r e ne = omega (arith, digit_most c)
 
 -- after a byte: at most one character is left
-pub between-one : (cs : List ℕ) → length cs < 2 → scan cs between ≡ rest cs
+pub between_one : (cs : List ℕ) → length cs < 2 → scan cs between ≡ rest cs
 unfolding scan rest
-between-one [] h = refl
-between-one (c ∷ []) h = rw (same_arms (ltb (digit_of c) 16) bad, same_arms (eqb c 32) bad)
-between-one (c ∷ d ∷ cs) h = absurd (omega arith)
+between_one [] h = refl
+between_one (c ∷ []) h = rw (same_arms (ltb (digit_of c) 16) bad, same_arms (eqb c 32) bad)
+between_one (c ∷ d ∷ cs) h = absurd (omega arith)
 
 -- after a byte: a space, and something follows it
 pub between_space : (c : ℕ) (cs : List ℕ) → c ≡ 32 → 0 < length cs → scan (c ∷ cs) between ≡ rest cs
@@ -59,9 +59,9 @@ unfolding scan rest
 between_other c cs ne = rw (ne_eqb c 32 ne)
 
 -- where a byte has to begin, and what is found from there
-rest-one : (c : ℕ) → rest (c ∷ []) ≡ bad
+rest_one : (c : ℕ) → rest (c ∷ []) ≡ bad
 unfolding rest scan
-rest-one c = same_arms (ltb (digit_of c) 16) bad
+rest_one c = same_arms (ltb (digit_of c) 16) bad
 
 rest_no_high : (c : ℕ) (cs : List ℕ) → digit_of c ≡ 16 → rest (c ∷ cs) ≡ bad
 unfolding rest scan
@@ -71,13 +71,13 @@ rest_no_low : (c d : ℕ) (cs : List ℕ) → digit_of d ≡ 16 → rest (c ∷ 
 unfolding rest scan
 rest_no_low c d cs e = rw (e, same_arms (ltb (digit_of c) 16) bad)
 
-rest-two : (c d : ℕ) (cs : List ℕ) → digit_of c < 16 → digit_of d < 16 → rest (c ∷ d ∷ cs) ≡ preceded (16 * digit_of c + digit_of d) (scan cs between)
+rest_two : (c d : ℕ) (cs : List ℕ) → digit_of c < 16 → digit_of d < 16 → rest (c ∷ d ∷ cs) ≡ preceded (16 * digit_of c + digit_of d) (scan cs between)
 unfolding rest scan
-rest-two c d cs p q = rw (lt-ltb _ _ p, lt-ltb _ _ q)
+rest_two c d cs p q = rw (lt-ltb _ _ p, lt-ltb _ _ q)
 
 module _ (line : List ℕ) (at : ℕ) where
-  pub next-none : at ≤ length line → length line - at < 2 → NextByte line at at
-  next-none h few = record { from = omega arith; within = h; found = between-one (drop at line) (simp length-drop (omega arith)) }
+  pub next_none : at ≤ length line → length line - at < 2 → NextByte line at at
+  next_none h few = record { from = omega arith; within = h; found = between_one (drop at line) (simp length-drop (omega arith)) }
 
   cut : at < length line → drop at line ≡ get_or line at 0 ∷ drop (at + 1) line
   cut h = drop-cons line at 0 h ∙ ap (λ (n : ℕ). get_or line at 0 ∷ drop n line) (sym (add-one at))
@@ -94,13 +94,13 @@ module _ (line : List ℕ) (at : ℕ) where
   next_other more ne =
       record { from = omega arith; within = omega arith; found = rw (cut (omega arith)) (between_other _ _ ne) }
 
-  pub rest-short : at < length line → length line - at < 2 → rest (drop at line) ≡ bad
-  rest-short h few =
+  pub rest_short : at < length line → length line - at < 2 → rest (drop at line) ≡ bad
+  rest_short h few =
       let none : drop (at + 1) line ≡ [] = drop_of_length-le line {i = at + 1} (omega arith) in
-      rw (cut h, none) (rest-one (get_or line at 0))
+      rw (cut h, none) (rest_one (get_or line at 0))
 
-  pub rest-high : at < length line → (r : ℕ) → r ≡ digit_of (get_or line at 0) → r ≡ 16 → rest (drop at line) ≡ bad
-  rest-high h r e none = rw (cut h) (rest_no_high _ _ (sym e ∙ none))
+  pub rest_high : at < length line → (r : ℕ) → r ≡ digit_of (get_or line at 0) → r ≡ 16 → rest (drop at line) ≡ bad
+  rest_high h r e none = rw (cut h) (rest_no_high _ _ (sym e ∙ none))
 
 -- two characters are left
 cut_two : (line : List ℕ) (at : ℕ) → 2 ≤ length line - at → drop at line ≡ get_or line at 0 ∷ get_or line (at + 1) 0 ∷ drop (at + 2) line
@@ -108,8 +108,8 @@ cut_two line at h =
     let e : at + 1 + 1 ≡ at + 2 = omega arith in
     cut line at (omega arith) ∙ ap (λ (r : List ℕ). get_or line at 0 ∷ r) (cut line (at + 1) (omega arith) ∙ ap (λ (n : ℕ). get_or line (at + 1) 0 ∷ drop n line) e)
 
-pub rest-low : (line : List ℕ) (at : ℕ) → 2 ≤ length line - at → (r : ℕ) → r ≡ digit_of (get_or line (at + 1) 0) → r ≡ 16 → rest (drop at line) ≡ bad
-rest-low line at h r e none = rw (cut_two line at h) (rest_no_low _ _ _ (sym e ∙ none))
+pub rest_low : (line : List ℕ) (at : ℕ) → 2 ≤ length line - at → (r : ℕ) → r ≡ digit_of (get_or line (at + 1) 0) → r ≡ 16 → rest (drop at line) ≡ bad
+rest_low line at h r e none = rw (cut_two line at h) (rest_no_low _ _ _ (sym e ∙ none))
 
 -- a byte's two digits are read
 pub record Pair (line : List ℕ) (at high low : ℕ) : Type 0 where
@@ -119,28 +119,28 @@ pub record Pair (line : List ℕ) (at high low : ℕ) : Type 0 where
   pub high_small : high < 16
   pub low_small : low < 16
 
-rest-byte : (line : List ℕ) (at high low : ℕ) → Pair line at high low → rest (drop at line) ≡ preceded (16 * high + low) (scan (drop (at + 2) line) between)
-rest-byte line at high low p =
+rest_byte : (line : List ℕ) (at high low : ℕ) → Pair line at high low → rest (drop at line) ≡ preceded (16 * high + low) (scan (drop (at + 2) line) between)
+rest_byte line at high low p =
     let c = get_or line at 0 in
     let d = get_or line (at + 1) 0 in
     let hc : digit_of c < 16 = rw (← p.first) p.high_small in
     let hd : digit_of d < 16 = rw (← p.second) p.low_small in
-    rw (cut_two line at p.more, p.first, p.second) (rest-two c d (drop (at + 2) line) hc hd)
+    rw (cut_two line at p.more, p.first, p.second) (rest_two c d (drop (at + 2) line) hc hd)
 
 -- bytes that were found, and what is found after them
 unfoldable pub joined : List ℕ → Found → Found
 joined xs bad = bad
 joined xs (good ys) = good (xs ++ ys)
 
-joined-none : (f : Found) → joined [] f ≡ f
+joined_none : (f : Found) → joined [] f ≡ f
 unfolding joined
-joined-none bad = refl
-joined-none (good ys) = refl
+joined_none bad = refl
+joined_none (good ys) = refl
 
-joined-more : (xs : List ℕ) (x : ℕ) (f : Found) → joined xs (preceded x f) ≡ joined (xs ++ (x ∷ [])) f
+joined_more : (xs : List ℕ) (x : ℕ) (f : Found) → joined xs (preceded x f) ≡ joined (xs ++ (x ∷ [])) f
 unfolding preceded joined
-joined-more xs x bad = refl
-joined-more xs x (good ys) = ap good (sym (append_snoc xs x ys))
+joined_more xs x bad = refl
+joined_more xs x (good ys) = ap good (sym (append_snoc xs x ys))
 
 -- the line's bytes are the n that the frame has, with what is found from a place on
 pub record Decoded (line frame : List ℕ) (at n : ℕ) : Type 0 where
@@ -150,13 +150,13 @@ pub record Decoded (line frame : List ℕ) (at n : ℕ) : Type 0 where
   pub same : bytes_of line ≡ not_too_long (joined (take n frame) (rest (drop at line)))
 
 -- the empty line has no bytes either way
-from-none : (line : List ℕ) → bytes_of line ≡ not_too_long (joined [] (rest line))
+from_none : (line : List ℕ) → bytes_of line ≡ not_too_long (joined [] (rest line))
 unfolding bytes_of rest not_too_long scan joined
-from-none [] = refl
-from-none (c ∷ cs) = ap not_too_long (sym (joined-none (rest (c ∷ cs))))
+from_none [] = refl
+from_none (c ∷ cs) = ap not_too_long (sym (joined_none (rest (c ∷ cs))))
 
 pub decoded_none : (line frame : List ℕ) → length frame ≡ 65 → Decoded line frame 0 0
-decoded_none line frame e = record { within = omega arith; few = omega arith; sized = e; same = from-none line }
+decoded_none line frame e = record { within = omega arith; few = omega arith; sized = e; same = from_none line }
 
 module _ (line frame : List ℕ) (at n : ℕ) (d : Decoded line frame at n) where
   pub decoded_bad : rest (drop at line) ≡ bad → (0 ≡ length (bytes_of line)) × (take 0 frame ≡ bytes_of line)
@@ -174,7 +174,7 @@ module _ (line frame : List ℕ) (at n : ℕ) (d : Decoded line frame at n) wher
   pub decoded_full : (high low : ℕ) → Pair line at high low → n ≡ 65 → (0 ≡ length (bytes_of line)) × (take 0 frame ≡ bytes_of line)
   decoded_full high low p full =
       let e : length (take n frame) ≡ 65 = length-take-le n frame (omega (arith, d.sized)) ∙ full in
-      let none : bytes_of line ≡ [] = d.same ∙ rw (rest-byte line at high low p) (too_long_lem (take n frame) (16 * high + low) (scan (drop (at + 2) line) between) e) in
+      let none : bytes_of line ≡ [] = d.same ∙ rw (rest_byte line at high low p) (too_long_lem (take n frame) (16 * high + low) (scan (drop (at + 2) line) between) e) in
       (rw none refl, rw none refl)
 
   pub decoded_more : (high low r : ℕ) → Pair line at high low → (n ≡ 65 → ⊥) → NextByte line (at + 2) r → Decoded line (set frame n (16 * high + low)) r (n + 1)
@@ -186,15 +186,15 @@ module _ (line frame : List ℕ) (at n : ℕ) (d : Decoded line frame at n) wher
         within = next.within;
         few = omega (arith, d.few);
         sized = length-set frame n x ∙ d.sized;
-        same = d.same ∙ ap not_too_long (ap (joined (take n frame)) (rest-byte line at high low p ∙ ap (preceded x) next.found) ∙ joined-more (take n frame) x (rest (drop r line)) ∙ rw put);
+        same = d.same ∙ ap not_too_long (ap (joined (take n frame)) (rest_byte line at high low p ∙ ap (preceded x) next.found) ∙ joined_more (take n frame) x (rest (drop r line)) ∙ rw put);
       }
 
-  ends-short : (xs : List ℕ) → length xs ≤ 65 → not_too_long (joined xs (rest [])) ≡ xs
+  ends_short : (xs : List ℕ) → length xs ≤ 65 → not_too_long (joined xs (rest [])) ≡ xs
   unfolding not_too_long rest joined
-  ends-short xs h = rw (append-nil xs, le-ltb _ _ h)
+  ends_short xs h = rw (append-nil xs, le-ltb _ _ h)
 
   pub decoded_done : length line ≤ at → (n ≡ length (bytes_of line)) × (take n frame ≡ bytes_of line)
   decoded_done end =
       let sized : length (take n frame) ≡ n = length-take-le n frame (omega (arith, d.sized, d.few)) in
-      let all : bytes_of line ≡ take n frame = d.same ∙ rw (drop_of_length-le line end) (ends-short (take n frame) (omega (arith, d.few))) in
+      let all : bytes_of line ≡ take n frame = d.same ∙ rw (drop_of_length-le line end) (ends_short (take n frame) (omega (arith, d.few))) in
       (rw all (sym sized), sym all)

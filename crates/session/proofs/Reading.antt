@@ -19,8 +19,8 @@ pub record Read (r : Reader) (chunk left : List ℕ) : Type 0 where
   pub text : List ℕ
   pub led : Led [] (earlier ++ chunk) fresh text r left
 
-pub read-start : (p : Progress) (line : List ℕ) → p ≡ start_progress → Read (held_in p line (replicate 24576 0) (replicate 24576 0) (replicate 64 0)) [] []
-read-start p line e = rw e (record { earlier = []; text = []; led = led_none [] fresh empty_none })
+pub read_start : (p : Progress) (line : List ℕ) → p ≡ start_progress → Read (held_in p line (replicate 24576 0) (replicate 24576 0) (replicate 64 0)) [] []
+read_start p line e = rw e (record { earlier = []; text = []; led = led_none [] fresh empty_none })
 
 -- a chunk is read
 pub read_chunk : (r : Reader) (chunk : List ℕ) → Read r [] [] → Read r chunk chunk
@@ -62,8 +62,8 @@ read_on r chunk at read h =
     record { earlier = read.earlier ++ chunk; text = read.text; led = rw append-nil l }
 
 -- at the end, all that was printed is what the whole input is answered with
-pub read-end : (r : Reader) (read : Read r [] []) → read.text ++ (end_of r).printed ≡ printed read.earlier
-read-end r read =
+pub read_end : (r : Reader) (read : Read r [] []) → read.text ++ (end_of r).printed ≡ printed read.earlier
+read_end r read =
     let l = read.led in
     let last : (end_of r).printed ≡ printed_from l.line l.session = rw l.held (end_answers l.line l.session l.none).0 in
     let whole : printed_from read.earlier fresh ≡ read.text ++ printed_from l.line l.session = simp append-nil at (l.prints []) in

@@ -48,19 +48,19 @@ close_refused : (store : List ℕ) (s : SideState) → refusal (close_side store
 unfolding close_side
 close_refused store s = by_closed s.closed
   where
-    by-check : (x : Checked) → refusal (closed_by x s.used).reply ≡ true → (closed_by x s.used).state ≡ emptied
-    by-check Accepted e = absurd (false≢true e)
-    by-check (CheckRefused f) e = refl
+    by_check : (x : Checked) → refusal (closed_by x s.used).reply ≡ true → (closed_by x s.used).state ≡ emptied
+    by_check Accepted e = absurd (false≢true e)
+    by_check (CheckRefused f) e = refl
 
     by_closed : (b : Bool) → refusal (cond b (side_stepped s (Refused 41)) (closed_by (check_image (image_of s store)) s.used)).reply ≡ true →
         (cond b (side_stepped s (Refused 41)) (closed_by (check_image (image_of s store)) s.used)).state ≡ cond b s emptied
     by_closed true e = refl
-    by_closed false e = by-check (check_image (image_of s store)) e
+    by_closed false e = by_check (check_image (image_of s store)) e
 
 -- a write
-write-refused : (store : List ℕ) (s : SideState) (side : Side) (i n : ℕ) (out : List ℕ) → refusal (write_reply store s side i n out) ≡ true → write_out store s i n out ≡ out
+write_refused : (store : List ℕ) (s : SideState) (side : Side) (i n : ℕ) (out : List ℕ) → refusal (write_reply store s side i n out) ≡ true → write_out store s i n out ≡ out
 unfolding write_reply write_out
-write-refused store s side i n out = by_closed s.closed
+write_refused store s side i n out = by_closed s.closed
   where
     by_closed : (b : Bool) → refusal (cond b (written_reply (write_answer (image_of s store) i n out) side) (Refused 42)) ≡ true → cond b (write_output (image_of s store) i n out) out ≡ out
     by_closed true e = refused_unwritten (image_of s store) i n out (λ k wrote. false≢true (rw wrote at e))
@@ -88,7 +88,7 @@ frame_refused (Close Right) b left right state out e = (refl, refl, refl, rw (cl
     cases false = refl
 frame_refused Compare b left right state out e = (refl, refl, refl, refl)
 frame_refused (CompareRange i j n) b left right state out e = (refl, refl, refl, refl)
-frame_refused (Write side i n) b left right state out e = (refl, refl, write-refused (store_of side left right) (side_of side state) side i n out e, refl)
+frame_refused (Write side i n) b left right state out e = (refl, refl, write_refused (store_of side left right) (side_of side state) side i n out e, refl)
 frame_refused (Empty Left) b left right state out e = absurd (false≢true e)
 frame_refused (Empty Right) b left right state out e = absurd (false≢true e)
 frame_refused (BadFrame number) b left right state out e = (refl, refl, refl, refl)

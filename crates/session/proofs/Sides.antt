@@ -34,22 +34,22 @@ no true x y e = cc
 no false x y e = refl
 
 module _ (store : List ℕ) (s : SideState) (n : ℕ) (fills : n ≡ length (image_of s store)) where
-  pub front-image : take n store ≡ image_of s store
+  pub front_image : take n store ≡ image_of s store
   unfolding image_of
-  front-image = front_same n s.used store fills
+  front_image = front_same n s.used store fills
 
-  pub image-length : n ≡ length (take n store)
+  pub image_length : n ≡ length (take n store)
   unfolding image_of
-  image-length = front_length n s.used store fills
+  image_length = front_length n s.used store fills
 
   -- a close of an open side
   pub close_accepts : (x : Checked) → s.closed ≡ false → x ≡ check_image (take n store) → x ≡ Accepted → side_stepped (side_state s.used true) Done ≡ close_side store s
   unfolding close_side
-  close_accepts x was e is = rw (← front-image, ← e, is, was)
+  close_accepts x was e is = rw (← front_image, ← e, is, was)
 
   pub close_refuses : (x : Checked) (f : Fault) → s.closed ≡ false → x ≡ check_image (take n store) → x ≡ CheckRefused f → side_stepped emptied (Faulty f) ≡ close_side store s
   unfolding close_side
-  close_refuses x f was e is = rw (← front-image, ← e, is, was)
+  close_refuses x f was e is = rw (← front_image, ← e, is, was)
 
 -- both sides are closed, or one is not
 pub left_open : (state : State) → state.left.closed ≡ false → false ≡ closed_both state

@@ -97,8 +97,8 @@ module _ (chunk line : List ℕ) (at len : ℕ) (state : State) (left right out 
       record { told = rw ends told; next = place; kept = rw ends refl; line = lined }
 
 -- For a caller: what is printed stands within the text, what is held is what the definition says, and a turn goes on.
-pub told-within : (t : Outcome) (s : State) (k : ℕ) (text : List ℕ) (after : Lent) → Told t s k text after → k ≤ length after.text
-told-within t s k text after told = rw told.text (rw length-append (omega (arith, told.printed)))
+pub told_within : (t : Outcome) (s : State) (k : ℕ) (text : List ℕ) (after : Lent) → Told t s k text after → k ≤ length after.text
+told_within t s k text after told = rw told.text (rw length-append (omega (arith, told.printed)))
 
 module _ (chunk : List ℕ) (at : ℕ) (r : Reader) (line₀ text₀ : List ℕ) (t : Taken) (line₁ : List ℕ) (after : Lent)
     (turned : Turned (turn_of (drop at chunk) r) at line₀ text₀ t line₁ after) where
@@ -108,9 +108,9 @@ module _ (chunk : List ℕ) (at : ℕ) (r : Reader) (line₀ text₀ : List ℕ)
       omega (arith, turned.next, turn_forward (drop at chunk) r some)
 
   -- what is kept is nothing, or all of the line so far
-  kept-front : take t.progress.kept line₁ ≡ (turn_of (drop at chunk) r).outcome.reader.kept
+  kept_front : take t.progress.kept line₁ ≡ (turn_of (drop at chunk) r).outcome.reader.kept
   unfolding turn_of
-  kept-front = cases (has_feed (drop at chunk)) refl
+  kept_front = cases (has_feed (drop at chunk)) refl
     where
       cases : (b : Bool) → has_feed (drop at chunk) ≡ b → take t.progress.kept line₁ ≡ (turn_of (drop at chunk) r).outcome.reader.kept
       cases true e =
@@ -121,4 +121,4 @@ module _ (chunk : List ℕ) (at : ℕ) (r : Reader) (line₀ text₀ : List ℕ)
           rw (all, turned.line, e) (take-append_seam (kept_of r.kept (drop at chunk)) _)
 
   pub turned_held : held_in t.progress line₁ after.left after.right after.out ≡ (turn_of (drop at chunk) r).outcome.reader
-  turned_held = rw (kept-front, turned.told.state, turned.told.left, turned.told.right, turned.told.out) refl
+  turned_held = rw (kept_front, turned.told.state, turned.told.left, turned.told.right, turned.told.out) refl

@@ -53,9 +53,9 @@ pub record Printed (bytes text₀ text : List ℕ) (k : ℕ) : Type 0 where
   pub sized : length text ≡ length text₀
   pub same : text ≡ hex_text (take k bytes) ++ drop (2 * k) text₀
 
-pub printed-none : (bytes text : List ℕ) → Printed bytes text text 0
+pub printed_none : (bytes text : List ℕ) → Printed bytes text text 0
 unfolding hex_text
-printed-none bytes text = record { within = omega arith; sized = refl; same = refl }
+printed_none bytes text = record { within = omega arith; sized = refl; same = refl }
 
 module _ (bytes text₀ text : List ℕ) (k : ℕ) (p : Printed bytes text₀ text k) where
   front_long : length (hex_text (take k bytes)) ≡ 2 * k
@@ -66,9 +66,9 @@ module _ (bytes text₀ text : List ℕ) (k : ℕ) (p : Printed bytes text₀ te
   put rest n c e inside =
       rw (drop-cons text₀ n 0 inside, set_at rest (get_or text₀ n 0) (drop (suc n) text₀) c n e, add-one) (sym (append_snoc rest c (drop (suc n) text₀)))
 
-  pub printed-more : (a b : ℕ) → k < length bytes → 2 * k + 1 < length text₀ → a ≡ digit_text (get_or bytes k 0 / 16) → b ≡ digit_text (get_or bytes k 0 % 16) →
+  pub printed_more : (a b : ℕ) → k < length bytes → 2 * k + 1 < length text₀ → a ≡ digit_text (get_or bytes k 0 / 16) → b ≡ digit_text (get_or bytes k 0 % 16) →
       Printed bytes text₀ (set (set text (2 * k) a) (2 * k + 1) b) (k + 1)
-  printed-more a b more inside ea eb =
+  printed_more a b more inside ea eb =
       let front = hex_text (take k bytes) in
       let first : set text (2 * k) a ≡ front ++ (a ∷ []) ++ drop (2 * k + 1) text₀ = rw p.same (put front (2 * k) a front_long (omega arith)) in
       let long : length (front ++ (a ∷ [])) ≡ 2 * k + 1 = rw length-append (omega (arith, front_long)) in
@@ -82,10 +82,10 @@ module _ (bytes text₀ text : List ℕ) (k : ℕ) (p : Printed bytes text₀ te
         same = second ∙ rw (place, hex);
       }
 
-  pub printed-done : length bytes ≤ k → 2 * k < length text₀ →
+  pub printed_done : length bytes ≤ k → 2 * k < length text₀ →
       (2 * k + 1 ≡ length (line_text bytes)) × (set text (2 * k) 10 ≡ line_text bytes ++ drop (2 * k + 1) text₀)
   unfolding line_text
-  printed-done end inside =
+  printed_done end inside =
       let all : take k bytes ≡ bytes = take_all k bytes end in
       let long : length (hex_text bytes) ≡ 2 * k = rw all at front_long in
       (rw length-append (omega (arith, long)), rw (p.same, all) (put (hex_text bytes) (2 * k) 10 long inside))

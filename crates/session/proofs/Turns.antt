@@ -15,8 +15,8 @@ use Rattle.session.specs.Steps.{After, after_line}
 use Rattle.session.specs.Sessions.{next, after_lines, replies}
 use Rattle.session.specs.Input.{lines_of, fresh, printed_from, printed}
 use Rattle.session.specs.Turns.{Reader, reader_at, Turn, outcome, answered, turn_of, end_of, turns_of, run_of}
-use Rattle.session.proofs.Feeds.{empty_none, before-none, none_both, before-all, around, lines_more, lines_last}
-use Rattle.session.proofs.Fronts.{front-over}
+use Rattle.session.proofs.Feeds.{empty_none, before_none, none_both, before_all, around, lines_more, lines_last}
+use Rattle.session.proofs.Fronts.{front_over}
 use Rattle.session.proofs.KeptEnough.{kept_answers}
 
 -- From the session a, with the characters p since the last line feed, a chunk leads on: this text is printed, this is held,
@@ -54,19 +54,19 @@ module _ (chunk p : List ℕ) (a : After) (none : has_feed p ≡ false) where
   turn_ended e =
       let line = p ++ before_feed chunk in
       let same : after_line (take 195 (take 195 p ++ before_feed chunk)) a.left a.right a.stepped.state a.out ≡ next line a =
-      rw (front-over 195 p (before_feed chunk)) (kept_answers line a.left a.right a.stepped.state a.out) in
+      rw (front_over 195 p (before_feed chunk)) (kept_answers line a.left a.right a.stepped.state a.out) in
       (rw e (ap answered same), rw e (omega arith))
 
   turn_kept : has_feed chunk ≡ false → (here.outcome ≡ outcome [] (reader_at (take 195 (p ++ chunk)) a)) × (here.consumed ≡ length chunk)
   unfolding turn_of kept_of
-  turn_kept e = (rw (e, before-all chunk e, front-over 195 p chunk) refl, rw (e, before-all chunk e) (omega arith))
+  turn_kept e = (rw (e, before_all chunk e, front_over 195 p chunk) refl, rw (e, before_all chunk e) (omega arith))
 
   led_ended : has_feed chunk ≡ true → Led p chunk a here.outcome.printed here.outcome.reader (drop here.consumed chunk)
   unfolding printed_from after_lines replies flatten
   led_ended e =
       let line = p ++ before_feed chunk in
       let left = drop (suc (length (before_feed chunk))) chunk in
-      let whole : has_feed line ≡ false = none_both p (before_feed chunk) none (before-none chunk) in
+      let whole : has_feed line ≡ false = none_both p (before_feed chunk) none (before_none chunk) in
       let lines : (more : List ℕ) → lines_of (p ++ (chunk ++ more)) ≡ line ∷ lines_of (left ++ more) =
       λ more. ap (λ (cs : List ℕ). lines_of (p ++ (cs ++ more))) (around chunk e) ∙ (simp append_assoc) ∙ lines_more line (left ++ more) whole in
       rw ((turn_ended e).0, (turn_ended e).1)
@@ -105,7 +105,7 @@ turn_forward chunk r more = cases (has_feed chunk) refl
   where
     cases : (b : Bool) → has_feed chunk ≡ b → 0 < length (before_feed chunk) + cond b 1 0
     cases true e = omega arith
-    cases false e = rw (before-all chunk e) (omega arith)
+    cases false e = rw (before_all chunk e) (omega arith)
 
 no_more : (cs : List ℕ) → length cs ≤ 0 → cs ≡ []
 no_more [] h = refl

@@ -12,7 +12,7 @@ use Rattle.image.specs.Bytes.{byte_at, bytes_at}
 use Rattle.image.specs.Ranges.{first}
 use Rattle.image.specs.Utf8.{◌to◌, has, tail, Choice, ◌then◌, choose, steps, next_state, walk, well_formed}
 use Rattle.image.proofs.Bools.{and_left, and_right, and_fails, fails_and}
-use Rattle.image.proofs.Ranges.{first-from, first-within}
+use Rattle.image.proofs.Ranges.{first_from, first_within}
 use Rattle.utf8.specs.Cuts.{begins, Cut}
 use Rattle.utf8.proofs.Steps.{all_at, walk_split}
 use Rattle.utf8.proofs.WalkAgrees.{walk_agrees}
@@ -46,18 +46,18 @@ inside q b h = no_tail (get_or (rest steps) q []) b (all_at tails refl (rest ste
     rest [] = []
     rest (x ∷ more) = more
 
-pub ill-formed : (s : List ℕ) → walk 8 s ≡ 8
+pub ill_formed : (s : List ℕ) → walk 8 s ≡ 8
 unfolding walk next_state steps
-ill-formed [] = refl
-ill-formed (b ∷ s) = ill-formed s
+ill_formed [] = refl
+ill_formed (b ∷ s) = ill_formed s
 
 -- a walk that is inside a character at the cut ends ill
-ends-ill : (s : List ℕ) (q i n : ℕ) → Cut s (i + n) i → eqb (walk (suc q) (bytes_at s i n)) 0 ≡ false
+ends_ill : (s : List ℕ) (q i n : ℕ) → Cut s (i + n) i → eqb (walk (suc q) (bytes_at s i n)) 0 ≡ false
 unfolding walk bytes_at
-ends-ill s q i zero c = eqb-suc-zero q
-ends-ill s q i (suc n) c =
+ends_ill s q i zero c = eqb-suc-zero q
+ends_ill s q i (suc n) c =
     let e : next_state (suc q) (byte_at s i) ≡ 8 = inside q (byte_at s i) (c (omega arith)) in
-    ap (λ (r : ℕ). eqb (walk r (bytes_at s (suc i) n)) 0) e ∙ ap (λ (r : ℕ). eqb r 0) (ill-formed (bytes_at s (suc i) n))
+    ap (λ (r : ℕ). eqb (walk r (bytes_at s (suc i) n)) 0) e ∙ ap (λ (r : ℕ). eqb r 0) (ill_formed (bytes_at s (suc i) n))
 
 -- the law, for m bytes and n more
 pub cut_formed : (s : List ℕ) (i m n : ℕ) → Cut s (i + m + n) (i + m)
@@ -70,7 +70,7 @@ cut_formed s i m n c =
   where
     cases : (q : ℕ) → eqb (walk q (bytes_at s (i + m) n)) 0 ≡ eqb q 0 && eqb (walk 0 (bytes_at s (i + m) n)) 0
     cases zero = refl
-    cases (suc q) = ends-ill s q (i + m) n c ∙ rw (eqb-suc-zero q)
+    cases (suc q) = ends_ill s q (i + m) n c ∙ rw (eqb-suc-zero q)
 
 -- the law, for a text from place x to place z that is cut at place y
 pub cut_at_lem : (s : List ℕ) (x y z : ℕ) → x ≤ y → y ≤ z → Cut s z y
@@ -82,9 +82,9 @@ cut_at_lem s x y z from upto c =
 
 -- each part of a well-formed text between two places where it may be cut is well-formed: a look at a column's whole buffer,
 -- and at the byte where each of its texts starts, answers for each of them
-pub part-formed : (s : List ℕ) (a n x m : ℕ) → a ≤ x → x + m ≤ a + n → Cut s (a + n) x → Cut s (a + n) (x + m)
+pub part_formed : (s : List ℕ) (a n x m : ℕ) → a ≤ x → x + m ≤ a + n → Cut s (a + n) x → Cut s (a + n) (x + m)
     → well_formed (bytes_at s a n) ≡ true → well_formed (bytes_at s x m) ≡ true
-part-formed s a n x m from upto start end e =
+part_formed s a n x m from upto start end e =
     let whole : n ≡ a + n - a = omega arith in
     let part : x + m - x ≡ m = omega arith in
     let here = sym (cut_at_lem s a x (a + n) from (omega arith) start) ∙ rw whole at e in
@@ -94,4 +94,4 @@ part-formed s a n x m from upto start end e =
 
 -- the first of three places where no tail stands is near
 pub cut_near : (s : List ℕ) (x : ℕ) {r : ℕ} → r ≡ first (begins s) x 3 → (x ≤ r) × (r ≤ x + 3)
-cut_near s x e = rw e (first-from (begins s) x 3, first-within (begins s) x 3)
+cut_near s x e = rw e (first_from (begins s) x 3, first_within (begins s) x 3)

@@ -18,9 +18,9 @@ use Rattle.utf8.specs.declared.parts.Parts.{Parts}
 use Rattle.utf8.specs.Ascii.{high}
 use Rattle.utf8.specs.Cuts.{Cut}
 use Rattle.utf8.specs.Parts.{Left, Further, Each, Both, ends_well, all_end, any_high, plain, Passed, ill}
-use Rattle.utf8.proofs.Cutting.{cut_at_lem, ill-formed}
+use Rattle.utf8.proofs.Cutting.{cut_at_lem, ill_formed}
 use Rattle.utf8.proofs.Plain.{plain as plain_walk}
-use Rattle.utf8.proofs.Steps.{walk_split, walk-state}
+use Rattle.utf8.proofs.Steps.{walk_split, walk_state}
 use Rattle.utf8.proofs.WalkAgrees.{walk_agrees}
 
 module _ (s : List ℕ) where
@@ -30,7 +30,7 @@ module _ (s : List ℕ) where
   further {m} {p} {r} l moved kept e =
       let left : p.stop - p.at ≡ m + (p.stop - (p.at + m)) = omega (arith, l.room) in
       record {
-        known = rw e (walk-state p.state _ l.known);
+        known = rw e (walk_state p.state _ l.known);
         moved = moved;
         kept = kept;
         same = rw (moved, kept, e, left, walk_split s p.state p.at m (p.stop - (p.at + m)));
@@ -44,7 +44,7 @@ module _ (s : List ℕ) where
   -- bytes up to 7F, between characters
   further_plain : {n : ℕ} {p r : Part} → Left s n p → p.state ≡ 0 → any (high s) p.at n ≡ false → Passed n p r → Further s n p r
   further_plain {n} {p} {r} l e low f =
-      further l f.moved f.kept (f.state-kept ∙ e ∙ sym (rw e (plain_walk s p.at n low)))
+      further l f.moved f.kept (f.state_kept ∙ e ∙ sym (rw e (plain_walk s p.at n low)))
 
   pub further_none : {p : Part} → p.state < 9 → Further s 0 p p
   further_none lt = record { known = lt; moved = omega arith; kept = refl; same = refl }
@@ -89,12 +89,12 @@ module _ (s : List ℕ) where
       }
 
   -- n bytes in two steps
-  pub each-rest : {i n : ℕ} {p q r : Parts} → i ≤ n → Each (Left s n) p → Both (Further s i) p q → Both (Further s (n - i)) q r → Each (Left s 0) r
-  each-rest {i} {n} le l f g = each_after (omega arith) l (each_then f g)
+  pub each_rest : {i n : ℕ} {p q r : Parts} → i ≤ n → Each (Left s n) p → Both (Further s i) p q → Both (Further s (n - i)) q r → Each (Left s 0) r
+  each_rest {i} {n} le l f g = each_after (omega arith) l (each_then f g)
 
-  pub each-plain : {n : ℕ} {p r : Parts} → Each (Left s n) p → plain s n p ≡ true → Both (Passed n) p r → Both (Further s n) p r
+  pub each_plain : {n : ℕ} {p r : Parts} → Each (Left s n) p → plain s n p ≡ true → Both (Passed n) p r → Both (Further s n) p r
   unfolding plain any_high
-  each-plain {n} {p} {r} l e f =
+  each_plain {n} {p} {r} l e f =
       let k = simp facts at e in
       record {
         a = further_plain l.a k.0.0.0.0 k.1.0.0.0 f.a;
@@ -108,13 +108,13 @@ module _ (s : List ℕ) where
   each_same f = rw (f.a.same, f.b.same, f.c.same, f.d.same)
 
   -- a part in state 8 ends ill
-  ill-part : (p : Part) → eqb p.state 8 ≡ true → ends_well s p ≡ false
+  ill_part : (p : Part) → eqb p.state 8 ≡ true → ends_well s p ≡ false
   unfolding ends_well
-  ill-part p e = rw (eqb-true p.state 8 e, ill-formed (bytes_at s p.at (p.stop - p.at)))
+  ill_part p e = rw (eqb-true p.state 8 e, ill_formed (bytes_at s p.at (p.stop - p.at)))
 
-  pub ill-ends : (p : Parts) → ill p ≡ true → all_end s p ≡ false
+  pub ill_ends : (p : Parts) → ill p ≡ true → all_end s p ≡ false
   unfolding all_end
-  ill-ends p = either _ _ _ _ (either _ _ _ _ (either _ _ _ _ (ill-part p.a) (ill-part p.b)) (ill-part p.c)) (ill-part p.d)
+  ill_ends p = either _ _ _ _ (either _ _ _ _ (either _ _ _ _ (ill_part p.a) (ill_part p.b)) (ill_part p.c)) (ill_part p.d)
     where
       either : (x y t u : Bool) → (x ≡ true → t ≡ false) → (y ≡ true → u ≡ false) → x || y ≡ true → t && u ≡ false
       either true y t u f g e = rw (f refl)
@@ -149,8 +149,8 @@ cut_ends s a b c d n ab bc cd de at_b at_c at-d =
     (rw (walk_agrees (bytes_at s a (b - a)), walk_agrees (bytes_at s b (c - b)), walk_agrees (bytes_at s c (d - c)), walk_agrees (bytes_at s d (a + n - d))))
 
 -- three tests of which none holds
-pub none-holds : {u v w x y z : Bool} → u ≡ x → v ≡ y → w ≡ z → u || v || w ≡ false → (x ≡ false) × (y ≡ false) × (z ≡ false)
-none-holds {u} {v} {w} p q r e =
+pub none_holds : {u v w x y z : Bool} → u ≡ x → v ≡ y → w ≡ z → u || v || w ≡ false → (x ≡ false) × (y ≡ false) × (z ≡ false)
+none_holds {u} {v} {w} p q r e =
     let f : u || v ≡ false = or_left (u || v) w e in
     (sym p ∙ or_left u v f, sym q ∙ or_right u v f, sym r ∙ or_right (u || v) w e)
 
@@ -167,13 +167,13 @@ or_each x y z w a b c d =
     (or_swap (x || y || z) w (a || b || c) d
     ∙ ap (λ (t : Bool). t || (w || d)) (or_swap (x || y) z (a || b) c ∙ ap (λ (t : Bool). t || (z || c)) (or_swap x y a b)))
 
-pub high-more : (s : List ℕ) (a b c d i : ℕ)
+pub high_more : (s : List ℕ) (a b c d i : ℕ)
     → any_high s a b c d (i + 1) ≡ any_high s a b c d i || (high s (a + i) || high s (b + i) || high s (c + i) || high s (d + i))
 unfolding any_high
-high-more s a b c d i =
+high_more s a b c d i =
     rw (any_snoc (high s) a i, any_snoc (high s) b i, any_snoc (high s) c i, any_snoc (high s) d i)
     (or_each (any (high s) a i) (any (high s) b i) (any (high s) c i) (any (high s) d i) (high s (a + i)) (high s (b + i)) (high s (c + i)) (high s (d + i)))
 
-pub high-none : (s : List ℕ) (a b c d : ℕ) → false ≡ any_high s a b c d 0
+pub high_none : (s : List ℕ) (a b c d : ℕ) → false ≡ any_high s a b c d 0
 unfolding any_high any
-high-none s a b c d = refl
+high_none s a b c d = refl

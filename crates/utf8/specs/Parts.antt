@@ -46,7 +46,7 @@ Long n p = p.at + n ≤ p.stop
 pub record Passed (n : ℕ) (p r : Part) : Type 0 where
   pub moved : r.at ≡ p.at + n
   pub kept : r.stop ≡ p.stop
-  pub state-kept : r.state ≡ p.state
+  pub state_kept : r.state ≡ p.state
 
 -- one of four parts is ill-formed for ever
 abbrev pub ill : Parts → Bool

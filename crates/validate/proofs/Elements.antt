@@ -8,18 +8,18 @@ use native.Mathlib.Omega.{arith}
 use lib.ListN.{length}
 use Rattle.image.specs.Reads.{Packed}
 use Rattle.image.specs.Record.{length_of, offset_of, elements_of, buffer_place}
-use Rattle.image.proofs.Numbers.{packed-from, packed_fewer}
+use Rattle.image.proofs.Numbers.{packed_from, packed_fewer}
 use Rattle.validate.specs.Numbers.{Holds}
 
 pub shift : (b o j w : ℕ) → b + o * w + j * w ≡ b + (o + j) * w
 shift b o j w = add_assoc b (o * w) (j * w) ∙ ap (λ (x : ℕ). b + x) (sym (add-mul o j w))
 
 -- element j of buffer b, where there are n
-pub element-inside : (s : List ℕ) (k b j : ℕ) {v w n place : ℕ} → Holds s k b w n → v ≡ w → place ≡ buffer_place s k b → j < n → Packed (length s) place v (j + 1)
-element-inside s k b j h e p lt = rw (e, p) (packed_fewer (j + 1) (omega arith) h)
+pub element_inside : (s : List ℕ) (k b j : ℕ) {v w n place : ℕ} → Holds s k b w n → v ≡ w → place ≡ buffer_place s k b → j < n → Packed (length s) place v (j + 1)
+element_inside s k b j h e p lt = rw (e, p) (packed_fewer (j + 1) (omega arith) h)
 
 -- the elements of the node's rows, which start at its offset
 pub rows_inside : (s : List ℕ) (k b : ℕ) {v w place o rows : ℕ} → Holds s k b w (elements_of s k) → v ≡ w → place ≡ buffer_place s k b → o ≡ offset_of s k → rows ≡ length_of s k
     → Packed (length s) (place + o * v) v rows
 unfolding elements_of
-rows_inside s k b {rows = rows} h e p q r = rw (e, p, q) (packed-from (offset_of s k) rows (omega arith) h)
+rows_inside s k b {rows = rows} h e p q r = rw (e, p, q) (packed_from (offset_of s k) rows (omega arith) h)

@@ -15,9 +15,9 @@ use Rattle.image.proofs.Loops.{any_same}
 use Rattle.validate.specs.Numbers.{KeyLimit, number_in, reaches}
 use Rattle.validate.proofs.Elements.{shift}
 
-pub null-row : (s : List ℕ) (k i : ℕ) (v : Bool) → v ≡ valid s k i → v ≡ false → key_row_fault s k (0 + i) ≡ false
+pub null_row : (s : List ℕ) (k i : ℕ) (v : Bool) → v ≡ valid s k i → v ≡ false → key_row_fault s k (0 + i) ≡ false
 unfolding key_row_fault
-null-row s k i v e null = rw (zero-add, ← e, null)
+null_row s k i v e null = rw (zero-add, ← e, null)
 
 -- what was read of Dictionary k: the width of its keys, their limit, and where those of its rows start
 pub record Keys (s : List ℕ) (k w limit keys : ℕ) : Type 0 where
@@ -35,5 +35,5 @@ module _ {s : List ℕ} {k w limit keys : ℕ} (r : Keys s k w limit keys) where
   full_row none i = rw (none, r.limits.outside _, ← r.width, ← shift (buffer_place s k 0) (offset_of s k) i w, ← r.place)
 
   -- without a bitmap it is the keys that decide
-  pub by-keys : {b x : Bool} {rows : ℕ} → b ≡ has_bitmap s k → b ≡ false → rows ≡ length_of s k → x ≡ any (reaches limit (number_in s keys w)) 0 rows → x ≡ any (key_row_fault s k) 0 (length_of s k)
-  by-keys {rows = rows} e none count p = p ∙ any_same _ _ 0 rows (full_row (rw (← e) none)) ∙ rw count
+  pub by_keys : {b x : Bool} {rows : ℕ} → b ≡ has_bitmap s k → b ≡ false → rows ≡ length_of s k → x ≡ any (reaches limit (number_in s keys w)) 0 rows → x ≡ any (key_row_fault s k) 0 (length_of s k)
+  by_keys {rows = rows} e none count p = p ∙ any_same _ _ 0 rows (full_row (rw (← e) none)) ∙ rw count

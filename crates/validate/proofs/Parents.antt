@@ -17,30 +17,30 @@ use Rattle.image.specs.TypeCode.{is_union}
 use Rattle.image.specs.Faults.{union_over, under_union}
 use Rattle.image.proofs.Bools.{fails_and}
 use Rattle.image.proofs.Loops.{sum_more}
-use Rattle.image.proofs.Ranges.{any_none, any-only, sum_grows}
+use Rattle.image.proofs.Ranges.{any_none, any_only, sum_grows}
 use Rattle.validate.specs.declared.tree.Parent.{Parent}
 use Rattle.validate.specs.Walks.{Sum, Passed, Parents}
 
 module _ (s : List ℕ) where
-  pub children-none : Sum (child_start s 0) 0 1
+  pub children_none : Sum (child_start s 0) 0 1
   unfolding child_start sum_to
-  children-none = record { value = refl; small = omega arith }
+  children_none = record { value = refl; small = omega arith }
 
-  pub buffers-none : Sum (buffer_start s 0) 0 0
+  pub buffers_none : Sum (buffer_start s 0) 0 0
   unfolding buffer_start sum_to
-  buffers-none = record { value = refl; small = omega arith }
+  buffers_none = record { value = refl; small = omega arith }
 
-  pub children-more : {k x r : ℕ} → Sum (child_start s k) k r → Read (child_count s k) 16 x → Sum (child_start s (k + 1)) (k + 1) (r + x)
+  pub children_more : {k x r : ℕ} → Sum (child_start s k) k r → Read (child_count s k) 16 x → Sum (child_start s (k + 1)) (k + 1) (r + x)
   unfolding child_start
-  children-more {k} {x} {r} sum read =
+  children_more {k} {x} {r} sum read =
       record {
         value = omega (arith, sum.value, sum_more (child_count s) k x read.value);
         small = omega (arith, sum.small, read.small);
       }
 
-  pub buffers-more : {k x r : ℕ} → Sum (buffer_start s k) k r → Read (buffer_count s k) 16 x → Sum (buffer_start s (k + 1)) (k + 1) (r + x)
+  pub buffers_more : {k x r : ℕ} → Sum (buffer_start s k) k r → Read (buffer_count s k) 16 x → Sum (buffer_start s (k + 1)) (k + 1) (r + x)
   unfolding buffer_start
-  buffers-more {k} {x} {r} sum read =
+  buffers_more {k} {x} {r} sum read =
       record {
         value = omega (arith, sum.value, sum_more (buffer_count s) k x read.value);
         small = omega (arith, sum.small, read.small);
@@ -48,22 +48,22 @@ module _ (s : List ℕ) where
 
   -- node 0 has no parent; the search for one starts at it
   pub passed_none : {x : ℕ} → Read (child_count s 0) 16 x → Passed s 0 0 (1 + x)
-  passed_none read = record { ends = children-more children-none read; within = omega arith; passed = λ j h. absurd (omega arith) }
+  passed_none read = record { ends = children_more children_none read; within = omega arith; passed = λ j h. absurd (omega arith) }
 
   -- the search for the next node's parent starts at this one's
-  pub passed-next : {k p e : ℕ} → Passed s k p e → Passed s (k + 1) p e
-  passed-next r =
+  pub passed_next : {k p e : ℕ} → Passed s k p e → Passed s (k + 1) p e
+  passed_next r =
       record {
         ends = r.ends;
         within = omega (arith, r.within);
         passed = λ j h. omega (arith, r.passed j h);
       }
 
-  pub passed-more : {k p e x : ℕ} → Passed s k p e → p < k → e ≤ k → Read (child_count s (p + 1)) 16 x → Passed s k (p + 1) (e + x)
-  passed-more {k} {p} {e} r lt le read =
+  pub passed_more : {k p e x : ℕ} → Passed s k p e → p < k → e ≤ k → Read (child_count s (p + 1)) 16 x → Passed s k (p + 1) (e + x)
+  passed_more {k} {p} {e} r lt le read =
       let here : child_start s (p + 1) ≤ k = omega (arith, r.ends.value) in
       record {
-        ends = children-more r.ends read;
+        ends = children_more r.ends read;
         within = omega arith;
         passed = below_more (λ (j : ℕ). child_start s (suc j) ≤ k) p r.passed (rw (add-one p) at here);
       }
@@ -110,9 +110,9 @@ module _ {s : List ℕ} {k : ℕ} {p : Parent} (r : Parents s k p) where
       let h : k < p.end = r.reached lt in
       omega (arith, rw (add-one p.node) at e)
 
-  pub by-parent : p.node < k → is_union (code_of s p.node) ≡ under_union s k
+  pub by_parent : p.node < k → is_union (code_of s p.node) ≡ under_union s k
   unfolding under_union
-  by-parent lt = sym (any-only _ 0 k p.node (omega arith) (omega arith) other ∙ holds_it s k p.node (in_time s k p.node lt r.known.passed) (past lt))
+  by_parent lt = sym (any_only _ 0 k p.node (omega arith) (omega arith) other ∙ holds_it s k p.node (in_time s k p.node lt r.known.passed) (past lt))
     where
       other : (j : ℕ) → 0 ≤ j → j < 0 + k → (j ≡ p.node → ⊥) → union_over s k j ≡ false
       other j from end ne = at (ltb j p.node) refl

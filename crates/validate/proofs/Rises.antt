@@ -29,21 +29,21 @@ follows true false false true e h = refl
 follows true true false false e h = refl
 follows true false false false e h = refl
 
-not-below : (x y : ℕ) → leb x y ≡ not (ltb y x)
-not-below x y = cases (leb x y) refl
+not_below : (x y : ℕ) → leb x y ≡ not (ltb y x)
+not_below x y = cases (leb x y) refl
   where
     cases : (t : Bool) → leb x y ≡ t → t ≡ not (ltb y x)
     cases true e = rw (le-ltb y x (leb-true x y e))
     cases false e = rw (lt-ltb y x (leb-false x y e))
 
 module _ (step : ℕ) (f : ℕ → ℕ) (top : ℕ) where
-  pub rises-ends : (least i n : ℕ) → rises step f top least i (suc n) ≡ leb least (f i) && leb (f (i + n)) top && not (any (falls step f) i n)
+  pub rises_ends : (least i n : ℕ) → rises step f top least i (suc n) ≡ leb least (f i) && leb (f (i + n)) top && not (any (falls step f) i n)
   unfolding rises any falls
-  rises-ends least i zero = rw (add-zero i)
-  rises-ends least i (suc n) =
+  rises_ends least i zero = rw (add-zero i)
+  rises_ends least i (suc n) =
       let x : i + suc n ≡ suc i + n = omega arith in
-      let r = rises-ends (f i + step) (suc i) n in
-      rw (x, not_or (ltb (f (i + 1)) (f i + step)) (any (falls step f) (suc i) n), add-one i, ← not-below (f i + step) (f (suc i)), r)
+      let r = rises_ends (f i + step) (suc i) n in
+      rw (x, not_or (ltb (f (i + 1)) (f i + step)) (any (falls step f) (suc i) n), add-one i, ← not_below (f i + step) (f (suc i)), r)
       (follows (leb least (f i)) (leb (f i) top) (leb (f i + step) (f (suc i))) (leb (f (suc i + n)) top) (not (any (falls step f) (suc i) n)) (λ e.
       let low : f i + step ≤ f (suc i) = rises_least step f top (f i + step) (suc i) (suc n) (r ∙ e) (suc i) (omega arith) (omega arith) in
       let high : f (suc i) ≤ top = rises_top step f top (f i + step) (suc i) (suc n) (r ∙ e) (suc i) (omega arith) (omega arith) in
@@ -55,20 +55,20 @@ module _ (step : ℕ) (f : ℕ → ℕ) (top least count first last : ℕ) (some
   ends =
       let x : count ≡ suc (count - 1) = omega arith in
       let z : 0 + (count - 1) ≡ count - 1 = omega arith in
-      ap (rises step f top least 0) x ∙ rises-ends step f top least 0 (count - 1) ∙ rw z
+      ap (rises step f top least 0) x ∙ rises_ends step f top least 0 (count - 1) ∙ rw z
 
   pub first_below : first < least → false ≡ rises step f top least 0 count
   first_below lt = sym (ends ∙ rw (← e, lt-leb least first lt))
 
-  pub last-above : least ≤ first → last ≡ f (count - 1) → top < last → false ≡ rises step f top least 0 count
-  last-above le q lt = sym (ends ∙ rw (← e, ← q, le-leb least first le, lt-leb last top lt))
+  pub last_above : least ≤ first → last ≡ f (count - 1) → top < last → false ≡ rises step f top least 0 count
+  last_above le q lt = sym (ends ∙ rw (← e, ← q, le-leb least first le, lt-leb last top lt))
 
-  pub by-falls : least ≤ first → last ≡ f (count - 1) → last ≤ top → {x : Bool} → x ≡ any (falls step f) 0 (count - 1) → not x ≡ rises step f top least 0 count
-  by-falls le q h r = sym (ends ∙ rw (← e, ← q, le-leb least first le, le-leb last top h, ← r))
+  pub by_falls : least ≤ first → last ≡ f (count - 1) → last ≤ top → {x : Bool} → x ≡ any (falls step f) 0 (count - 1) → not x ≡ rises step f top least 0 count
+  by_falls le q h r = sym (ends ∙ rw (← e, ← q, le-leb least first le, le-leb last top h, ← r))
 
 -- a step of 0 or 1 as a test without a sum
-pub falls-by : (step x y : ℕ) → step ≤ 1 → ltb y x || (eqb y x && eqb step 1) ≡ ltb y (x + step)
-falls-by step x y le = cases (ltb y x) (eqb y x) (eqb step 1) refl refl refl
+pub falls_by : (step x y : ℕ) → step ≤ 1 → ltb y x || (eqb y x && eqb step 1) ≡ ltb y (x + step)
+falls_by step x y le = cases (ltb y x) (eqb y x) (eqb step 1) refl refl refl
   where
     cases : (t u v : Bool) → ltb y x ≡ t → eqb y x ≡ u → eqb step 1 ≡ v → t || (u && v) ≡ ltb y (x + step)
     cases true u v p q r =

@@ -20,7 +20,7 @@ use Rattle.image.specs.Element.{valid, element_width, element_place, element_at,
 use Rattle.image.specs.Faults.{text_row_fault, fault19}
 use Rattle.image.specs.Utf8.{well_formed, has, tail}
 use Rattle.image.proofs.Bools.{and_fails}
-use Rattle.image.proofs.Numbers.{packed-from}
+use Rattle.image.proofs.Numbers.{packed_from}
 use Rattle.image.proofs.Ranges.{any_none, any_below}
 use Rattle.laws.specs.Accepted.{NoneBelow, OffsetsRise}
 use Rattle.laws.proofs.Accepted.{tables, after_14, after_17, after_18}
@@ -28,8 +28,8 @@ use Rattle.accepted.specs.Parts.{Viewed, ViewBytes}
 use Rattle.accepted.proofs.Views.{shown_short, shown_long}
 use Rattle.utf8.specs.Ascii.{high}
 use Rattle.utf8.specs.Cuts.{Cut}
-use Rattle.utf8.proofs.Plain.{plain-part}
-use Rattle.utf8.proofs.Cutting.{part-formed}
+use Rattle.utf8.proofs.Plain.{plain_part}
+use Rattle.utf8.proofs.Cutting.{part_formed}
 use Rattle.validate.specs.declared.texts.TextsAt.{TextsAt}
 use Rattle.validate.specs.declared.texts.Span.{Span}
 use Rattle.validate.specs.Numbers.{Holds}
@@ -38,13 +38,13 @@ use Rattle.validate.specs.Texts.{TextNode, TextsRead, TextSpan, EachBuffer, plai
 use Rattle.validate.proofs.Elements.{shift}
 use Rattle.validate.proofs.Lower.{text_offsets, views}
 
-view-layout : (code : ℕ) → eqb code 31 ≡ true → layout_of code ≡ View
+view_layout : (code : ℕ) → eqb code 31 ≡ true → layout_of code ≡ View
 unfolding layout_of entry_of entries
-view-layout code e = rw (eqb-true code 31 e)
+view_layout code e = rw (eqb-true code 31 e)
 
-offset-layout : (code : ℕ) → is_text code ≡ true → eqb code 31 ≡ false → layout_of code ≡ VariableSize
+offset_layout : (code : ℕ) → is_text code ≡ true → eqb code 31 ≡ false → layout_of code ≡ VariableSize
 unfolding layout_of entry_of entries
-offset-layout code text isnt = cases (eqb code 26) (eqb code 28) refl refl text
+offset_layout code text isnt = cases (eqb code 26) (eqb code 28) refl refl text
   where
     cases : (a b : Bool) → eqb code 26 ≡ a → eqb code 28 ≡ b → a || b || eqb code 31 ≡ true → layout_of code ≡ VariableSize
     cases true b ea eb h = rw (eqb-true code 26 ea)
@@ -52,32 +52,32 @@ offset-layout code text isnt = cases (eqb code 26) (eqb code 28) refl refl text
     cases false false ea eb h = absurd (false≢true (sym isnt ∙ h))
 
 -- nothing that is read wraps
-pub small-image : {s : List ℕ} {k : ℕ} → TextNode s k → length s ≤ 16777216
-small-image t = (tables t.below).size
+pub small_image : {s : List ℕ} {k : ℕ} → TextNode s k → length s ≤ 16777216
+small_image t = (tables t.below).size
 
-pub few-rows : {s : List ℕ} {k : ℕ} → TextNode s k → length_of s k ≤ 1073741824
+pub few_rows : {s : List ℕ} {k : ℕ} → TextNode s k → length_of s k ≤ 1073741824
 unfolding elements_of
-few-rows {s} {k} t = omega (arith, (after_14 t.below k t.node (omega arith)).small)
+few_rows {s} {k} t = omega (arith, (after_14 t.below k t.node (omega arith)).small)
 
 -- views
 module _ {s : List ℕ} {k : ℕ} (t : TextNode s k) (is : eqb (code_of s k) 31 ≡ true) where
-  views-inside : ViewsInside s k
-  views-inside = views t.below (omega arith) k t.node (view-layout _ is)
+  views_inside : ViewsInside s k
+  views_inside = views t.below (omega arith) k t.node (view_layout _ is)
 
 module _ {s : List ℕ} {k : ℕ} (t : TextNode s k) {at : TextsAt} (r : TextsRead s k at) (is : at.views ≡ true) (i : ℕ) where
   is_view : eqb (code_of s k) 31 ≡ true
   is_view = sym r.views ∙ is
 
-  view-place : at.place + i * 16 ≡ buffer_place s k 0 + (offset_of s k + i) * 16
-  view-place = rw (r.place, r.width, (views-inside t is_view).wide) (shift (buffer_place s k 0) (offset_of s k) i 16)
+  view_place_lem : at.place + i * 16 ≡ buffer_place s k 0 + (offset_of s k + i) * 16
+  view_place_lem = rw (r.place, r.width, (views_inside t is_view).wide) (shift (buffer_place s k 0) (offset_of s k) i 16)
 
-  pub view-fits : i < length_of s k → at.place + i * 16 + 16 ≤ length s
+  pub view_fits : i < length_of s k → at.place + i * 16 + 16 ≤ length s
   unfolding elements_of
-  view-fits lt = omega (arith, view-place, (views-inside t is_view).views)
+  view_fits lt = omega (arith, view_place_lem, (views_inside t is_view).views)
 
-  view-element : at.place + i * 16 ≡ element_place s k (offset_of s k + i)
+  view_element : at.place + i * 16 ≡ element_place s k (offset_of s k + i)
   unfolding element_place
-  view-element = rw (views-inside t is_view).wide view-place
+  view_element = rw (views_inside t is_view).wide view_place_lem
 
   module _ {len : ℕ} (el : len ≡ number_at 4 s (at.place + i * 16)) where
     pub viewed : i < length_of s k → valid s k i ≡ true → Viewed s k (at.place + i * 16) len
@@ -85,21 +85,21 @@ module _ {s : List ℕ} {k : ℕ} (t : TextNode s k) {at : TextsAt} (r : TextsRe
     viewed lt set = record {
       tables = tables t.below;
       buffers = after_14 t.below k t.node (omega arith);
-      fits = view-fits lt;
+      fits = view_fits lt;
       size = el;
-      view = rw view-element ((after_18 t.below k t.node (omega arith)).view (view-layout _ is_view) i lt set);
+      view = rw view_element ((after_18 t.below k t.node (omega arith)).view (view_layout _ is_view) i lt set);
     }
 
-    pub view-span : {p : ℕ} → ViewBytes s k (at.place + i * 16) len p → TextSpan s k i (record { place = p; len = len })
+    pub view_span : {p : ℕ} → ViewBytes s k (at.place + i * 16) len p → TextSpan s k i (record { place = p; len = len })
     unfolding text_at view_length
-    view-span b = record { text = rw (is_view, ← view-element, b.place, el); inside = b.inside }
+    view_span b = record { text = rw (is_view, ← view_element, b.place, el); inside = b.inside }
 
   -- a short view without a byte above 7F
-  pub plain-short : {len : ℕ} → len ≡ number_at 4 s (at.place + i * 16) → i < length_of s k → valid s k i ≡ true → len ≤ 12
+  pub plain_short : {len : ℕ} → len ≡ number_at 4 s (at.place + i * 16) → i < length_of s k → valid s k i ≡ true → len ≤ 12
       → any (high s) (at.place + i * 16) 16 ≡ false → well_formed (text_at s k (offset_of s k + i)) ≡ true
-  plain-short {len} el lt set short none =
-      ap well_formed (sym (view-span el (shown_short s k (at.place + i * 16) len (viewed el lt set) short)).text)
-      ∙ plain-part s (at.place + i * 16) 16 none (at.place + i * 16 + 4) len (omega arith) (omega arith)
+  plain_short {len} el lt set short none =
+      ap well_formed (sym (view_span el (shown_short s k (at.place + i * 16) len (viewed el lt set) short)).text)
+      ∙ plain_part s (at.place + i * 16) 16 none (at.place + i * 16 + 4) len (omega arith) (omega arith)
 
   -- a long view is a part of its data buffer
   module _ {len : ℕ} (el : len ≡ number_at 4 s (at.place + i * 16)) (lt : i < length_of s k) (set : valid s k i ≡ true) (long : 12 < len) {b : ℕ} (eb : b ≡ number_at 4 s (at.place + i * 16 + 8)) where
@@ -107,11 +107,11 @@ module _ {s : List ℕ} {k : ℕ} (t : TextNode s k) {at : TextsAt} (r : TextsRe
     unfolding view_buffer
     data_buffer = rw eb ((viewed el lt set).view.buffer (rw (← (viewed el lt set).size) long))
 
-    pub few-buffers : 1 + b < 2 ^ 16
-    few-buffers = omega (arith, data_buffer, (tables t.below).few-buffers, (after_14 t.below k t.node (omega arith)).ends)
+    pub few_buffers : 1 + b < 2 ^ 16
+    few_buffers = omega (arith, data_buffer, (tables t.below).few_buffers, (after_14 t.below k t.node (omega arith)).ends)
 
-    pub buffer-inside : buffer_place s k (1 + b) + buffer_length s k (1 + b) ≤ length s
-    buffer-inside = (after_14 t.below k t.node (omega arith)).inside (1 + b) data_buffer
+    pub buffer_inside : buffer_place s k (1 + b) + buffer_length s k (1 + b) ≤ length s
+    buffer_inside = (after_14 t.below k t.node (omega arith)).inside (1 + b) data_buffer
 
     within : {p : ℕ} → ViewBytes s k (at.place + i * 16) len p → (buffer_place s k (1 + b) ≤ p) × (p + len ≤ buffer_place s k (1 + b) + buffer_length s k (1 + b))
     unfolding view_data view_buffer
@@ -122,33 +122,33 @@ module _ {s : List ℕ} {k : ℕ} (t : TextNode s k) {at : TextsAt} (r : TextsRe
         (omega arith, omega arith)
 
     -- where the buffer has no byte above 7F
-    pub plain-long : EachBuffer (plain_buffer s k) (buffer_count s k) → well_formed (text_at s k (offset_of s k + i)) ≡ true
-    plain-long plain =
+    pub plain_long : EachBuffer (plain_buffer s k) (buffer_count s k) → well_formed (text_at s k (offset_of s k + i)) ≡ true
+    plain_long plain =
         let at-bytes = shown_long (viewed el lt set) long refl refl refl refl in
-        ap well_formed (sym (view-span el at-bytes).text)
-        ∙ plain-part s (buffer_place s k (1 + b)) (buffer_length s k (1 + b)) (plain.each (1 + b) (omega arith) data_buffer) _ len (within at-bytes).0 (within at-bytes).1
+        ap well_formed (sym (view_span el at-bytes).text)
+        ∙ plain_part s (buffer_place s k (1 + b)) (buffer_length s k (1 + b)) (plain.each (1 + b) (omega arith) data_buffer) _ len (within at-bytes).0 (within at-bytes).1
 
     -- where the buffer is well-formed and no tail stands at either end of the text, the text is well-formed
     pub cut_view : {p x y : ℕ} → ViewBytes s k (at.place + i * 16) len p → x ≡ buffer_place s k (1 + b) → y ≡ buffer_length s k (1 + b) → EachBuffer (formed_buffer s k) (buffer_count s k)
         → Cut s (x + y) p → Cut s (x + y) (p + len) → well_formed (text_at s k (offset_of s k + i)) ≡ true
     cut_view at-bytes ex ey formed start end =
-        ap well_formed (sym (view-span el at-bytes).text)
-        ∙ part-formed s (buffer_place s k (1 + b)) (buffer_length s k (1 + b)) _ len (within at-bytes).0 (within at-bytes).1 (rw (← ex, ← ey) start) (rw (← ex, ← ey) end)
+        ap well_formed (sym (view_span el at-bytes).text)
+        ∙ part_formed s (buffer_place s k (1 + b)) (buffer_length s k (1 + b)) _ len (within at-bytes).0 (within at-bytes).1 (rw (← ex, ← ey) start) (rw (← ex, ← ey) end)
         (formed.each (1 + b) (omega arith) data_buffer)
 
 -- data buffers one after the other
-pub buffer-none : (P : ℕ → Type 0) → EachBuffer P 1
-buffer-none P = record { each = λ m low lt. absurd (omega arith) }
+pub buffer_none : (P : ℕ → Type 0) → EachBuffer P 1
+buffer_none P = record { each = λ m low lt. absurd (omega arith) }
 
-pub buffer-more : {P : ℕ → Type 0} {j : ℕ} → EachBuffer P j → P j → EachBuffer P (j + 1)
-buffer-more {P} {j} f here = record { each = λ m low lt. cases m low (eq-or-lt_of_le {n = m} {m = j} (omega arith)) }
+pub buffer_more : {P : ℕ → Type 0} {j : ℕ} → EachBuffer P j → P j → EachBuffer P (j + 1)
+buffer_more {P} {j} f here = record { each = λ m low lt. cases m low (eq-or-lt_of_le {n = m} {m = j} (omega arith)) }
   where
     cases : (m : ℕ) → 1 ≤ m → (m ≡ j) ⊎ (m < j) → P m
     cases m low (inl e) = subst P (sym e) here
     cases m low (inr before) = f.each m low before
 
-pub buffer-all : {P : ℕ → Type 0} {n j : ℕ} → EachBuffer P j → n ≤ j → EachBuffer P n
-buffer-all f le = record { each = λ m low lt. f.each m low (omega arith) }
+pub buffer_all : {P : ℕ → Type 0} {n j : ℕ} → EachBuffer P j → n ≤ j → EachBuffer P n
+buffer_all f le = record { each = λ m low lt. f.each m low (omega arith) }
 
 pub plain_here : (s : List ℕ) (k j : ℕ) {p n : ℕ} {b : Bool} → p ≡ buffer_place s k j → n ≡ buffer_length s k j → b ≡ any (high s) p n → b ≡ false → plain_buffer s k j
 plain_here s k j ep en eb is = rw (← ep, ← en) (sym eb ∙ is)
@@ -163,7 +163,7 @@ data_inside {s} {k} {j} t lt ep en = rw (ep, en) ((after_14 t.below k t.node (om
 -- texts by offsets
 module _ {s : List ℕ} {k : ℕ} (t : TextNode s k) (isnt : eqb (code_of s k) 31 ≡ false) where
   by_offsets : layout_of (code_of s k) ≡ VariableSize
-  by_offsets = offset-layout _ t.text isnt
+  by_offsets = offset_layout _ t.text isnt
 
   offsets : Holds s k 0 (element_width s k) (elements_of s k + 1)
   offsets = text_offsets t.below (omega arith) k t.node by_offsets
@@ -171,25 +171,25 @@ module _ {s : List ℕ} {k : ℕ} (t : TextNode s k) (isnt : eqb (code_of s k) 3
   rising : OffsetsRise s k (buffer_length s k 1)
   rising = (after_17 t.below k t.node (omega arith)).variable_size by_offsets
 
-  start-inside : (i : ℕ) → i ≤ length_of s k → text_start s k i ≤ length s
+  start_inside : (i : ℕ) → i ≤ length_of s k → text_start s k i ≤ length s
   unfolding elements_of
-  start-inside i le =
+  start_inside i le =
       let two : buffer_count s k ≡ 2 = (after_14 t.below k t.node (omega arith)).exactly 2 (rw by_offsets) in
       let inside : buffer_place s k 1 + buffer_length s k 1 ≤ length s = (after_14 t.below k t.node (omega arith)).inside 1 (omega arith) in
       omega (arith, rising.within (offset_of s k + i) (omega arith))
 
-  rise-by : (i m : ℕ) → i + m ≤ length_of s k → text_start s k i ≤ text_start s k (i + m)
+  rise_by : (i m : ℕ) → i + m ≤ length_of s k → text_start s k i ≤ text_start s k (i + m)
   unfolding elements_of
-  rise-by i zero le = rw (add-zero i) (omega arith)
-  rise-by i (suc m) le =
+  rise_by i zero le = rw (add-zero i) (omega arith)
+  rise_by i (suc m) le =
       let next : offset_of s k + (i + suc m) ≡ suc (offset_of s k + (i + m)) = omega arith in
       let up : element_at s k (offset_of s k + (i + m)) ≤ element_at s k (offset_of s k + (i + suc m)) = rw next (rising.rise (offset_of s k + (i + m)) (omega arith)) in
-      omega (arith, rise-by i m (omega arith))
+      omega (arith, rise_by i m (omega arith))
 
   starts_rise : (i j : ℕ) → i ≤ j → j ≤ length_of s k → text_start s k i ≤ text_start s k j
   starts_rise i j le end =
       let e : i + (j - i) ≡ j = omega arith in
-      rw e at (rise-by i (j - i) (omega arith))
+      rw e at (rise_by i (j - i) (omega arith))
 
 -- the offset or view of row 0 lies inside
 pub rows_start : {s : List ℕ} {k : ℕ} → TextNode s k → buffer_place s k 0 + offset_of s k * element_width s k ≤ length s
@@ -197,40 +197,40 @@ unfolding elements_of
 rows_start {s} {k} t = cases (eqb (code_of s k) 31) refl
   where
     cases : (b : Bool) → eqb (code_of s k) 31 ≡ b → buffer_place s k 0 + offset_of s k * element_width s k ≤ length s
-    cases true is = rw (views-inside t is).wide (omega (arith, (views-inside t is).views))
-    cases false isnt = omega (arith, (packed-from (offset_of s k) 0 (omega arith) (offsets t isnt)).inside)
+    cases true is = rw (views_inside t is).wide (omega (arith, (views_inside t is).views))
+    cases false isnt = omega (arith, (packed_from (offset_of s k) 0 (omega arith) (offsets t isnt)).inside)
 
 module _ {s : List ℕ} {k : ℕ} (t : TextNode s k) {at : TextsAt} (r : TextsRead s k at) (isnt : at.views ≡ false) where
-  not-view : eqb (code_of s k) 31 ≡ false
-  not-view = sym r.views ∙ isnt
+  not_view : eqb (code_of s k) 31 ≡ false
+  not_view = sym r.views ∙ isnt
 
-  pub offset-inside : (i : ℕ) → i ≤ length_of s k → Packed (length s) at.place at.width (i + 1)
+  pub offset_inside : (i : ℕ) → i ≤ length_of s k → Packed (length s) at.place at.width (i + 1)
   unfolding elements_of
-  offset-inside i le = rw (r.place, r.width) (packed-from (offset_of s k) (i + 1) (omega arith) (offsets t not-view))
+  offset_inside i le = rw (r.place, r.width) (packed_from (offset_of s k) (i + 1) (omega arith) (offsets t not_view))
 
   offset_read : (i : ℕ) {x : ℕ} → x ≡ number_at at.width s (at.place + i * at.width) → x ≡ element_at s k (offset_of s k + i)
   unfolding element_at element_place
   offset_read i e = e ∙ rw (r.place, r.width, shift (buffer_place s k 0) (offset_of s k) i (element_width s k))
 
-  pub start-read : (i : ℕ) {x : ℕ} → x ≡ number_at at.width s (at.place + i * at.width) → at.text + x ≡ text_start s k i
-  start-read i e = rw (r.text, offset_read i e)
+  pub start_read : (i : ℕ) {x : ℕ} → x ≡ number_at at.width s (at.place + i * at.width) → at.text + x ≡ text_start s k i
+  start_read i e = rw (r.text, offset_read i e)
 
   -- the bytes from one text's start up to another's
   module _ {i j x y : ℕ} (le : i ≤ j) (end : j ≤ length_of s k) (ex : x ≡ number_at at.width s (at.place + i * at.width)) (ey : y ≡ number_at at.width s (at.place + j * at.width)) where
     pub starts_apart : x ≤ y
-    starts_apart = omega (arith, start-read i ex, start-read j ey, starts_rise t not-view i j le end)
+    starts_apart = omega (arith, start_read i ex, start_read j ey, starts_rise t not_view i j le end)
 
     pub starts_inside : at.text + y ≤ length s
-    starts_inside = omega (arith, start-read j ey, start-inside t not-view j end)
+    starts_inside = omega (arith, start_read j ey, start_inside t not_view j end)
 
-  pub offset-span : {i x y : ℕ} → i < length_of s k → x ≡ number_at at.width s (at.place + i * at.width) → y ≡ number_at at.width s (at.place + (i + 1) * at.width)
+  pub offset_span : {i x y : ℕ} → i < length_of s k → x ≡ number_at at.width s (at.place + i * at.width) → y ≡ number_at at.width s (at.place + (i + 1) * at.width)
       → TextSpan s k i (record { place = at.text + x; len = y - x })
   unfolding text_at
-  offset-span {i} {x} {y} lt ex ey =
+  offset_span {i} {x} {y} lt ex ey =
       let next : offset_of s k + (i + 1) ≡ suc (offset_of s k + i) = omega arith in
       let last : y ≡ element_at s k (suc (offset_of s k + i)) = rw next at (offset_read (i + 1) ey) in
       record {
-        text = rw (not-view, r.text, offset_read i ex, last);
+        text = rw (not_view, r.text, offset_read i ex, last);
         inside = omega (arith, starts_apart {i = i} {j = i + 1} (omega arith) (omega arith) ex ey, starts_inside {i = i} {j = i + 1} (omega arith) (omega arith) ex ey);
       }
 
@@ -239,33 +239,33 @@ module _ {s : List ℕ} {k : ℕ} (t : TextNode s k) {at : TextsAt} (r : TextsRe
   stretch {n} {x} {y} en ex ey =
       let le : x ≤ y = starts_apart {i = 0} {j = n} (omega arith) (omega arith) ex ey in
       record {
-        start = start-read 0 ex;
-        end = omega (arith, le, start-read n ey, ap (text_start s k) en);
+        start = start_read 0 ex;
+        end = omega (arith, le, start_read n ey, ap (text_start s k) en);
         inside = omega (arith, le, starts_inside {i = 0} {j = n} (omega arith) (omega arith) ex ey);
       }
 
 -- A look at all texts together.
 module _ {s : List ℕ} {k : ℕ} (t : TextNode s k) {at : TextsAt} (r : TextsRead s k at) (isnt : at.views ≡ false) {a : Span} (all : Stretch s k a) where
-  formed-row : (i : ℕ) → well_formed (bytes_at s (text_start s k i) (text_start s k (i + 1) - text_start s k i)) ≡ true → text_row_fault s k i ≡ false
+  formed_row : (i : ℕ) → well_formed (bytes_at s (text_start s k i) (text_start s k (i + 1) - text_start s k i)) ≡ true → text_row_fault s k i ≡ false
   unfolding text_row_fault text_at
-  formed-row i h =
+  formed_row i h =
       let next : suc (offset_of s k + i) ≡ offset_of s k + (i + 1) = omega arith in
       let len : element_at s k (offset_of s k + (i + 1)) - element_at s k (offset_of s k + i) ≡ text_start s k (i + 1) - text_start s k i = omega arith in
-      rw (not-view t r isnt, next, len, h) (and_false (valid s k i))
+      rw (not_view t r isnt, next, len, h) (and_false (valid s k i))
 
   module _ (i : ℕ) (lt : i < length_of s k) where
     up : text_start s k i ≤ text_start s k (i + 1)
-    up = starts_rise t (not-view t r isnt) i (i + 1) (omega arith) (omega arith)
+    up = starts_rise t (not_view t r isnt) i (i + 1) (omega arith) (omega arith)
 
     from : a.place ≤ text_start s k i
-    from = omega (arith, all.start, starts_rise t (not-view t r isnt) 0 i (omega arith) (omega arith))
+    from = omega (arith, all.start, starts_rise t (not_view t r isnt) 0 i (omega arith) (omega arith))
 
     upto : text_start s k i + (text_start s k (i + 1) - text_start s k i) ≤ a.place + a.len
-    upto = omega (arith, up, all.end, starts_rise t (not-view t r isnt) (i + 1) (length_of s k) (omega arith) (omega arith))
+    upto = omega (arith, up, all.end, starts_rise t (not_view t r isnt) (i + 1) (length_of s k) (omega arith) (omega arith))
 
   pub plain_together : any (high s) a.place a.len ≡ false → any (text_row_fault s k) 0 (length_of s k) ≡ false
   plain_together e =
-      any_none (text_row_fault s k) 0 (length_of s k) (λ i low lt. formed-row i (plain-part s a.place a.len e (text_start s k i) _ (from i (omega arith)) (upto i (omega arith))))
+      any_none (text_row_fault s k) 0 (length_of s k) (λ i low lt. formed_row i (plain_part s a.place a.len e (text_start s k i) _ (from i (omega arith)) (upto i (omega arith))))
 
   module _ (none : any (splits s k (a.place + a.len)) 0 (length_of s k) ≡ false) where
     cut_at_lem : (j : ℕ) → j ≤ length_of s k → Cut s (a.place + a.len) (text_start s k j)
@@ -277,12 +277,12 @@ module _ {s : List ℕ} {k : ℕ} (t : TextNode s k) {at : TextsAt} (r : TextsRe
         cases (inr before) lt = and_fails (ltb (text_start s k j) (a.place + a.len)) _ (any_below (splits s k (a.place + a.len)) _ none j before) (lt-ltb _ _ lt)
 
     pub cut_together : well_formed (bytes_at s a.place a.len) ≡ true → any (text_row_fault s k) 0 (length_of s k) ≡ false
-    cut_together e = any_none (text_row_fault s k) 0 (length_of s k) (λ i low lt. formed-row i (row i (omega arith)))
+    cut_together e = any_none (text_row_fault s k) 0 (length_of s k) (λ i low lt. formed_row i (row i (omega arith)))
       where
         row : (i : ℕ) → i < length_of s k → well_formed (bytes_at s (text_start s k i) (text_start s k (i + 1) - text_start s k i)) ≡ true
         row i lt =
             let end : text_start s k i + (text_start s k (i + 1) - text_start s k i) ≡ text_start s k (i + 1) = omega (arith, up i lt) in
-            part-formed s a.place a.len (text_start s k i) _ (from i lt) (upto i lt) (cut_at_lem i (omega arith)) (rw end (cut_at_lem (i + 1) (omega arith))) e
+            part_formed s a.place a.len (text_start s k i) _ (from i lt) (upto i lt) (cut_at_lem i (omega arith)) (rw end (cut_at_lem (i + 1) (omega arith))) e
 
 -- the text of row i starts with a tail
 module _ (s : List ℕ) (k end i : ℕ) {x : ℕ} (e : x ≡ text_start s k i) where
@@ -295,26 +295,26 @@ module _ (s : List ℕ) (k end i : ℕ) {x : ℕ} (e : x ≡ text_start s k i) w
   split lt eb = rw (zero-add i, ← e, lt-ltb x end lt) (sym eb)
 
 -- rows
-pub null-row : (s : List ℕ) (k i : ℕ) (v : Bool) → v ≡ valid s k i → v ≡ false → text_row_fault s k (0 + i) ≡ false
+pub null_row : (s : List ℕ) (k i : ℕ) (v : Bool) → v ≡ valid s k i → v ≡ false → text_row_fault s k (0 + i) ≡ false
 unfolding text_row_fault
-null-row s k i v e null = rw (zero-add, ← e, null)
+null_row s k i v e null = rw (zero-add, ← e, null)
 
-pub text-row : (s : List ℕ) (k i : ℕ) (v b : Bool) → v ≡ valid s k i → v ≡ true → b ≡ well_formed (text_at s k (offset_of s k + i)) → text_row_fault s k (0 + i) ≡ not b
+pub text_row : (s : List ℕ) (k i : ℕ) (v b : Bool) → v ≡ valid s k i → v ≡ true → b ≡ well_formed (text_at s k (offset_of s k + i)) → text_row_fault s k (0 + i) ≡ not b
 unfolding text_row_fault
-text-row s k i v b e full f = rw (zero-add, ← e, full, ← f)
+text_row s k i v b e full f = rw (zero-add, ← e, full, ← f)
 
 -- the whole node
 module _ (s : List ℕ) (k : ℕ) {code : ℕ} {b : Bool} (e : code ≡ code_of s k) (f : b ≡ is_text code) where
-  is-text : b ≡ is_text (code_of s k)
-  is-text = f ∙ ap is_text e
+  is_text_lem : b ≡ is_text (code_of s k)
+  is_text_lem = f ∙ ap is_text e
 
   pub no_text : b ≡ false → false ≡ fault19 s k
   unfolding fault19
-  no_text g = sym (ap (λ (x : Bool). x && any (text_row_fault s k) 0 (length_of s k)) (sym is-text ∙ g))
+  no_text g = sym (ap (λ (x : Bool). x && any (text_row_fault s k) 0 (length_of s k)) (sym is_text_lem ∙ g))
 
-  pub text-node : NoneBelow 19 s → k < node_count s → b ≡ true → TextNode s k
-  text-node below node g = record { below = below; node = node; text = sym is-text ∙ g }
+  pub text_node : NoneBelow 19 s → k < node_count s → b ≡ true → TextNode s k
+  text_node below node g = record { below = below; node = node; text = sym is_text_lem ∙ g }
 
-pub text-fault : {s : List ℕ} {k : ℕ} {x : Bool} → TextNode s k → x ≡ any (text_row_fault s k) 0 (length_of s k) → x ≡ fault19 s k
+pub text_fault : {s : List ℕ} {k : ℕ} {x : Bool} → TextNode s k → x ≡ any (text_row_fault s k) 0 (length_of s k) → x ≡ fault19 s k
 unfolding fault19
-text-fault {s} {k} t g = g ∙ sym (ap (λ (x : Bool). x && any (text_row_fault s k) 0 (length_of s k)) t.text)
+text_fault {s} {k} t g = g ∙ sym (ap (λ (x : Bool). x && any (text_row_fault s k) 0 (length_of s k)) t.text)

@@ -14,7 +14,7 @@ use Rattle.image.specs.Faults.{id_unknown}
 
 -- what was read of union k
 pub record Union (s : List ℕ) (k : ℕ) (table : List ℕ) (end ids from : ℕ) : Type 0 where
-  pub by-id : ById s k table
+  pub by_id : ById s k table
   pub ends : end ≡ first_child s k + child_count s k
   pub place : ids ≡ buffer_place s k 0
   pub start : from ≡ offset_of s k
@@ -29,7 +29,7 @@ module _ {s : List ℕ} {k : ℕ} {table : List ℕ} {end ids from : ℕ} (u : U
 
   -- the child that row i names
   pub named : get_or table id 0 ≡ child_with_id s k (type_id_at s k (offset_of s k + (0 + i)))
-  named = u.by-id.entry id read.small ∙ rw id_at
+  named = u.by_id.entry id read.small ∙ rw id_at
 
   -- row i names no child exactly where the table holds the end
   pub unnamed : id_unknown s k (offset_of s k + (0 + i)) ≡ leb end (get_or table id 0)

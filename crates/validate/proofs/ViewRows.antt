@@ -12,26 +12,26 @@ use Rattle.image.specs.Reads.{Read}
 use Rattle.image.specs.Record.{entry_size, entry_place, first_buffer, buffer_count, length_of, offset_of, elements_of, buffer_place, buffer_length}
 use Rattle.image.specs.Element.{valid, element_place}
 use Rattle.image.specs.Faults.{view_fault, view_row_fault}
-use Rattle.image.proofs.Entries.{entry-from}
+use Rattle.image.proofs.Entries.{entry_from_lem}
 use Rattle.validate.specs.Views.{ViewsInside, Entries, ViewAt}
 
 -- the entries and their number, as they are read
-pub entries-read : {s : List ℕ} {k entries count : ℕ} → ViewsInside s k → Read (entry_place s (first_buffer s k + 0)) 40 entries → Read (buffer_count s k) 16 count → Entries s k entries count
-entries-read r p q = record { inside = r; start = rw add-zero at p; number = q }
+pub entries_read : {s : List ℕ} {k entries count : ℕ} → ViewsInside s k → Read (entry_place s (first_buffer s k + 0)) 40 entries → Read (buffer_count s k) 16 count → Entries s k entries count
+entries_read r p q = record { inside = r; start = rw add-zero at p; number = q }
 
 -- where the place and the length of buffer j stand in the entries
 module _ {s : List ℕ} {k entries count : ℕ} (r : Entries s k entries count) (j : ℕ) where
   pub place_at : buffer_place s k j ≡ number_at 4 s (entries + j * entry_size)
   unfolding buffer_place
-  place_at = rw (entry-from s k j r.start.value)
+  place_at = rw (entry_from_lem s k j r.start.value)
 
   pub length_at : buffer_length s k j ≡ number_at 4 s (entries + j * entry_size + 4)
   unfolding buffer_length
-  length_at = rw (entry-from s k j r.start.value)
+  length_at = rw (entry_from_lem s k j r.start.value)
 
   -- they lie inside
-  pub entry-inside : j < count → entries + j * entry_size + entry_size ≤ length s
-  entry-inside lt = omega (arith, r.inside.entries, r.start.value, r.number.value)
+  pub entry_inside : j < count → entries + j * entry_size + entry_size ≤ length s
+  entry_inside lt = omega (arith, r.inside.entries, r.start.value, r.number.value)
 
   -- the first bytes of a long view's data lie inside
   pub data_inside : (at len : ℕ) {place size : ℕ} → j < count → 12 < len → place ≡ number_at 4 s (entries + j * entry_size) → size ≡ number_at 4 s (entries + j * entry_size + 4) → at + len ≤ size → place + at + 4 ≤ length s
@@ -40,16 +40,16 @@ module _ {s : List ℕ} {k entries count : ℕ} (r : Entries s k entries count) 
       let z : size ≡ buffer_length s k j = rw length_at es in
       omega (arith, r.inside.buffers j (omega (arith, r.number.value)))
 
-pub null-row : (s : List ℕ) (k i : ℕ) (v : Bool) → v ≡ valid s k i → v ≡ false → view_row_fault s k (0 + i) ≡ false
+pub null_row : (s : List ℕ) (k i : ℕ) (v : Bool) → v ≡ valid s k i → v ≡ false → view_row_fault s k (0 + i) ≡ false
 unfolding view_row_fault
-null-row s k i v e null = rw (zero-add, ← e, null)
+null_row s k i v e null = rw (zero-add, ← e, null)
 
 -- the view of row i, 16 bytes after the one before it
 module _ {s : List ℕ} {k place o entries count : ℕ} (r : Entries s k entries count) (p : Read (buffer_place s k 0) 32 place) (q : Read (offset_of s k) 32 o) (i : ℕ) {view : ℕ} (e : view ≡ place + o * 16 + i * 16) where
   -- a row that is not null is its view's
-  pub view-row : (v b : Bool) → v ≡ valid s k i → v ≡ true → b ≡ view_fault s k view → view_row_fault s k (0 + i) ≡ b
+  pub view_row_lem : (v b : Bool) → v ≡ valid s k i → v ≡ true → b ≡ view_fault s k view → view_row_fault s k (0 + i) ≡ b
   unfolding view_row_fault element_place
-  view-row v b full is f =
+  view_row_lem v b full is f =
       let at : buffer_place s k 0 + (offset_of s k + i) * 16 ≡ view = omega (arith, e, p.value, q.value) in
       rw (zero-add, ← full, is, r.inside.wide, at) (sym f)
 

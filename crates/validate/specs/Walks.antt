@@ -26,6 +26,6 @@ pub record Walks (s : List ℕ) (k : ℕ) (w : Walk) : Type 0 where
   pub children : Sum (child_start s k) k w.children
   pub buffers : Sum (buffer_start s k) k w.buffers
   pub parent : Parents s k w.parent
-  pub all-children : w.all_children ≡ child_start s (node_count s)
-  pub all-buffers : w.all_buffers ≡ buffer_start s (node_count s)
+  pub all_children : w.all_children ≡ child_start s (node_count s)
+  pub all_buffers : w.all_buffers ≡ buffer_start s (node_count s)
   pub shallow : w.shallow ≡ level_end s max_depth

@@ -93,13 +93,13 @@ module _ (p q : ℕ → ℕ → Bool) (f g : ℕ → ℕ) (P Q : ℕ) where
           rw (u, v) t
 
 -- equal spans in turn make equally long blocks
-pub equal-spans : (f g : ℕ → ℕ) (i j n : ℕ) → Rise f i n → Rise g j n → ((k : ℕ) → k < n → f (suc (i + k)) - f (i + k) ≡ g (suc (j + k)) - g (j + k))
+pub equal_spans : (f g : ℕ → ℕ) (i j n : ℕ) → Rise f i n → Rise g j n → ((k : ℕ) → k < n → f (suc (i + k)) - f (i + k) ≡ g (suc (j + k)) - g (j + k))
     → g j + (f (i + n) - f i) ≡ g (j + n)
-equal-spans f g i j zero rf rg same =
+equal_spans f g i j zero rf rg same =
     let e : i + 0 ≡ i = omega arith in
     let d : j + 0 ≡ j = omega arith in
     rw (e, d) (omega arith)
-equal-spans f g i j (suc n) rf rg same =
+equal_spans f g i j (suc n) rf rg same =
     let x : i + 0 ≡ i = omega arith in
     let y : j + 0 ≡ j = omega arith in
     let span : f (suc i) - f i ≡ g (suc j) - g j = rw (x, y) at (same 0 (omega arith)) in
@@ -109,7 +109,7 @@ equal-spans f g i j (suc n) rf rg same =
     let e : i + suc n ≡ suc i + n = omega arith in
     let d : j + suc n ≡ suc j + n = omega arith in
     let rest : g (suc j) + (f (suc i + n) - f (suc i)) ≡ g (suc j + n) =
-    equal-spans f g (suc i) (suc j) n (λ h le lt. rf h (omega arith) (omega arith)) (λ h le lt. rg h (omega arith) (omega arith))
+    equal_spans f g (suc i) (suc j) n (λ h le lt. rf h (omega arith) (omega arith)) (λ h le lt. rg h (omega arith) (omega arith))
     (λ k lt.
     let u : suc i + k ≡ i + suc k = omega arith in
     let v : suc j + k ≡ j + suc k = omega arith in

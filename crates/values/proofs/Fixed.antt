@@ -52,17 +52,17 @@ module _ (a b : List ℕ) (k l : ℕ) (same : element_width a k ≡ element_widt
       ∙ by_rows (fixed_row a k) (fixed_row b l) i j n)
 
 -- parts of two fixed-width nodes that are alike
-pub parts-fixed : (a b : List ℕ) (k l i j n d : ℕ) → Parts a b k l i j n d → layout_of (code_of a k) ≡ FixedWidth → Fixed a b k l i j n
-parts-fixed a b k l i j n d r fixed = record {
+pub parts_fixed : (a b : List ℕ) (k l i j n d : ℕ) → Parts a b k l i j n d → layout_of (code_of a k) ≡ FixedWidth → Fixed a b k l i j n
+parts_fixed a b k l i j n d r fixed = record {
   left = record { image = r.left.image; node = r.left.node; fixed = fixed; high = r.left.high };
   right = record { image = r.right.image; node = r.right.node; fixed = sym (ap layout_of r.alike.0.code) ∙ fixed; high = r.right.high };
   width = same_width a b k l r.alike.0.code r.alike.0.p1;
 }
 
 -- the elements that rows read
-pub masked-fixed : {a b : List ℕ} {k l i j n : ℕ} → Masked FixedWidth a b k l i j n → Fixed a b k l (offset_of a k + i) (offset_of b l + j) n
+pub masked_fixed : {a b : List ℕ} {k l i j n : ℕ} → Masked FixedWidth a b k l i j n → Fixed a b k l (offset_of a k + i) (offset_of b l + j) n
 unfolding elements_of
-masked-fixed {a} {b} {k} {l} r = record {
+masked_fixed {a} {b} {k} {l} r = record {
   left = record { image = r.left.image; node = r.left.node; fixed = r.layout; high = omega (arith, r.left.rows) };
   right = record { image = r.right.image; node = r.right.node; fixed = sym (ap layout_of r.code) ∙ r.layout; high = omega (arith, r.right.rows) };
   width = same_width a b k l r.code r.p1;

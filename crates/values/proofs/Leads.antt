@@ -10,12 +10,12 @@ use lib.Dec.{eqb}
 use borrow.Author.Tests.{eq-eqb, ne_eqb}
 use Rattle.image.specs.Ranges.{every}
 use Rattle.image.proofs.Bools.{and_left, and_right, and_true}
-use Rattle.image.proofs.Ranges.{every_at, every-by}
+use Rattle.image.proofs.Ranges.{every_at, every_by}
 use Rattle.values.specs.Bits.{Leading}
 
-pub every-none : (p : ℕ → Bool) (i : ℕ) → every p i 0 ≡ true
+pub every_none : (p : ℕ → Bool) (i : ℕ) → every p i 0 ≡ true
 unfolding every
-every-none p i = refl
+every_none p i = refl
 
 -- m more numbers
 pub every_jump : (p : ℕ → Bool) (i k m : ℕ) → every p i k ≡ true → every p (i + k) m ≡ true → every p i (k + m) ≡ true
@@ -55,7 +55,7 @@ module _ (p : ℕ → Bool) (i : ℕ) where
         whole : r ≡ n → eqb r n ≡ every p i n
         whole e =
             eq-eqb r n e
-            ∙ sym (every-by p i n (λ k le lt.
+            ∙ sym (every_by p i n (λ k le lt.
             let h : i + (k - i) ≡ k = omega arith in
             rw h at (l.holds (k - i) (omega arith))))
 

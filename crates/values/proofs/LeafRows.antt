@@ -22,10 +22,10 @@ use Rattle.values.specs.Pairs.{range_equal}
 use Rattle.accepted.specs.Parts.{Side, Part, Elements}
 use Rattle.values.specs.Parts.{Sides, Leaf, LeavesAt}
 use Rattle.accepted.proofs.Fixed.{spanned}
-use Rattle.accepted.proofs.Nodes.{side-small}
+use Rattle.accepted.proofs.Nodes.{side_small}
 use Rattle.image.proofs.NameBytes.{other_length}
 use Rattle.values.proofs.Steps.{and_true}
-use Rattle.accepted.proofs.Texts.{text-narrow, text_offsets, text-inside}
+use Rattle.accepted.proofs.Texts.{text_narrow, text_offsets, text_inside}
 use Rattle.values.proofs.Texts.{text_up}
 
 -- the elements of some rows
@@ -34,28 +34,28 @@ unfolding elements_of
 side_elements r e = record { image = r.image; node = r.node; fixed = e; high = omega (arith, r.rows) }
 
 -- without a bitmap no row is null
-whole-valid : (s : List ℕ) (k i : ℕ) → has_bitmap s k ≡ false → valid s k i ≡ true
+whole_valid : (s : List ℕ) (k i : ℕ) → has_bitmap s k ≡ false → valid s k i ≡ true
 unfolding valid
-whole-valid s k i e = rw e
+whole_valid s k i e = rw e
 
 -- the elements of some rows of a node without a bitmap
-side-part : {s : List ℕ} {k i n : ℕ} → Side s k i n → has_bitmap s k ≡ false → Part s k (offset_of s k + i) n
+side_part : {s : List ℕ} {k i n : ℕ} → Side s k i n → has_bitmap s k ≡ false → Part s k (offset_of s k + i) n
 unfolding elements_of
-side-part {s} {k} r whole = record { image = r.image; node = r.node; low = omega arith; high = omega (arith, r.rows); not_null = λ h lo hi. whole-valid s k h whole }
+side_part {s} {k} r whole = record { image = r.image; node = r.node; low = omega arith; high = omega (arith, r.rows); not_null = λ h lo hi. whole_valid s k h whole }
 
 -- the element of row 0 starts inside, for each of the two layouts
 module _ {s : List ℕ} {k : ℕ} (r : Side s k 0 0) where
-  pub fixed-first : layout_of (code_of s k) ≡ FixedWidth → element_place s k (offset_of s k) ≤ length s
+  pub fixed_first : layout_of (code_of s k) ≡ FixedWidth → element_place s k (offset_of s k) ≤ length s
   unfolding element_place
-  fixed-first e =
+  fixed_first e =
       let z : offset_of s k + 0 ≡ offset_of s k = omega arith in
       let inside = (spanned s k (offset_of s k + 0) 0 (element_width s k) (buffer_place s k 0) (side_elements r e) refl refl).inside in
       omega (arith, rw z at inside)
 
-  pub text-first : layout_of (code_of s k) ≡ VariableSize → has_bitmap s k ≡ false → element_place s k (offset_of s k) ≤ length s
-  text-first text whole =
+  pub text_first : layout_of (code_of s k) ≡ VariableSize → has_bitmap s k ≡ false → element_place s k (offset_of s k) ≤ length s
+  text_first text whole =
       let z : offset_of s k + 0 ≡ offset_of s k = omega arith in
-      omega (arith, rw z at (text_offsets s k (offset_of s k + 0) 0 (side-part r whole) text))
+      omega (arith, rw z at (text_offsets s k (offset_of s k + 0) 0 (side_part r whole) text))
 
 -- where it starts, as it is read
 pub first_read : (s : List ℕ) (k : ℕ) {w p o : ℕ} → w ≡ element_width s k → Read (buffer_place s k 0) 32 p → Read (offset_of s k) 32 o → p + o * w ≡ element_place s k (offset_of s k)
@@ -69,8 +69,8 @@ no_leaves a b k l v f t = record {
   texts = λ e. absurd (false≢true (sym t ∙ e));
   left = λ e. absurd (false≢true (sym neither ∙ e));
   right = λ e. absurd (false≢true (sym neither ∙ e));
-  left-text = λ e. absurd (false≢true (sym t ∙ e));
-  right-text = λ e. absurd (false≢true (sym t ∙ e));
+  left_text = λ e. absurd (false≢true (sym t ∙ e));
+  right_text = λ e. absurd (false≢true (sym t ∙ e));
 }
   where
     neither : v.fixed || v.texts ≡ false
@@ -84,8 +84,8 @@ module _ {a b : List ℕ} {k l : ℕ} {v : Leaves} (left : Leaf a k v.width v.le
     texts = λ is. absurd (false≢true (sym other ∙ is));
     left = λ is. left;
     right = λ is. right;
-    left-text = λ is. absurd (false≢true (sym other ∙ is));
-    right-text = λ is. absurd (false≢true (sym other ∙ is));
+    left_text = λ is. absurd (false≢true (sym other ∙ is));
+    right_text = λ is. absurd (false≢true (sym other ∙ is));
   }
 
   pub text_leaves : v.fixed ≡ false → layout_of (code_of a k) ≡ VariableSize → v.left_text ≡ buffer_place a k 1 → v.right_text ≡ buffer_place b l 1 → LeavesAt a b k l v
@@ -94,8 +94,8 @@ module _ {a b : List ℕ} {k l : ℕ} {v : Leaves} (left : Leaf a k v.width v.le
     texts = λ is. e;
     left = λ is. left;
     right = λ is. right;
-    left-text = λ is. t;
-    right-text = λ is. u;
+    left_text = λ is. t;
+    right_text = λ is. u;
   }
 
 -- nodes of one code, as it is read, have one layout
@@ -104,26 +104,26 @@ other_layout ec ed same e = ap layout_of (sym ed.value ∙ sym same ∙ ec.value
 
 module _ {s : List ℕ} {k w p : ℕ} (f : Leaf s k w p) where
   -- where the element of row i starts
-  leaf-place : (i : ℕ) → p + i * w ≡ element_place s k (offset_of s k + i)
+  leaf_place : (i : ℕ) → p + i * w ≡ element_place s k (offset_of s k + i)
   unfolding element_place
-  leaf-place i =
+  leaf_place i =
       let e : (offset_of s k + i) * element_width s k ≡ offset_of s k * element_width s k + i * element_width s k = add-mul (offset_of s k) i (element_width s k) in
       rw (f.place, f.width) (omega arith)
 
   -- a row is its value
-  leaf-row : (d i : ℕ) {x : Layout} → layout_of (code_of s k) ≡ x → row_at (suc d) s k i ≡ value_at x (row_at d s) s k (offset_of s k + i)
+  leaf_row : (d i : ℕ) {x : Layout} → layout_of (code_of s k) ≡ x → row_at (suc d) s k i ≡ value_at x (row_at d s) s k (offset_of s k + i)
   unfolding row_at
-  leaf-row d i e = rw (whole-valid s k i f.whole, e)
+  leaf_row d i e = rw (whole_valid s k i f.whole, e)
 
   -- the offset of row i, as it is read
-  leaf-offset : (i : ℕ) {bits x : ℕ} → Read (number_at w s (p + i * w)) bits x → x ≡ element_at s k (offset_of s k + i)
+  leaf_offset : (i : ℕ) {bits x : ℕ} → Read (number_at w s (p + i * w)) bits x → x ≡ element_at s k (offset_of s k + i)
   unfolding element_at
-  leaf-offset i e = e.value ∙ rw (leaf-place i, f.width)
+  leaf_offset i e = e.value ∙ rw (leaf_place i, f.width)
 
   -- the bytes of a fixed-width row
-  leaf-fixed : (i : ℕ) → fixed_row s k (offset_of s k + i) ≡ fixed (bytes_at s (p + i * w) w)
+  leaf_fixed : (i : ℕ) → fixed_row s k (offset_of s k + i) ≡ fixed (bytes_at s (p + i * w) w)
   unfolding fixed_row
-  leaf-fixed i = rw (leaf-place i, f.width)
+  leaf_fixed i = rw (leaf_place i, f.width)
 
 -- the offsets x and y of a text, as they are read, and the texts' place t
 pub record TextRead (s : List ℕ) (k j t x y : ℕ) : Type 0 where
@@ -133,99 +133,99 @@ pub record TextRead (s : List ℕ) (k j t x y : ℕ) : Type 0 where
   pub up : x ≤ y
   pub inside : t + y ≤ length s
 
-text-value : {s : List ℕ} {k j t x y : ℕ} → TextRead s k j t x y → variable_row s k j ≡ sized (bytes_at s (t + x) (y - x))
+text_value_lem : {s : List ℕ} {k j t x y : ℕ} → TextRead s k j t x y → variable_row s k j ≡ sized (bytes_at s (t + x) (y - x))
 unfolding variable_row
-text-value f = rw (f.place, f.from, f.to)
+text_value_lem f = rw (f.place, f.from, f.to)
 
 module _ {s : List ℕ} {k i w p : ℕ} (r : Side s k i 1) (f : Leaf s k w p) where
   -- a fixed-width row lies inside
-  fixed-inside : layout_of (code_of s k) ≡ FixedWidth → p + i * w + w ≤ length s
+  fixed_inside : layout_of (code_of s k) ≡ FixedWidth → p + i * w + w ≤ length s
   unfolding element_place
-  fixed-inside e =
+  fixed_inside e =
       let inside = (spanned s k (offset_of s k + i) 1 (element_width s k) (buffer_place s k 0) (side_elements r e) refl refl).inside in
-      rw (leaf-place f i, f.width) (omega (arith, inside))
+      rw (leaf_place f i, f.width) (omega (arith, inside))
 
   module _ (text : layout_of (code_of s k) ≡ VariableSize) where
     part : Part s k (offset_of s k + i) 1
-    part = side-part r f.whole
+    part = side_part r f.whole
 
     -- its offsets are read inside, and lie inside the text
-    text-nth : (h : ℕ) → h ≤ i + 1 → Nth p w h
-    text-nth h le = record {
-      near = omega (arith, leaf-place f i, text_offsets _ _ _ _ part text, r.image.tables.size);
-      narrow = rw f.width (text-narrow _ _ _ _ part text);
-      few = omega (arith, side-small _ _ _ _ r);
+    text_nth : (h : ℕ) → h ≤ i + 1 → Nth p w h
+    text_nth h le = record {
+      near = omega (arith, leaf_place f i, text_offsets _ _ _ _ part text, r.image.tables.size);
+      narrow = rw f.width (text_narrow _ _ _ _ part text);
+      few = omega (arith, side_small _ _ _ _ r);
     }
 
-    text-read : {t m n x y : ℕ} → t ≡ buffer_place s k 1 → Read (number_at w s (p + i * w)) m x → Read (number_at w s (p + (i + 1) * w)) n y → TextRead s k (offset_of s k + i) t x y
-    text-read {t} {m} {n} {x} {y} et ex ey =
+    text_read : {t m n x y : ℕ} → t ≡ buffer_place s k 1 → Read (number_at w s (p + i * w)) m x → Read (number_at w s (p + (i + 1) * w)) n y → TextRead s k (offset_of s k + i) t x y
+    text_read {t} {m} {n} {x} {y} et ex ey =
         let u : offset_of s k + (i + 1) ≡ suc (offset_of s k + i) = omega arith in
         let v : offset_of s k + i + 1 ≡ suc (offset_of s k + i) = omega arith in
-        let from : x ≡ element_at s k (offset_of s k + i) = leaf-offset f i ex in
-        let to : y ≡ element_at s k (suc (offset_of s k + i)) = rw u at (leaf-offset f (i + 1) ey) in
+        let from : x ≡ element_at s k (offset_of s k + i) = leaf_offset f i ex in
+        let to : y ≡ element_at s k (suc (offset_of s k + i)) = rw u at (leaf_offset f (i + 1) ey) in
         record {
           place = et;
           from = from;
           to = to;
           up = omega (arith, rw v at (text_up _ _ _ _ part text));
-          inside = omega (arith, rw v at (text-inside _ _ _ _ part text));
+          inside = omega (arith, rw v at (text_inside _ _ _ _ part text));
         }
 
 -- two rows of which it was read that their layout is fixed-width, or variable-size
 module _ {a b : List ℕ} {k l i j d : ℕ} {v : Leaves} (r : Sides a b k l i j 1 (suc d)) (y : LeavesAt a b k l v) where
-  right-layout : {x : Layout} → layout_of (code_of a k) ≡ x → layout_of (code_of b l) ≡ x
-  right-layout e = sym (ap layout_of r.alike.0.code) ∙ e
+  right_layout : {x : Layout} → layout_of (code_of a k) ≡ x → layout_of (code_of b l) ≡ x
+  right_layout e = sym (ap layout_of r.alike.0.code) ∙ e
 
   -- one pair of rows is one pair of values
   values : {x : Layout} → v.fixed || v.texts ≡ true → layout_of (code_of a k) ≡ x
       → row_equal (value_at x (row_at d a) a k (offset_of a k + i)) (value_at x (row_at d b) b l (offset_of b l + j)) ≡ range_equal (row_at (suc d) a k) (row_at (suc d) b l) i j 1
   unfolding range row_equal
-  values either e = rw (← leaf-row (y.left either) d i e, ← leaf-row (y.right either) d j (right-layout e)) (sym (and_true _))
+  values either e = rw (← leaf_row (y.left either) d i e, ← leaf_row (y.right either) d j (right_layout e)) (sym (and_true _))
 
   -- fixed-width: the bytes of both rows lie inside, and they are the rows
   module _ (e : v.fixed ≡ true) where
-    one-layout : v.fixed || v.texts ≡ true
-    one-layout = rw e
+    one_layout : v.fixed || v.texts ≡ true
+    one_layout = rw e
 
     pub fixed_left : v.left + i * v.width + v.width ≤ length a
-    fixed_left = fixed-inside r.left (y.left one-layout) (y.fixed e)
+    fixed_left = fixed_inside r.left (y.left one_layout) (y.fixed e)
 
-    pub fixed-right : v.right + j * v.width + v.width ≤ length b
-    fixed-right = fixed-inside r.right (y.right one-layout) (right-layout (y.fixed e))
+    pub fixed_right : v.right + j * v.width + v.width ≤ length b
+    fixed_right = fixed_inside r.right (y.right one_layout) (right_layout (y.fixed e))
 
-    pub fixed-rows : same_bytes (bytes_at a (v.left + i * v.width) v.width) (bytes_at b (v.right + j * v.width) v.width)
+    pub fixed_rows : same_bytes (bytes_at a (v.left + i * v.width) v.width) (bytes_at b (v.right + j * v.width) v.width)
         ≡ range_equal (row_at (suc d) a k) (row_at (suc d) b l) i j 1
     unfolding row_equal
-    fixed-rows = ap₂ row_equal (sym (leaf-fixed (y.left one-layout) i)) (sym (leaf-fixed (y.right one-layout) j)) ∙ values one-layout (y.fixed e)
+    fixed_rows = ap₂ row_equal (sym (leaf_fixed (y.left one_layout) i)) (sym (leaf_fixed (y.right one_layout) j)) ∙ values one_layout (y.fixed e)
 
   -- variable-size: the offsets of both rows, and the texts between them
   module _ (either : v.fixed || v.texts ≡ true) (other : v.fixed ≡ false) where
     texts : v.texts ≡ true
     texts = rw other at either
 
-    pub left-nth : (h : ℕ) → h ≤ i + 1 → Nth v.left v.width h
-    left-nth = text-nth r.left (y.left either) (y.texts texts)
+    pub left_nth : (h : ℕ) → h ≤ i + 1 → Nth v.left v.width h
+    left_nth = text_nth r.left (y.left either) (y.texts texts)
 
-    pub right-nth : (h : ℕ) → h ≤ j + 1 → Nth v.right v.width h
-    right-nth = text-nth r.right (y.right either) (right-layout (y.texts texts))
+    pub right_nth : (h : ℕ) → h ≤ j + 1 → Nth v.right v.width h
+    right_nth = text_nth r.right (y.right either) (right_layout (y.texts texts))
 
-    pub left-read : {m n x z : ℕ} → Read (number_at v.width a (v.left + i * v.width)) m x → Read (number_at v.width a (v.left + (i + 1) * v.width)) n z
+    pub left_read : {m n x z : ℕ} → Read (number_at v.width a (v.left + i * v.width)) m x → Read (number_at v.width a (v.left + (i + 1) * v.width)) n z
         → TextRead a k (offset_of a k + i) v.left_text x z
-    left-read = text-read r.left (y.left either) (y.texts texts) (y.left-text texts)
+    left_read = text_read r.left (y.left either) (y.texts texts) (y.left_text texts)
 
-    pub right-read : {m n x z : ℕ} → Read (number_at v.width b (v.right + j * v.width)) m x → Read (number_at v.width b (v.right + (j + 1) * v.width)) n z
+    pub right_read : {m n x z : ℕ} → Read (number_at v.width b (v.right + j * v.width)) m x → Read (number_at v.width b (v.right + (j + 1) * v.width)) n z
         → TextRead b l (offset_of b l + j) v.right_text x z
-    right-read = text-read r.right (y.right either) (right-layout (y.texts texts)) (y.right-text texts)
+    right_read = text_read r.right (y.right either) (right_layout (y.texts texts)) (y.right_text texts)
 
     module _ {x z p q : ℕ} (f : TextRead a k (offset_of a k + i) v.left_text x z) (g : TextRead b l (offset_of b l + j) v.right_text p q) where
-      text-rows : same_bytes (bytes_at a (v.left_text + x) (z - x)) (bytes_at b (v.right_text + p) (q - p)) ≡ range_equal (row_at (suc d) a k) (row_at (suc d) b l) i j 1
+      text_rows_lem : same_bytes (bytes_at a (v.left_text + x) (z - x)) (bytes_at b (v.right_text + p) (q - p)) ≡ range_equal (row_at (suc d) a k) (row_at (suc d) b l) i j 1
       unfolding row_equal
-      text-rows = ap₂ row_equal (sym (text-value f)) (sym (text-value g)) ∙ values either (y.texts texts)
+      text_rows_lem = ap₂ row_equal (sym (text_value_lem f)) (sym (text_value_lem g)) ∙ values either (y.texts texts)
 
       -- texts of two lengths
       pub text_differs : (z - x ≡ q - p → ⊥) → false ≡ range_equal (row_at (suc d) a k) (row_at (suc d) b l) i j 1
-      text_differs ne = sym (other_length a b _ _ _ _ ne) ∙ text-rows
+      text_differs ne = sym (other_length a b _ _ _ _ ne) ∙ text_rows_lem
 
       -- texts of one length
       pub text_same : z - x ≡ q - p → same_bytes (bytes_at a (v.left_text + x) (z - x)) (bytes_at b (v.right_text + p) (z - x)) ≡ range_equal (row_at (suc d) a k) (row_at (suc d) b l) i j 1
-      text_same e = ap (λ (n : ℕ). same_bytes (bytes_at a (v.left_text + x) (z - x)) (bytes_at b (v.right_text + p) n)) e ∙ text-rows
+      text_same e = ap (λ (n : ℕ). same_bytes (bytes_at a (v.left_text + x) (z - x)) (bytes_at b (v.right_text + p) n)) e ∙ text_rows_lem

@@ -13,13 +13,13 @@ use Rattle.image.specs.Types.{counted_for, labels_agree, heads_agree, types_agre
 use Rattle.values.specs.Pairs.{all}
 
 -- a test of pairs in step, by the number of the pair
-pub every-all : (p : ℕ → ℕ → Bool) (x y i n : ℕ) → every (λ c. p (x + c) (y + c)) i n ≡ all p (x + i) (y + i) n
+pub every_all : (p : ℕ → ℕ → Bool) (x y i n : ℕ) → every (λ c. p (x + c) (y + c)) i n ≡ all p (x + i) (y + i) n
 unfolding every all
-every-all p x y i zero = refl
-every-all p x y i (suc n) =
+every_all p x y i zero = refl
+every_all p x y i (suc n) =
     let u : x + suc i ≡ suc (x + i) = omega arith in
     let v : y + suc i ≡ suc (y + i) = omega arith in
-    let rest : every (λ c. p (x + c) (y + c)) (suc i) n ≡ all p (suc (x + i)) (suc (y + i)) n = every-all p x y (suc i) n ∙ rw (u, v) in
+    let rest : every (λ c. p (x + c) (y + c)) (suc i) n ≡ all p (suc (x + i)) (suc (y + i)) n = every_all p x y (suc i) n ∙ rw (u, v) in
     ap (λ (r : Bool). p (x + i) (y + i) && r) rest
 
 -- two children agree
@@ -47,7 +47,7 @@ module _ (depth : ℕ) (p : Bool) (s t : List ℕ) (i j : ℕ) (some : depth ≡
       let e : depth ≡ suc (depth - 1) = omega arith in
       ap (λ (d : ℕ). types_agree_at d p s t i j) e
       ∙ ap (λ (r : Bool). heads_agree s t i j && r)
-      (every-all (child_agrees (depth - 1) (counted_for p (code_of s i)) (is_map (code_of s i)) s t) (first_child s i) (first_child t j) 0 (child_count s i))
+      (every_all (child_agrees (depth - 1) (counted_for p (code_of s i)) (is_map (code_of s i)) s t) (first_child s i) (first_child t j) 0 (child_count s i))
 
   pub heads_fail : {q : Bool} → q ≡ heads_agree s t i j → q ≡ false → false ≡ types_agree_at depth p s t i j
   heads_fail heads e = sym (whole ∙ rw (← heads, e))

@@ -13,8 +13,8 @@ use Rattle.image.specs.Reads.{Read}
 use Rattle.values.specs.Pairs.{all, same_byte}
 use Rattle.values.proofs.Words.{same_test}
 
-first-bytes : (x y m n : ℕ) → x < 256 → y < 256 → eqb (x + 256 * m) (y + 256 * n) ≡ eqb x y && eqb m n
-first-bytes x y m n lx ly = cases (eqb x y) refl
+first_bytes : (x y m n : ℕ) → x < 256 → y < 256 → eqb (x + 256 * m) (y + 256 * n) ≡ eqb x y && eqb m n
+first_bytes x y m n lx ly = cases (eqb x y) refl
   where
     cases : (t : Bool) → eqb x y ≡ t → eqb (x + 256 * m) (y + 256 * n) ≡ t && eqb m n
     cases true e =
@@ -34,9 +34,9 @@ module _ (a b : List ℕ) (left : AllBytes a) (right : AllBytes b) where
   unfolding number_at all same_byte
   same_numbers zero i j = refl
   same_numbers (suc w) i j =
-      first-bytes (byte_at a i) (byte_at b j) (number_at w a (suc i)) (number_at w b (suc j)) (left i) (right j)
+      first_bytes (byte_at a i) (byte_at b j) (number_at w a (suc i)) (number_at w b (suc j)) (left i) (right j)
       ∙ rw (same_numbers w (suc i) (suc j))
 
   -- as they are read
-  pub numbers-same : (w i j : ℕ) {x y bits : ℕ} → Read (number_at w a i) bits x → Read (number_at w b j) bits y → eqb x y ≡ all (same_byte a b) i j w
-  numbers-same w i j ex ey = ap₂ eqb ex.value ey.value ∙ same_numbers w i j
+  pub numbers_same : (w i j : ℕ) {x y bits : ℕ} → Read (number_at w a i) bits x → Read (number_at w b j) bits y → eqb x y ≡ all (same_byte a b) i j w
+  numbers_same w i j ex ey = ap₂ eqb ex.value ey.value ∙ same_numbers w i j

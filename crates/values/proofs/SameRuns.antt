@@ -23,33 +23,33 @@ use Rattle.values.specs.Parts.{RunRange, SameEnds, RunParts, Together}
 use Rattle.values.proofs.Steps.{by_rows, by_bytes}
 use Rattle.values.proofs.Blocks.{all_at}
 use Rattle.values.proofs.Spans.{number_same}
-use Rattle.accepted.proofs.Nodes.{length-small, first_child_node}
-use Rattle.accepted.proofs.RunEnds.{ends-before, runs_cover, runs-few}
+use Rattle.accepted.proofs.Nodes.{length_small, first_child_node}
+use Rattle.accepted.proofs.RunEnds.{ends_before, runs_cover, runs_few}
 
 -- integers of codes 3 to 5 have a fixed width
-ends-fixed : (code : ℕ) → 3 ≤ code → code ≤ 5 → layout_of code ≡ FixedWidth
+ends_fixed : (code : ℕ) → 3 ≤ code → code ≤ 5 → layout_of code ≡ FixedWidth
 unfolding layout_of entry_of entries
-ends-fixed code low high = agree layout_of (λ (c : ℕ). FixedWidth) 3 3 refl code low (omega arith)
+ends_fixed code low high = agree layout_of (λ (c : ℕ). FixedWidth) 3 3 refl code low (omega arith)
 
 module _ {s : List ℕ} {k i m : ℕ} (r : RunRange s k i m) where
-  range-node : Node s k
-  range-node = r.image.node k r.node
+  range_node : Node s k
+  range_node = r.image.node k r.node
 
   ends_of : RunEnds s k
-  ends_of = range-node.tree.run_ends r.runs
+  ends_of = range_node.tree.run_ends r.runs
 
-  ends-node : first_child s k < node_count s
-  ends-node =
-      let two : child_count s k ≡ 2 = range-node.tree.exactly 2 (rw r.runs) in
+  ends_node : first_child s k < node_count s
+  ends_node =
+      let two : child_count s k ≡ 2 = range_node.tree.exactly 2 (rw r.runs) in
       first_child_node s k r.image r.node (omega arith)
 
   -- run ends, as elements of their node
   ends_elements : Elements s (first_child s k) (offset_of s (first_child s k) + i) m
   unfolding elements_of
-  ends_elements = record { image = r.image; node = ends-node; fixed = ends-fixed _ ends_of.low ends_of.high; high = omega (arith, r.high) }
+  ends_elements = record { image = r.image; node = ends_node; fixed = ends_fixed _ ends_of.low ends_of.high; high = omega (arith, r.high) }
 
-  pub ends-small : i + m ≤ 1073741824
-  ends-small = omega (arith, r.high, length-small s (first_child s k) r.image ends-node)
+  pub ends_small : i + m ≤ 1073741824
+  ends_small = omega (arith, r.high, length_small s (first_child s k) r.image ends_node)
 
   -- as they are read
   pub ends_read : {x o : ℕ} → Read (first_child s k) 16 x → Read (offset_of s x) 32 o → Elements s x (o + i) m
@@ -62,9 +62,9 @@ module _ {s : List ℕ} {k i m : ℕ} (r : RunRange s k i m) where
       rw (e, ends_of.width)
 
 -- fixed-width elements that are the same, as numbers
-element-number : (a b : List ℕ) (k l x y : ℕ) → element_width a k ≡ element_width b l → same_row (fixed_row a k) (fixed_row b l) x y ≡ true → number_at (element_width a k) a (element_place a k x) ≡ number_at (element_width b l) b (element_place b l y)
+element_number : (a b : List ℕ) (k l x y : ℕ) → element_width a k ≡ element_width b l → same_row (fixed_row a k) (fixed_row b l) x y ≡ true → number_at (element_width a k) a (element_place a k x) ≡ number_at (element_width b l) b (element_place b l y)
 unfolding same_row fixed_row row_equal
-element-number a b k l x y w e =
+element_number a b k l x y w e =
     ap (λ (z : ℕ). number_at z a (element_place a k x)) w
     ∙ number_same (element_width b l) a b (element_place a k x) (element_place b l y) (by_bytes a b (element_place a k x) (element_place b l y) (element_width b l) ∙ ap (λ (z : ℕ). same_bytes (bytes_at a (element_place a k x) z) (bytes_at b (element_place b l y) (element_width b l))) (sym w) ∙ e)
 
@@ -78,39 +78,39 @@ module _ {a b : List ℕ} {k l i j m : ℕ} (r : RunRange a k i m) (q : RunRange
       record {
         same = λ h lt.
             end_is r h
-            ∙ element-number a b _ _ _ _ width (all_at (same_row (fixed_row a (first_child a k)) (fixed_row b (first_child b l))) _ _ m (by_rows _ _ _ _ m ∙ whole) h lt)
+            ∙ element_number a b _ _ _ _ width (all_at (same_row (fixed_row a (first_child a k)) (fixed_row b (first_child b l))) _ _ m (by_rows _ _ _ _ m ∙ whole) h lt)
             ∙ sym (end_is q h);
       }
 
 -- a later element's run is no earlier
 run_order : (s : List ℕ) (k x y : ℕ) → RunPart s k y → x ≤ y → run_at s k x ≤ run_at s k y
-run_order s k x y r le = le_of_suc-le-suc (lt_of_not-le (λ (past : suc (run_at s k y) ≤ run_at s k x). omega (arith, ends-before s k x (run_at s k y) past, (runs_cover r).above y r.element)))
+run_order s k x y r le = le_of_suc-le-suc (lt_of_not-le (λ (past : suc (run_at s k y) ≤ run_at s k x). omega (arith, ends_before s k x (run_at s k y) past, (runs_cover r).above y r.element)))
 
 -- elements are few
-pub element-small : {s : List ℕ} {k j : ℕ} → RunPart s k j → j < 1073741824
-element-small {s} {k} r = omega (arith, r.element, (r.image.node k r.node).buffers.small)
+pub element_small : {s : List ℕ} {k j : ℕ} → RunPart s k j → j < 1073741824
+element_small {s} {k} r = omega (arith, r.element, (r.image.node k r.node).buffers.small)
 
 module _ {a b : List ℕ} {k l s t n i j : ℕ} (r : RunParts a b k l s t n i j) {x : ℕ} (ex : x ≡ run_at a k (s + (n - 1))) where
   -- the first run is not past the last
   pub left_order : i ≤ x
-  left_order = rw (ex, r.left-first) (run_order a k s (s + (n - 1)) r.left (omega arith))
+  left_order = rw (ex, r.left_first) (run_order a k s (s + (n - 1)) r.left (omega arith))
 
-  pub left-range : RunRange a k i (x - i)
-  left-range = record { image = r.left.image; node = r.left.node; runs = r.left.runs; high = omega (arith, left_order, (runs_cover r.left).run (s + (n - 1)) r.left.element) }
+  pub left_range : RunRange a k i (x - i)
+  left_range = record { image = r.left.image; node = r.left.node; runs = r.left.runs; high = omega (arith, left_order, (runs_cover r.left).run (s + (n - 1)) r.left.element) }
 
-  pub left-few : x ≤ 1073741824
-  left-few = omega (arith, (runs_cover r.left).run (s + (n - 1)) r.left.element, runs-few r.left)
+  pub left_few : x ≤ 1073741824
+  left_few = omega (arith, (runs_cover r.left).run (s + (n - 1)) r.left.element, runs_few r.left)
 
   module _ {y : ℕ} (ey : y ≡ run_at b l (t + (n - 1))) where
     pub right_order : j ≤ y
-    right_order = rw (ey, r.right-first) (run_order b l t (t + (n - 1)) r.right (omega arith))
+    right_order = rw (ey, r.right_first) (run_order b l t (t + (n - 1)) r.right (omega arith))
 
     module _ (e : y - j ≡ x - i) where
-      pub right-range : RunRange b l j (x - i)
-      right-range = record { image = r.right.image; node = r.right.node; runs = r.right.runs; high = omega (arith, right_order, (runs_cover r.right).run (t + (n - 1)) r.right.element) }
+      pub right_range : RunRange b l j (x - i)
+      right_range = record { image = r.right.image; node = r.right.node; runs = r.right.runs; high = omega (arith, right_order, (runs_cover r.right).run (t + (n - 1)) r.right.element) }
 
       pub together : s ≡ t → SameEnds a b k l i j (x - i) → Together a b k l s t n i j (x - i + 1 - 1)
       together st same =
           let one : x - i + 1 - 1 ≡ x - i = omega arith in
           rw one
-          (record { left-last = omega (arith, left_order); right-last = omega (arith, right_order); ends = λ q lt. rw (st, same.same q lt) })
+          (record { left_last = omega (arith, left_order); right_last = omega (arith, right_order); ends = λ q lt. rw (st, same.same q lt) })

@@ -16,22 +16,22 @@ use Rattle.image.specs.Types.{same_bytes}
 use Rattle.image.proofs.Bools.{and_left, and_right}
 use Rattle.values.specs.Pairs.{all, same_byte, same_span, span_at}
 use Rattle.values.specs.Parts.{Spans}
-use Rattle.values.proofs.Steps.{by_bytes, all-by}
+use Rattle.values.proofs.Steps.{by_bytes, all_by}
 use Rattle.values.proofs.Blocks.{all_at}
 
-pub read-element : (s : List ℕ) (k j w p : ℕ) {r : ℕ} → Read (number_at w s (p + j * w)) (8 * w) r → w ≡ element_width s k → p ≡ buffer_place s k 0 → r ≡ element_at s k j
+pub read_element : (s : List ℕ) (k j w p : ℕ) {r : ℕ} → Read (number_at w s (p + j * w)) (8 * w) r → w ≡ element_width s k → p ≡ buffer_place s k 0 → r ≡ element_at s k j
 unfolding element_at element_place
-read-element s k j w p r ew ep = rw (← ew, ← ep) r.value
+read_element s k j w p r ew ep = rw (← ew, ← ep) r.value
 
 -- The n + 1 offsets of each side as one block of bytes: it lies inside the image.
 module _ {a b : List ℕ} {k l i j n : ℕ} (r : Spans a b k l i j n) {w p q : ℕ} (ew : w ≡ element_width a k) (ep : p ≡ buffer_place a k 0) (eq : q ≡ buffer_place b l 0) where
   pub left_block : p + i * w + (n + 1) * w ≤ length a
   unfolding element_place
-  left_block = rw (ew, ep) r.left-inside
+  left_block = rw (ew, ep) r.left_inside
 
   pub right_block : q + j * w + (n + 1) * w ≤ length b
   unfolding element_place
-  right_block = rw (ew, eq, r.same) r.right-inside
+  right_block = rw (ew, eq, r.same) r.right_inside
 
   pub block_read : same_bytes (bytes_at a (p + i * w) ((n + 1) * w)) (bytes_at b (q + j * w) ((n + 1) * w))
       ≡ same_bytes (bytes_at a (element_place a k i) ((n + 1) * element_width a k)) (bytes_at b (element_place b l j) ((n + 1) * element_width a k))
@@ -49,7 +49,7 @@ element_of : (a b : List ℕ) (w x y n h : ℕ) → all (same_byte a b) x y ((n 
 element_of a b w x y n h e le =
     let room : (h + 1) * w ≤ (n + 1) * w = mul-le-mul_right w (omega arith) in
     let more : (h + 1) * w ≡ h * w + 1 * w = add-mul h 1 w in
-    all-by (same_byte a b) (x + h * w) (y + h * w) w (λ m lt.
+    all_by (same_byte a b) (x + h * w) (y + h * w) w (λ m lt.
     let u : x + h * w + m ≡ x + (h * w + m) = omega arith in
     let v : y + h * w + m ≡ y + (h * w + m) = omega arith in
     let within : h * w + m < (n + 1) * w = omega arith in
@@ -57,9 +57,9 @@ element_of a b w x y n h e le =
 
 -- where the block is the same on both sides, the offsets are, and so are the lengths
 module _ {a b : List ℕ} {k l i j n : ℕ} (r : Spans a b k l i j n) (e : same_bytes (bytes_at a (element_place a k i) ((n + 1) * element_width a k)) (bytes_at b (element_place b l j) ((n + 1) * element_width a k)) ≡ true) where
-  offset-same : (h : ℕ) → h ≤ n → element_at a k (i + h) ≡ element_at b l (j + h)
+  offset_same : (h : ℕ) → h ≤ n → element_at a k (i + h) ≡ element_at b l (j + h)
   unfolding element_at element_place
-  offset-same h le =
+  offset_same h le =
       let x : (i + h) * element_width a k ≡ i * element_width a k + h * element_width a k = add-mul i h (element_width a k) in
       let y : (j + h) * element_width a k ≡ j * element_width a k + h * element_width a k = add-mul j h (element_width a k) in
       let u : buffer_place a k 0 + (i + h) * element_width a k ≡ buffer_place a k 0 + i * element_width a k + h * element_width a k = omega arith in
@@ -71,7 +71,7 @@ module _ {a b : List ℕ} {k l i j n : ℕ} (r : Spans a b k l i j n) (e : same_
 
   pub offsets_spans : all (same_span a k b l) i j n ≡ true
   unfolding same_span span_at
-  offsets_spans = all-by (same_span a k b l) i j n (λ h lt.
+  offsets_spans = all_by (same_span a k b l) i j n (λ h lt.
       let u : suc (i + h) ≡ i + (h + 1) = omega arith in
       let v : suc (j + h) ≡ j + (h + 1) = omega arith in
-      rw (u, v) (eq-eqb _ _ (ap₂ (λ (x y : ℕ). x - y) (offset-same (h + 1) (omega arith)) (offset-same h (omega arith)))))
+      rw (u, v) (eq-eqb _ _ (ap₂ (λ (x y : ℕ). x - y) (offset_same (h + 1) (omega arith)) (offset_same h (omega arith)))))

@@ -38,8 +38,8 @@ all_split p i j (suc m) n =
     rw (e, x, y, all_split p (suc i) (suc j) m n) (and_assoc (p i j) _ _)
 
 module _ (p : ℕ → ℕ → Bool) (i j n : ℕ) where
-  pub left-none : Left p i j n 0
-  left-none = record { within = omega arith; same = simp (add-zero, sub-zero) }
+  pub left_none : Left p i j n 0
+  left_none = record { within = omega arith; same = simp (add-zero, sub-zero) }
 
   step : (k : ℕ) → k < n → all p (i + k) (j + k) (n - k) ≡ p (i + k) (j + k) && all p (i + (k + 1)) (j + (k + 1)) (n - (k + 1))
   unfolding all
@@ -49,21 +49,21 @@ module _ (p : ℕ → ℕ → Bool) (i j n : ℕ) where
       let y : j + (k + 1) ≡ suc (j + k) = omega arith in
       rw (e, x, y)
 
-  pub left-more : (k : ℕ) → k < n → Left p i j n k → p (i + k) (j + k) ≡ true → Left p i j n (k + 1)
-  left-more k lt r e = record { within = omega arith; same = r.same ∙ step k lt ∙ rw e }
+  pub left_more : (k : ℕ) → k < n → Left p i j n k → p (i + k) (j + k) ≡ true → Left p i j n (k + 1)
+  left_more k lt r e = record { within = omega arith; same = r.same ∙ step k lt ∙ rw e }
 
   pub left_fails : (k : ℕ) → k < n → Left p i j n k → p (i + k) (j + k) ≡ false → false ≡ all p i j n
   left_fails k lt r e = sym (r.same ∙ step k lt ∙ rw e)
 
-  pub left-done : (k : ℕ) → n ≤ k → Left p i j n k → true ≡ all p i j n
+  pub left_done : (k : ℕ) → n ≤ k → Left p i j n k → true ≡ all p i j n
   unfolding all
-  left-done k le r =
+  left_done k le r =
       let e : n - k ≡ 0 = omega arith in
       sym (r.same ∙ rw e)
 
   -- what is left is the answer
-  pub left-rest : (k : ℕ) → Left p i j n k → {x : Bool} → x ≡ all p (i + k) (j + k) (n - k) → x ≡ all p i j n
-  left-rest k r e = e ∙ sym r.same
+  pub left_rest : (k : ℕ) → Left p i j n k → {x : Bool} → x ≡ all p (i + k) (j + k) (n - k) → x ≡ all p i j n
+  left_rest k r e = e ∙ sym r.same
 
   -- m pairs at once
   jump : (k m : ℕ) → m ≤ n - k → all p (i + k) (j + k) (n - k) ≡ all p (i + k) (j + k) m && all p (i + (k + m)) (j + (k + m)) (n - (k + m))
@@ -113,19 +113,19 @@ module _ (p : ℕ → ℕ → Bool) (i j n : ℕ) where
   passed_none = record { within = omega arith; passes = sym (all_none p i j) }
 
   -- m more at once
-  pub passed-more : (k m : ℕ) → m ≤ n - k → Passed p i j n k → all p (i + k) (j + k) m ≡ true → Passed p i j n (k + m)
-  passed-more k m le r e = record { within = omega arith; passes = all_split p i j k m ∙ rw r.passes e }
+  pub passed_more : (k m : ℕ) → m ≤ n - k → Passed p i j n k → all p (i + k) (j + k) m ≡ true → Passed p i j n (k + m)
+  passed_more k m le r e = record { within = omega arith; passes = all_split p i j k m ∙ rw r.passes e }
 
   -- one more
-  pub passed-one : (k : ℕ) → k < n → Passed p i j n k → p (i + k) (j + k) ≡ true → Passed p i j n (k + 1)
-  passed-one k lt r e = record { within = omega arith; passes = all_snoc p i j k ∙ rw r.passes e }
+  pub passed_one : (k : ℕ) → k < n → Passed p i j n k → p (i + k) (j + k) ≡ true → Passed p i j n (k + 1)
+  passed_one k lt r e = record { within = omega arith; passes = all_snoc p i j k ∙ rw r.passes e }
 
   pub passed_fails : (k m : ℕ) → m ≤ n - k → Passed p i j n k → all p (i + k) (j + k) m ≡ false → false ≡ all p i j n
   passed_fails k m le r e = front_fails p i j (k + m) n (omega arith) (all_split p i j k m ∙ rw r.passes e)
 
   -- the last w, some of them once more, are the answer
-  pub passed-tail : (k w : ℕ) → w ≤ n → n - k ≤ w → Passed p i j n k → all p (i + (n - w)) (j + (n - w)) w ≡ all p i j n
-  passed-tail k w le near r =
+  pub passed_tail : (k w : ℕ) → w ≤ n → n - k ≤ w → Passed p i j n k → all p (i + (n - w)) (j + (n - w)) w ≡ all p i j n
+  passed_tail k w le near r =
       let e : n - w + w ≡ n = omega arith in
       let f : all p i j (n - w) ≡ true = front_passes p i j (n - w) k (omega arith) r.passes in
       sym (rw (e, f) at (all_split p i j (n - w) w))
@@ -177,16 +177,16 @@ all_moved p q i j x y (suc n) e =
     )
 
 -- each pair passes: all do
-pub all-by : (p : ℕ → ℕ → Bool) (i j n : ℕ) → ((h : ℕ) → h < n → p (i + h) (j + h) ≡ true) → all p i j n ≡ true
+pub all_by : (p : ℕ → ℕ → Bool) (i j n : ℕ) → ((h : ℕ) → h < n → p (i + h) (j + h) ≡ true) → all p i j n ≡ true
 unfolding all
-all-by p i j zero e = refl
-all-by p i j (suc n) e =
+all_by p i j zero e = refl
+all_by p i j (suc n) e =
     let x : i + 0 ≡ i = omega arith in
     let y : j + 0 ≡ j = omega arith in
     let here : p i j ≡ true = rw (x, y) at (e 0 (omega arith)) in
     rw (
       here,
-      all-by p (suc i) (suc j) n (λ h lt.
+      all_by p (suc i) (suc j) n (λ h lt.
           let u : suc i + h ≡ i + suc h = omega arith in
           let v : suc j + h ≡ j + suc h = omega arith in
           rw (u, v) (e (suc h) (omega arith))),

@@ -21,19 +21,19 @@ use Rattle.values.specs.Bits.{bits_at}
 use Rattle.values.specs.Pairs.{all, same_row, range_equal, same_byte, bit_of, valid_same, masked_row}
 use Rattle.accepted.specs.Parts.{Side, Elements}
 use Rattle.values.specs.Parts.{Masked, ColumnsAt}
-use Rattle.values.proofs.Steps.{by_rows, all_snoc, all_moved, and_true, passed-tail, front_fails}
+use Rattle.values.proofs.Steps.{by_rows, all_snoc, all_moved, and_true, passed_tail, front_fails}
 use Rattle.values.proofs.WordBits.{bit_of_bits}
 use Rattle.values.proofs.MaskedRows.{mask_at}
 use Rattle.accepted.proofs.Fixed.{spanned}
-use Rattle.values.proofs.Fixed.{masked-fixed, row}
-use Rattle.values.proofs.LeafRows.{fixed-first}
+use Rattle.values.proofs.Fixed.{masked_fixed, row}
+use Rattle.values.proofs.LeafRows.{fixed_first}
 
 -- the first v bytes and the last v, where that is all of them
 pub two_ends : (p : ℕ → ℕ → Bool) (i j w v : ℕ) {x y : Bool} → v ≤ w → w ≤ 2 * v → x ≡ all p i j v → y ≡ all p (i + (w - v)) (j + (w - v)) v → x && y ≡ all p i j w
 two_ends p i j w v {x} {y} le most e f = cases x e
   where
     cases : (z : Bool) → z ≡ all p i j v → z && y ≡ all p i j w
-    cases true h = f ∙ passed-tail p i j w v v le (omega arith) (record { within = le; passes = sym h })
+    cases true h = f ∙ passed_tail p i j w v v le (omega arith) (record { within = le; passes = sym h })
     cases false h = front_fails p i j v w le (sym h)
 
 -- an element of one byte
@@ -42,8 +42,8 @@ unfolding all same_byte
 one_byte a b i j = sym (and_true _)
 
 -- element h of n lies inside
-pub element-room : (x n w h m : ℕ) → h < n → x + n * w ≤ m → x + h * w + w ≤ m
-element-room x n w h m lt le =
+pub element_room : (x n w h m : ℕ) → h < n → x + n * w ≤ m → x + h * w + w ≤ m
+element_room x n w h m lt le =
     let e : suc h * w ≡ h * w + w = suc-mul h w in
     let f : suc h * w ≤ n * w = mul-le-mul_right w lt in
     omega arith
@@ -75,14 +75,14 @@ rows_inside s k i n p w r ep ew =
     rw (place_of s k i ep ew, ew) inside
 
 module _ {a b : List ℕ} {k l i j n : ℕ} {v : Columns} (r : Masked FixedWidth a b k l i j n) (y : ColumnsAt a b k l v) where
-  right-width : v.width ≡ element_width b l
-  right-width = y.width ∙ (masked-fixed r).width
+  right_width : v.width ≡ element_width b l
+  right_width = y.width ∙ (masked_fixed r).width
 
-  pub left-inside : v.left + i * v.width + n * v.width ≤ length a
-  left-inside = rows_inside _ _ _ _ _ _ (masked-fixed r).left y.left y.width
+  pub left_inside : v.left + i * v.width + n * v.width ≤ length a
+  left_inside = rows_inside _ _ _ _ _ _ (masked_fixed r).left y.left y.width
 
-  pub right-inside : v.right + j * v.width + n * v.width ≤ length b
-  right-inside = rows_inside _ _ _ _ _ _ (masked-fixed r).right y.right right-width
+  pub right_inside : v.right + j * v.width + n * v.width ≤ length b
+  right_inside = rows_inside _ _ _ _ _ _ (masked_fixed r).right y.right right_width
 
   -- bit h of the word is that of row i + h
   module _ {bits : ℕ} (some : has_bitmap a k ≡ true) (word : bits ≡ bits_at a v.place (v.first + i) 64) where
@@ -102,8 +102,8 @@ module _ {a b : List ℕ} {k l i j n : ℕ} {v : Columns} (r : Masked FixedWidth
         ≡ row_equal (fixed_row a k (offset_of a k + (i + h))) (fixed_row b l (offset_of b l + (j + h)))
     unfolding same_row element_place
     full h =
-        ap₂ (λ (p q : ℕ). all (same_byte a b) p q v.width) (moved a k i h _ _ y.left y.width) (moved b l j h _ _ y.right right-width)
-        ∙ rw (← (masked-fixed r).width, y.width) (sym (row a b k l (masked-fixed r).width (offset_of a k + (i + h)) (offset_of b l + (j + h))))
+        ap₂ (λ (p q : ℕ). all (same_byte a b) p q v.width) (moved a k i h _ _ y.left y.width) (moved b l j h _ _ y.right right_width)
+        ∙ rw (← (masked_fixed r).width, y.width) (sym (row a b k l (masked_fixed r).width (offset_of a k + (i + h)) (offset_of b l + (j + h))))
 
     pair_same : (h : ℕ) → h < n → n ≤ 64
         → valid_same bits a b v.width (v.left + i * v.width) (v.right + j * v.width) h h ≡ same_row (masked_row fixed_row a k) (masked_row fixed_row b l) (i + h) (j + h)
@@ -123,9 +123,9 @@ module _ {a b : List ℕ} {k l i j n : ℕ} {v : Columns} (r : Masked FixedWidth
 
 -- without a bitmap the rows are their values
 module _ {a b : List ℕ} {k l i j n : ℕ} (r : Masked FixedWidth a b k l i j n) (none : has_bitmap a k ≡ false) where
-  pub whole-rows : range_equal (fixed_row a k) (fixed_row b l) (offset_of a k + i) (offset_of b l + j) n ≡ range_equal (masked_row fixed_row a k) (masked_row fixed_row b l) i j n
+  pub whole_rows : range_equal (fixed_row a k) (fixed_row b l) (offset_of a k + i) (offset_of b l + j) n ≡ range_equal (masked_row fixed_row a k) (masked_row fixed_row b l) i j n
   unfolding same_row masked_row valid
-  whole-rows =
+  whole_rows =
       sym (by_rows _ _ _ _ n)
       ∙ sym (all_moved (same_row (masked_row fixed_row a k) (masked_row fixed_row b l)) (same_row (fixed_row a k) (fixed_row b l)) i j (offset_of a k + i) (offset_of b l + j) n
       (λ h lt.
@@ -135,15 +135,15 @@ module _ {a b : List ℕ} {k l i j n : ℕ} (r : Masked FixedWidth a b k l i j n
       ∙ by_rows _ _ i j n
 
 -- the element of row 0 starts inside
-first-inside : {s : List ℕ} {k i n : ℕ} → Side s k i n → layout_of (code_of s k) ≡ FixedWidth → element_place s k (offset_of s k) ≤ length s
-first-inside r e = fixed-first (record { image = r.image; node = r.node; rows = omega arith }) e
+first_inside : {s : List ℕ} {k i n : ℕ} → Side s k i n → layout_of (code_of s k) ≡ FixedWidth → element_place s k (offset_of s k) ≤ length s
+first_inside r e = fixed_first (record { image = r.image; node = r.node; rows = omega arith }) e
 
 module _ {a b : List ℕ} {k l i j n : ℕ} (r : Masked FixedWidth a b k l i j n) where
-  pub left-first : element_place a k (offset_of a k) ≤ length a
-  left-first = first-inside r.left r.layout
+  pub left_first : element_place a k (offset_of a k) ≤ length a
+  left_first = first_inside r.left r.layout
 
-  pub right-first : element_place b l (offset_of b l) ≤ length b
-  right-first = first-inside r.right (masked-fixed r).right.fixed
+  pub right_first : element_place b l (offset_of b l) ≤ length b
+  right_first = first_inside r.right (masked_fixed r).right.fixed
 
   pub other_width : {w : ℕ} → w ≡ element_width a k → w ≡ element_width b l
-  other_width e = e ∙ (masked-fixed r).width
+  other_width e = e ∙ (masked_fixed r).width

@@ -15,8 +15,8 @@ use Rattle.image.specs.Ranges.{every}
 use Rattle.values.specs.Bits.{bits_at, Leading}
 use Rattle.values.specs.Pairs.{first_unequal, same_bit, same_bit_of, bit_of}
 use Rattle.values.proofs.Words.{cut_off, halved, words_same, words_differ, full_result}
-use Rattle.values.proofs.Steps.{Passed, passed-more}
-use Rattle.values.proofs.FirstUnequal.{unequal-moved, unequal-some, unequal_among}
+use Rattle.values.proofs.Steps.{Passed, passed_more}
+use Rattle.values.proofs.FirstUnequal.{unequal_moved, unequal_some, unequal_among}
 use Rattle.values.proofs.Leads.{every_jump, leading_stops, leading_all}
 
 -- the lowest digit, and what it leaves
@@ -32,8 +32,8 @@ low_digit : (b : Bool) (m : ℕ) → eqb ((cond b 1 0 + 2 * m) / 2 ^ 0 % 2) 1 �
 low_digit true m = let e : (1 + 2 * m) / 1 % 2 ≡ 1 = omega arith in rw e
 low_digit false m = let e : (0 + 2 * m) / 1 % 2 ≡ 0 = omega arith in rw e
 
-high-digits : (b : Bool) (m k : ℕ) → (cond b 1 0 + 2 * m) / 2 ^ suc k ≡ m / 2 ^ k
-high-digits b m k =
+high_digits : (b : Bool) (m k : ℕ) → (cond b 1 0 + 2 * m) / 2 ^ suc k ≡ m / 2 ^ k
+high_digits b m k =
     ap (λ (y : ℕ). (cond b 1 0 + 2 * m) / y) (pow-succ' 2 k) ∙ sym (div-div-eq-div-mul (cond b 1 0 + 2 * m) 2 (2 ^ k)) ∙ ap (λ (x : ℕ). x / 2 ^ k) (others b m)
 
 -- bit k of the number that n bits make
@@ -45,18 +45,18 @@ bit_of_bits s p i (suc n) zero lt =
     rw e (low_digit (bit_at s p i) (bits_at s p (suc i) n))
 bit_of_bits s p i (suc n) (suc k) lt =
     let e : i + suc k ≡ suc i + k = omega arith in
-    rw (e, high-digits (bit_at s p i) (bits_at s p (suc i) n) k) (bit_of_bits s p (suc i) n k (omega arith))
+    rw (e, high_digits (bit_at s p i) (bits_at s p (suc i) n) k) (bit_of_bits s p (suc i) n k (omega arith))
 
 -- the first n of n + m bits
-bits-front : (s : List ℕ) (p i n m : ℕ) → bits_at s p i (n + m) % 2 ^ n ≡ bits_at s p i n
+bits_front : (s : List ℕ) (p i n m : ℕ) → bits_at s p i (n + m) % 2 ^ n ≡ bits_at s p i n
 unfolding bits_at
-bits-front s p i zero m = mod-one _
-bits-front s p i (suc n) m =
+bits_front s p i zero m = mod-one _
+bits_front s p i (suc n) m =
     let e : suc n + m ≡ suc (n + m) = omega arith in
     let b = bit_at s p i in
     let x = bits_at s p (suc i) (n + m) in
     let cut : (cond b 1 0 + 2 * x) % (2 * 2 ^ n) ≡ (cond b 1 0 + 2 * x) % 2 + 2 * ((cond b 1 0 + 2 * x) / 2 % 2 ^ n) = sym (cut_off (cond b 1 0 + 2 * x) (2 ^ n) (pow_pos n)) in
-    rw (e, pow-succ' 2 n, cut, digit b x, others b x, bits-front s p (suc i) n m)
+    rw (e, pow-succ' 2 n, cut, digit b x, others b x, bits_front s p (suc i) n m)
 
 -- a bit shifted by n
 one_shifted : (n : ℕ) → n < 64 → 1 * 2 ^ n % 2 ^ 64 ≡ 2 ^ n
@@ -66,13 +66,13 @@ one_shifted n lt = let e : 1 * 2 ^ n ≡ 2 ^ n = omega arith in rw e (mod-eq_of_
 pub word_front : (s : List ℕ) (p i n : ℕ) {x : ℕ} → n < 64 → x ≡ bits_at s p i 64 → x % (1 * 2 ^ n % 2 ^ 64) ≡ bits_at s p i n
 word_front s p i n lt e =
     let h : n + (64 - n) ≡ 64 = omega arith in
-    rw (one_shifted n lt, e) (rw h at (bits-front s p i n (64 - n)))
+    rw (one_shifted n lt, e) (rw h at (bits_front s p i n (64 - n)))
 
-pub one-positive : (n : ℕ) → n < 64 → 0 < 1 * 2 ^ n % 2 ^ 64
-one-positive n lt = rw (one_shifted n lt) (pow_pos n)
+pub one_positive : (n : ℕ) → n < 64 → 0 < 1 * 2 ^ n % 2 ^ 64
+one_positive n lt = rw (one_shifted n lt) (pow_pos n)
 
-pub whole-number : (x : ℕ) → x ≡ x / 2 ^ 0
-whole-number x = omega arith
+pub whole_number_lem : (x : ℕ) → x ≡ x / 2 ^ 0
+whole_number_lem x = omega arith
 
 -- one bit more
 pub half_of : (x r : ℕ) {y : ℕ} → y ≡ x / 2 ^ r → y / 2 ≡ x / 2 ^ (r + 1)
@@ -125,16 +125,16 @@ module _ (a : List ℕ) (p : ℕ) (b : List ℕ) (q i j n : ℕ) {x y r : ℕ} (
   read_pair k lt = ap₂ beq (read_bit a p i n k e lt) (read_bit b q j n k f lt)
 
   pub apart_bits : r ≡ first_unequal (same_bit a p b q) i j n
-  apart_bits = g ∙ unequal-moved (same_bit_of x y) (same_bit a p b q) 0 0 i j n read_pair
+  apart_bits = g ∙ unequal_moved (same_bit_of x y) (same_bit a p b q) 0 0 i j n read_pair
 
   apart_inside : (x ≡ y → ⊥) → r < n
-  apart_inside h = rw apart_bits (unequal-some (same_bit a p b q) i j n (words_differ a p b q i j n e f h))
+  apart_inside h = rw apart_bits (unequal_some (same_bit a p b q) i j n (words_differ a p b q i j n e f h))
 
 -- two words after k pairs of bits that are the same: 64 more, or the first that are not
 module _ (a : List ℕ) (p : ℕ) (b : List ℕ) (q i j n k : ℕ) {x y : ℕ} (passed : Passed (same_bit a p b q) i j n k) (le : 64 ≤ n - k)
     (e : x ≡ bits_at a p (i + k) 64) (f : y ≡ bits_at b q (j + k) 64) where
   pub word_passed : x ≡ y → Passed (same_bit a p b q) i j n (k + 64)
-  word_passed h = passed-more (same_bit a p b q) i j n k 64 le passed (words_same a p b q (i + k) (j + k) 64 e f h)
+  word_passed h = passed_more (same_bit a p b q) i j n k 64 le passed (words_same a p b q (i + k) (j + k) 64 e f h)
 
   pub word_found : {r : ℕ} → (x ≡ y → ⊥) → r ≡ first_unequal (same_bit_of x y) 0 0 64 → k + r ≡ first_unequal (same_bit a p b q) i j n
   word_found h g =

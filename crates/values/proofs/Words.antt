@@ -45,8 +45,8 @@ low_bit b m =
     (omega arith) (omega arith) (omega arith) (omega arith) (omega arith) (omega arith) (omega arith) (omega arith)
 
 -- what a word's two reads make
-joined-reads : (low high r : ℕ) → r < 8 → low < 2 ^ 64 → low / 2 ^ r + high * 2 ^ (64 - r) % 2 ^ 64 ≡ (low + 18446744073709551616 * high) / 2 ^ r % 2 ^ 64
-joined-reads low high r lt small =
+joined_reads : (low high r : ℕ) → r < 8 → low < 2 ^ 64 → low / 2 ^ r + high * 2 ^ (64 - r) % 2 ^ 64 ≡ (low + 18446744073709551616 * high) / 2 ^ r % 2 ^ 64
+joined_reads low high r lt small =
     by_eight (λ r. low / 2 ^ r + high * 2 ^ (64 - r) % 2 ^ 64 ≡ (low + 18446744073709551616 * high) / 2 ^ r % 2 ^ 64)
     (omega arith) (omega arith) (omega arith) (omega arith) (omega arith) (omega arith) (omega arith) (omega arith) r lt
 
@@ -74,16 +74,16 @@ module _ (s : List ℕ) (small : AllBytes s) (p : ℕ) where
       let q : suc i / 8 ≡ i / 8 = omega arith in
       rest (suc w) (omega arith) ∙ rw (r, q, halved _ (i % 8))
 
-  pub bits-number : (n i w : ℕ) → i % 8 + n ≤ 8 * w → bits_at s p i n ≡ number_at w s (p + i / 8) / 2 ^ (i % 8) % 2 ^ n
+  pub bits_number_lem : (n i w : ℕ) → i % 8 + n ≤ 8 * w → bits_at s p i n ≡ number_at w s (p + i / 8) / 2 ^ (i % 8) % 2 ^ n
   unfolding bits_at bit_at number_at
-  bits-number zero i w le = sym (mod-one _)
-  bits-number (suc n) i zero le = absurd (omega arith)
-  bits-number (suc n) i (suc w) le =
+  bits_number_lem zero i w le = sym (mod-one _)
+  bits_number_lem (suc n) i zero le = absurd (omega arith)
+  bits_number_lem (suc n) i (suc w) le =
       let x : ℕ = byte_at s (p + i / 8) / 2 ^ (i % 8) in
       let d : cond (eqb (x % 2) 1) 1 0 ≡ x % 2 = bit_number (x % 2) (omega arith) in
       let l : x % 2 ≡ (byte_at s (p + i / 8) + 256 * number_at w s (suc (p + i / 8))) / 2 ^ (i % 8) % 2 = low_bit _ _ (i % 8) (omega arith) in
       let h : i % 8 ≤ 7 = omega arith in
-      rw (d, l, next i w n le (bits-number n (suc i)) (eq-or-lt_of_le h), pow-succ' 2 n) (cut_off _ (2 ^ n) (pow_pos n))
+      rw (d, l, next i w n le (bits_number_lem n (suc i)) (eq-or-lt_of_le h), pow-succ' 2 n) (cut_off _ (2 ^ n) (pow_pos n))
 
 number_nine : (s : List ℕ) (i : ℕ) → number_at 9 s i ≡ number_at 8 s i + 18446744073709551616 * byte_at s (i + 8)
 unfolding number_at
@@ -95,18 +95,18 @@ number_nine s i =
 module _ (s : List ℕ) (small : AllBytes s) (p i : ℕ) {low : ℕ} (lows : Read (number_at 8 s (p + i / 8)) 64 low) where
   pub word_whole : i % 8 ≡ 0 → low ≡ bits_at s p i 64
   word_whole e =
-      let x : bits_at s p i 64 ≡ number_at 8 s (p + i / 8) / 2 ^ (i % 8) % 2 ^ 64 = bits-number s small p 64 i 8 (omega arith) in
+      let x : bits_at s p i 64 ≡ number_at 8 s (p + i / 8) / 2 ^ (i % 8) % 2 ^ 64 = bits_number_lem s small p 64 i 8 (omega arith) in
       let y : low ≡ low / 1 % 2 ^ 64 = omega (arith, lows.small) in
       y ∙ sym (x ∙ rw (e, ← lows.value))
 
   pub word_split : {high : ℕ} → high ≡ byte_at s (p + i / 8 + 8) → low / 2 ^ (i % 8) + high * 2 ^ (64 - i % 8) % 2 ^ 64 ≡ bits_at s p i 64
   word_split e =
-      joined-reads _ _ (i % 8) (omega arith) lows.small
-      ∙ sym (bits-number s small p 64 i 9 (omega arith) ∙ rw (number_nine s (p + i / 8), ← lows.value, ← e))
+      joined_reads _ _ (i % 8) (omega arith) lows.small
+      ∙ sym (bits_number_lem s small p 64 i 9 (omega arith) ∙ rw (number_nine s (p + i / 8), ← lows.value, ← e))
 
   -- the two parts do not overlap
   pub word_fits : (high : ℕ) → low / 2 ^ (i % 8) + high * 2 ^ (64 - i % 8) % 2 ^ 64 < 2 ^ 64
-  word_fits high = rw (joined-reads low high (i % 8) (omega arith) lows.small) (mod-lt _ (pow_pos 64))
+  word_fits high = rw (joined_reads low high (i % 8) (omega arith) lows.small) (mod-lt _ (pow_pos 64))
 
 -- Two words are the same where all their pairs of bits are.
 pub same_test : (a b c d : ℕ) → (a ≡ b → c ≡ d) → (c ≡ d → a ≡ b) → eqb a b ≡ eqb c d

@@ -41,10 +41,10 @@ pub record Spans (a b : List ℕ) (k l i j n : ℕ) : Type 0 where
   pub same : element_width a k ≡ element_width b l
   pub left : (h : ℕ) → i ≤ h → h < i + n → element_at a k h ≤ element_at a k (suc h)
   pub right : (h : ℕ) → j ≤ h → h < j + n → element_at b l h ≤ element_at b l (suc h)
-  pub left-small : i + n < 2 ^ 34
-  pub right-small : j + n < 2 ^ 34
-  pub left-inside : element_place a k i + (n + 1) * element_width a k ≤ length a
-  pub right-inside : element_place b l j + (n + 1) * element_width b l ≤ length b
+  pub left_small : i + n < 2 ^ 34
+  pub right_small : j + n < 2 ^ 34
+  pub left_inside : element_place a k i + (n + 1) * element_width a k ≤ length a
+  pub right_inside : element_place b l j + (n + 1) * element_width b l ≤ length b
 
 -- n numbers of 4 or 8 bytes each from number i on of those from a place on, inside the image and none below x
 pub record Above (s : List ℕ) (p w x i n : ℕ) : Type 0 where
@@ -68,13 +68,13 @@ pub record RunParts (a b : List ℕ) (k l s t n i j : ℕ) : Type 0 where
   pub some : 0 < n
   pub left : RunPart a k (s + (n - 1))
   pub right : RunPart b l (t + (n - 1))
-  pub left-first : i ≡ run_at a k s
-  pub right-first : j ≡ run_at b l t
+  pub left_first : i ≡ run_at a k s
+  pub right_first : j ≡ run_at b l t
 
 -- their last elements lie in runs i + m and j + m, and the runs before these end equally far from s and t
 pub record Together (a b : List ℕ) (k l s t n i j m : ℕ) : Type 0 where
-  pub left-last : i + m ≡ run_at a k (s + (n - 1))
-  pub right-last : j + m ≡ run_at b l (t + (n - 1))
+  pub left_last : i + m ≡ run_at a k (s + (n - 1))
+  pub right_last : j + m ≡ run_at b l (t + (n - 1))
   pub ends : (q : ℕ) → q < m → run_end_at a k (i + q) + t ≡ run_end_at b l (j + q) + s
 
 -- n elements of each of two fixed-width nodes of one width
@@ -105,5 +105,5 @@ pub record LeavesAt (a b : List ℕ) (k l : ℕ) (r : Leaves) : Type 0 where
   pub texts : r.texts ≡ true → layout_of (code_of a k) ≡ VariableSize
   pub left : r.fixed || r.texts ≡ true → Leaf a k r.width r.left
   pub right : r.fixed || r.texts ≡ true → Leaf b l r.width r.right
-  pub left-text : r.texts ≡ true → r.left_text ≡ buffer_place a k 1
-  pub right-text : r.texts ≡ true → r.right_text ≡ buffer_place b l 1
+  pub left_text : r.texts ≡ true → r.left_text ≡ buffer_place a k 1
+  pub right_text : r.texts ≡ true → r.right_text ≡ buffer_place b l 1

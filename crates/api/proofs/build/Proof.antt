@@ -3,7 +3,7 @@
 use mathlib.Core.Path.{sym, ◌∙◌}
 use borrow.Author.Tests.{not-true, not-false}
 use borrow.Author.Rules.{rules}
-use Rattle.api.proofs.Builds.{build-refused, build_unreadable, build-rows}
+use Rattle.api.proofs.Builds.{build_refused, build_unreadable, build_rows}
 use Rattle.api.proofs.build.Statement.{statement}
 use Rattle.api.proofs.build.Tie as tie
 
@@ -14,7 +14,7 @@ enum-known-checked : tie.Need-enum-known-checked
 enum-known-checked c = search rules
 
 returns : tie.Need-returns
-returns c = build-refused _ _ _ _ (sym c.before.before.before.check.ensures ∙ c.before.checked.given.1)
+returns c = build_refused _ _ _ _ (sym c.before.before.before.check.ensures ∙ c.before.checked.given.1)
 
 enum_told : tie.Need-enum-told
 enum_told c = search rules
@@ -32,7 +32,7 @@ same_length : tie.Need-same-length
 same_length c = search rules
 
 returns-3 : tie.Need-returns-3
-returns-3 c = build-rows _ _ _ _ (sym c.before.before.before.before.before.before.before.before.check.ensures ∙ c.before.before.before.before.before.before.enum_told.given.1) (sym c.before.before.before.before.before.is-readable.ensures ∙ not-false _ c.before.before.before.before.if1.false) c.before.before.build.ensures
+returns-3 c = build_rows _ _ _ _ (sym c.before.before.before.before.before.before.before.before.check.ensures ∙ c.before.before.before.before.before.before.enum_told.given.1) (sym c.before.before.before.before.before.is-readable.ensures ∙ not-false _ c.before.before.before.before.if1.false) c.before.before.build.ensures
 
 pub build-spec : {M : Type 1} → statement M
 build-spec =

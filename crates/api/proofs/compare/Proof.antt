@@ -1,7 +1,7 @@
 -- The answer is the comparison's: a refusal of the left image, or what follows.
 -- By the laws of the answers from what the callees give.
 use mathlib.Core.Path.{sym, ◌∙◌}
-use Rattle.api.proofs.Answers.{compare-left}
+use Rattle.api.proofs.Answers.{compare_left}
 use borrow.Author.Rules.{rules}
 use Rattle.api.proofs.compare.Statement.{statement}
 use Rattle.api.proofs.compare.Tie as tie
@@ -19,10 +19,10 @@ compare-right-requires : tie.Need-compare-right-requires
 compare-right-requires c κs = sym c.before.before.check.ensures ∙ c.enum_told.given.1
 
 returns : tie.Need-returns
-returns c = c.compare-right.ensures
+returns c = c.compare_right.ensures
 
 returns-2 : tie.Need-returns-2
-returns-2 c = compare-left _ _ (sym c.before.before.before.check.ensures ∙ c.before.checked.given.1)
+returns-2 c = compare_left _ _ (sym c.before.before.before.check.ensures ∙ c.before.checked.given.1)
 
 pub compare-spec : {M : Type 1} → statement M
 compare-spec =

@@ -2,7 +2,7 @@
 -- By the laws of the answers from what the callees give.
 use mathlib.Core.Path.{sym, ◌∙◌}
 use borrow.Author.Tests.{not-true, not-false}
-use Rattle.api.proofs.Answers.{whole_sides, compare_no, compare-rows}
+use Rattle.api.proofs.Answers.{whole_sides, compare_no, compare_rows}
 use borrow.Author.Rules.{rules}
 use Rattle.api.proofs.compare_accepted.Statement.{statement}
 use Rattle.api.proofs.compare_accepted.Tie as tie
@@ -23,7 +23,7 @@ yes-or-no-requires : tie.Need-yes-or-no-requires
 yes-or-no-requires c κs = search rules
 
 returns-2 : tie.Need-returns-2
-returns-2 c = compare-rows _ _ (sym c.before.before.before.before.base-equal.ensures ∙ not-false _ c.before.before.before.if1.false) c.before.before.length.ensures.value c.before.equal-range.ensures c.yes_or_no.ensures
+returns-2 c = compare_rows _ _ (sym c.before.before.before.before.base-equal.ensures ∙ not-false _ c.before.before.before.if1.false) c.before.before.length.ensures.value c.before.equal-range.ensures c.yes_or_no.ensures
 
 pub compare-accepted-spec : {M : Type 1} → statement M
 compare-accepted-spec =

@@ -1,7 +1,7 @@
 -- The answer is that a range exceeds its table, or whether the rows are equal.
 -- By the variants of what the ranges are.
 use mathlib.Core.Path.{sym, ◌∙◌}
-use Rattle.api.proofs.Answers.{range_sides, range-rows}
+use Rattle.api.proofs.Answers.{range_sides, range_rows}
 use borrow.Author.Rules.{rules}
 use Rattle.api.proofs.compare_agreed.Statement.{statement}
 use Rattle.api.proofs.compare_agreed.Tie as tie
@@ -25,7 +25,7 @@ returns : tie.Need-returns
 returns c = rw (← c.before.before.before.bounds_of.ensures, c.before.bounds.given.1)
 
 returns-2 : tie.Need-returns-2
-returns-2 c = rw (← c.before.before.before.before.bounds_of.ensures, c.before.before.enum_told.given.1) (range-rows _ _ _ _ _ c.before.equal-range.ensures c.yes_or_no.ensures)
+returns-2 c = rw (← c.before.before.before.before.bounds_of.ensures, c.before.before.enum_told.given.1) (range_rows _ _ _ _ _ c.before.equal-range.ensures c.yes_or_no.ensures)
 
 pub compare-agreed-spec : {M : Type 1} → statement M
 compare-agreed-spec =

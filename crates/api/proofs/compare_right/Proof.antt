@@ -1,7 +1,7 @@
 -- The answer is the comparison's: a refusal of the right image, or what follows.
 -- By the laws of the answers from what the callees give.
 use mathlib.Core.Path.{sym, ◌∙◌}
-use Rattle.api.proofs.Answers.{compare-right, compare_both}
+use Rattle.api.proofs.Answers.{compare_right, compare_both}
 use borrow.Author.Rules.{rules}
 use Rattle.api.proofs.compare_right.Statement.{statement}
 use Rattle.api.proofs.compare_right.Tie as tie
@@ -22,7 +22,7 @@ returns : tie.Need-returns
 returns c = compare_both _ _ c.before.before.before.before.before.before.requires (sym c.before.before.before.check.ensures ∙ c.before.enum_told.given.1) c.compare-accepted.ensures
 
 returns-2 : tie.Need-returns-2
-returns-2 c = compare-right _ _ c.before.before.before.before.before.before.requires (sym c.before.before.before.check.ensures ∙ c.before.checked.given.1)
+returns-2 c = compare_right _ _ c.before.before.before.before.before.before.requires (sym c.before.before.before.check.ensures ∙ c.before.checked.given.1)
 
 pub compare-right-spec : {M : Type 1} → statement M
 compare-right-spec =

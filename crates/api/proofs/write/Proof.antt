@@ -2,7 +2,7 @@
 -- By the laws of a write's answers from what the callees give.
 use mathlib.Core.Path.{sym, ◌∙◌}
 use Rattle.accepted.proofs.Columns.{none_remembered}
-use Rattle.api.proofs.Writes.{table-side, write-refused, write_out_of_range, write_too_long, write-fits, write_bytes}
+use Rattle.api.proofs.Writes.{table_side, write_refused, write_out_of_range, write_too_long, write_fits, write_bytes}
 use borrow.Author.Rules.{rules}
 use Rattle.api.proofs.write.Statement.{statement}
 use Rattle.api.proofs.write.Tie as tie
@@ -14,7 +14,7 @@ enum-known-checked : tie.Need-enum-known-checked
 enum-known-checked c = search rules
 
 returns : tie.Need-returns
-returns c = write-refused _ _ _ _ (sym c.before.before.before.check.ensures ∙ c.before.checked.given.1)
+returns c = write_refused _ _ _ _ (sym c.before.before.before.check.ensures ∙ c.before.checked.given.1)
 
 enum_told : tie.Need-enum-told
 enum_told c = search rules
@@ -29,7 +29,7 @@ slice-aggregate-measure-rows : tie.Need-slice-aggregate-measure-rows
 slice-aggregate-measure-rows c = search rules
 
 measure-rows-requires : tie.Need-measure-rows-requires
-measure-rows-requires c κs = (table-side _ _ _ (sym c.before.before.before.before.before.check.ensures ∙ c.before.before.before.enum_told.given.1) (sym c.before.before.out_of_range.ensures ∙ c.before.if1.false), none_remembered _)
+measure-rows-requires c κs = (table_side _ _ _ (sym c.before.before.before.before.before.check.ensures ∙ c.before.before.before.enum_told.given.1) (sym c.before.before.out_of_range.ensures ∙ c.before.if1.false), none_remembered _)
 
 enum-known-rest : tie.Need-enum-known-rest
 enum-known-rest c = search rules
@@ -44,7 +44,7 @@ slice-aggregate-write-rows : tie.Need-slice-aggregate-write-rows
 slice-aggregate-write-rows c = search rules
 
 write-rows-requires : tie.Need-write-rows-requires
-write-rows-requires c κs = (table-side _ _ _ (sym c.before.before.before.before.before.before.before.before.before.before.before.before.check.ensures ∙ c.before.before.before.before.before.before.before.before.before.before.enum_told.given.1) (sym c.before.before.before.before.before.before.before.before.before.out_of_range.ensures ∙ c.before.before.before.before.before.before.before.before.if1.false), (c.before.before.before.before.before.before.measure-rows.ensures.1, write-fits _ _ _ _ (sym c.before.before.before.before.before.before.before.before.before.before.before.before.check.ensures ∙ c.before.before.before.before.before.before.before.before.before.before.enum_told.given.1) (sym c.before.before.before.before.before.before.measure-rows.ensures.0 ∙ c.before.before.before.rest.given.1)))
+write-rows-requires c κs = (table_side _ _ _ (sym c.before.before.before.before.before.before.before.before.before.before.before.before.check.ensures ∙ c.before.before.before.before.before.before.before.before.before.before.enum_told.given.1) (sym c.before.before.before.before.before.before.before.before.before.out_of_range.ensures ∙ c.before.before.before.before.before.before.before.before.if1.false), (c.before.before.before.before.before.before.measure-rows.ensures.1, write_fits _ _ _ _ (sym c.before.before.before.before.before.before.before.before.before.before.before.before.check.ensures ∙ c.before.before.before.before.before.before.before.before.before.before.enum_told.given.1) (sym c.before.before.before.before.before.before.measure-rows.ensures.0 ∙ c.before.before.before.rest.given.1)))
 
 same_length : tie.Need-same-length
 same_length c = search rules

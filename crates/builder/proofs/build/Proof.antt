@@ -1,7 +1,7 @@
 -- `build` answers what the rows are, and puts their image where it fits.
 -- The string is no rows, or the plan answers; the image is then laid out as rows make it.
 use mathlib.Core.Path.{sym, refl, ◌∙◌}
-use Rattle.builder.proofs.Tables.{build_not_rows, build_too_long, build_laid, build-bytes}
+use Rattle.builder.proofs.Tables.{build_not_rows, build_too_long, build_laid, build_bytes}
 use native.Mathlib.Omega.{arith}
 use borrow.Author.Tests.{not-true, not-false}
 use borrow.Author.Rules.{rules}
@@ -60,7 +60,7 @@ same_length : tie.Need-same-length
 same_length c = search rules
 
 returns-3 : tie.Need-returns-3
-returns-3 c = build-bytes _ _ _ _ c.before.before.before.before.before.before.before.before.before.before.before.before.before.before.before.before.before.before.before.before.before.before.before.before.before.requires (λ k. omega (arith, c.before.before.before.before.before.before.before.before.before.before.before.before.before.before.before.before.before.before.before.before.before.before.before.shared-slice-known2.given k)) (sym c.before.before.before.before.before.before.before.before.before.before.before.before.before.before.before.before.before.before.before.before.is-rows.ensures.0 ∙ not-false _ c.before.before.before.before.before.before.before.before.before.before.before.before.before.before.before.before.before.before.if1.false) c.before.before.before.before.before.before.before.before.before.before.before.before.before.before.before.before.before.before.before.before.is-rows.ensures.1 c.before.before.before.before.before.before.before.before.before.before.before.before.before.before.before.lengths-of.ensures (sym c.before.before.before.before.before.before.before.size.given.1 ∙ c.before.before.before.before.before.before.before.before.before.before.plan.ensures.answer) c.before.before.put-table.ensures
+returns-3 c = build_bytes _ _ _ _ c.before.before.before.before.before.before.before.before.before.before.before.before.before.before.before.before.before.before.before.before.before.before.before.before.before.requires (λ k. omega (arith, c.before.before.before.before.before.before.before.before.before.before.before.before.before.before.before.before.before.before.before.before.before.before.before.shared-slice-known2.given k)) (sym c.before.before.before.before.before.before.before.before.before.before.before.before.before.before.before.before.before.before.before.before.is-rows.ensures.0 ∙ not-false _ c.before.before.before.before.before.before.before.before.before.before.before.before.before.before.before.before.before.before.if1.false) c.before.before.before.before.before.before.before.before.before.before.before.before.before.before.before.before.before.before.before.before.is-rows.ensures.1 c.before.before.before.before.before.before.before.before.before.before.before.before.before.before.before.lengths-of.ensures (sym c.before.before.before.before.before.before.before.size.given.1 ∙ c.before.before.before.before.before.before.before.before.before.before.plan.ensures.answer) c.before.before.put-table.ensures
 
 pub build-spec : {M : Type 1} → statement M
 build-spec =

@@ -7,7 +7,7 @@ use Rattle.builder.proofs.put_table.Statement.{statement}
 use Rattle.builder.proofs.put_table.Tie as tie
 
 put-front-requires : tie.Need-put-front-requires
-put-front-requires c κs = ((c.before.before.before.before.before.before.requires.accepted, c.before.before.before.before.before.before.requires.coded), ((laid_rise c.before.before.before.before.before.before.requires, c.before.before.before.before.before.before.requires.lengths-sized), laid_front c.before.before.before.before.before.before.requires))
+put-front-requires c κs = ((c.before.before.before.before.before.before.requires.accepted, c.before.before.before.before.before.before.requires.coded), ((laid_rise c.before.before.before.before.before.before.requires, c.before.before.before.before.before.before.requires.lengths_sized), laid_front c.before.before.before.before.before.before.requires))
 
 clear-requires : tie.Need-clear-requires
 clear-requires c κs = laid_clear c.before.before.before.before.before.before.before.before.before.before.requires c.before.before.before.put_front.ensures

@@ -1,6 +1,6 @@
 -- The number is that of the answer of the call that builds a table, and the buffer is what the call leaves.
 -- By the contracts of the call and of the number; an image that is built is no longer than images are.
-use Rattle.answers.proofs.Values.{built-small}
+use Rattle.answers.proofs.Values.{built_small}
 use borrow.Author.Rules.{rules}
 use Rattle.calls_c.proofs.editions_build.Statement.{statement}
 use Rattle.calls_c.proofs.editions_build.Tie as tie
@@ -12,7 +12,7 @@ built-numbers-requires : tie.Need-built-numbers-requires
 built-numbers-requires c κs = search rules
 
 pack-requires : tie.Need-pack-requires
-pack-requires c κs = rw c.built-numbers.ensures (built-small _ _ _ _ c.before.before.before.build.ensures.0)
+pack-requires c κs = rw c.built-numbers.ensures (built_small _ _ _ _ c.before.before.before.build.ensures.0)
 
 same_length : tie.Need-same-length
 same_length c = search rules

@@ -1,6 +1,6 @@
 -- The number is that of the answer of the comparison at fewer digits.
 -- By the contracts of the comparison and of the number.
-use Rattle.answers.proofs.Values.{digits-small}
+use Rattle.answers.proofs.Values.{digits_small}
 use borrow.Author.Rules.{rules}
 use Rattle.calls_c.proofs.editions_compare_digits.Statement.{statement}
 use Rattle.calls_c.proofs.editions_compare_digits.Tie as tie
@@ -12,7 +12,7 @@ digits-numbers-requires : tie.Need-digits-numbers-requires
 digits-numbers-requires c κs = search rules
 
 pack-requires : tie.Need-pack-requires
-pack-requires c κs = rw c.digits-numbers.ensures (digits-small c.before.compare-digits.result)
+pack-requires c κs = rw c.digits-numbers.ensures (digits_small c.before.compare-digits.result)
 
 returns : tie.Need-returns
 returns c = rw (← c.before.before.compare-digits.ensures, ← c.before.digits-numbers.ensures) c.pack.ensures

@@ -4,8 +4,8 @@ use mathlib.Core.Path.{sym, ◌∙◌}
 use Prim.Native.Nat.{◌-◌}
 use borrow.Author.Tests.{not-true, not-false}
 use Rattle.equal.proofs.Nulls.{sides_left, sides_right}
-use Rattle.values.proofs.Steps.{Passed, passed_none, passed-more}
-use Rattle.difference.proofs.Search.{block_within, same_rows, all-rows, rows_said, rows-nowhere, row_inside, row-found, sides_inside}
+use Rattle.values.proofs.Steps.{Passed, passed_none, passed_more}
+use Rattle.difference.proofs.Search.{block_within, same_rows, all_rows_lem, rows_said, rows_nowhere, row_inside, row_found, sides_inside}
 use Prim.Native.Nat.{◌-◌}
 use native.Mathlib.Omega.{arith}
 use Rattle.difference.proofs.first_difference.Statement.{statement}
@@ -42,13 +42,13 @@ add-first-unequal-row-2 : tie.Need-overflow-add-first-unequal-row-2 invariant-lo
 add-first-unequal-row-2 c = omega (arith, c.before.before.before.loop-test.true, sides_right c.before.before.before.before.before.before.before.requires)
 
 first-unequal-row-requires : tie.Need-first-unequal-row-requires invariant-loop decreases-loop
-first-unequal-row-requires c κs = (sides_inside c.before.before.before.before.before.before.before.requires _ _ (omega (arith, c.before.before.before.loop-test.true, c.before.before.block.ensures)), sym (all-rows _ _ _ _ _) ∙ rows_said _ _ _ _ _ c.before.equal-range.ensures (not-true _ c.if1.true))
+first-unequal-row-requires c κs = (sides_inside c.before.before.before.before.before.before.before.requires _ _ (omega (arith, c.before.before.before.loop-test.true, c.before.before.block.ensures)), sym (all_rows_lem _ _ _ _ _) ∙ rows_said _ _ _ _ _ c.before.equal-range.ensures (not-true _ c.if1.true))
 
 add-result : tie.Need-overflow-add-result invariant-loop decreases-loop
 add-result c = omega (arith, c.before.before.before.before.loop-test.true, c.before.before.before.block.ensures, sides_left c.before.before.before.before.before.before.before.before.requires, row_inside _ _ _ _ _ (block_within _ _ c.before.before.before.block.ensures) c.before.before.before.before.before.loop.invariant (rows_said _ _ _ _ _ c.before.before.equal-range.ensures (not-true _ c.before.if1.true)) c.first-unequal-row.ensures)
 
 returns : tie.Need-returns invariant-loop decreases-loop
-returns c = row-found _ _ _ _ _ (block_within _ _ c.before.before.before.block.ensures) c.before.before.before.before.before.loop.invariant (rows_said _ _ _ _ _ c.before.before.equal-range.ensures (not-true _ c.before.if1.true)) c.first-unequal-row.ensures
+returns c = row_found _ _ _ _ _ (block_within _ _ c.before.before.before.block.ensures) c.before.before.before.before.before.loop.invariant (rows_said _ _ _ _ _ c.before.before.equal-range.ensures (not-true _ c.before.if1.true)) c.first-unequal-row.ensures
 
 add-k : tie.Need-overflow-add-k invariant-loop decreases-loop
 add-k c = omega (arith, c.before.before.before.loop-test.true, c.before.before.block.ensures, sides_left c.before.before.before.before.before.before.before.requires)
@@ -57,10 +57,10 @@ loop-less : tie.Need-loop-smaller invariant-loop decreases-loop
 loop-less c = omega (arith, c.before.before.before.loop-test.true, c.before.before.block.ensures)
 
 loop-again : tie.Need-loop-preserved invariant-loop decreases-loop
-loop-again c = passed-more _ _ _ _ _ _ (block_within _ _ c.before.before.block.ensures) c.before.before.before.before.loop.invariant (rows_said _ _ _ _ _ c.before.equal-range.ensures (not-false _ c.if1.false))
+loop-again c = passed_more _ _ _ _ _ _ (block_within _ _ c.before.before.block.ensures) c.before.before.before.before.loop.invariant (rows_said _ _ _ _ _ c.before.equal-range.ensures (not-false _ c.if1.false))
 
 returns-2 : tie.Need-returns-2 invariant-loop decreases-loop
-returns-2 c = rows-nowhere _ _ _ _ _ _ c.loop-test.false c.before.loop.invariant
+returns-2 c = rows_nowhere _ _ _ _ _ _ c.loop-test.false c.before.loop.invariant
 
 pub first-difference-spec : {M : Type 1} → statement M
 first-difference-spec =

@@ -4,7 +4,7 @@ use mathlib.Core.Path.{◌∙◌}
 use mathlib.Core.Logic.{⊎_elim}
 use Prim.Native.Nat.{◌-◌}
 use Rattle.equal.proofs.Nulls.{sides_left, sides_right}
-use Rattle.difference.proofs.Search.{Between, between_up, between_down, between_none, same_rows, first-row, rows_said, rows-between, nulls-between, sides_inside}
+use Rattle.difference.proofs.Search.{Between, between_up, between_down, between_none, same_rows, first_row, rows_said, rows_between, nulls_between, sides_inside}
 use Prim.Native.Nat.{◌-◌}
 use native.Mathlib.Omega.{arith}
 use Rattle.difference.proofs.first_unequal_row.Statement.{statement}
@@ -23,7 +23,7 @@ add-high : tie.Need-overflow-add-high invariant-loop decreases-loop
 add-high c = omega (arith, c.if1.true, sides_left c.before.before.before.before.requires.0)
 
 loop-holds : tie.Need-loop-init invariant-loop decreases-loop
-loop-holds c = ⊎_elim (λ null. rw null.1 (nulls-between c.before.before.before.before.requires.0 c.before.first-unequal-null.ensures null.0.taken)) (λ none. rw none.1 (rows-between _ _ _ _ _ c.before.before.before.before.requires.1)) c.if1.branch
+loop-holds c = ⊎_elim (λ null. rw null.1 (nulls_between c.before.before.before.before.requires.0 c.before.first-unequal-null.ensures null.0.taken)) (λ none. rw none.1 (rows_between _ _ _ _ _ c.before.before.before.before.requires.1)) c.if1.branch
 
 sub-loop : tie.Need-overflow-sub-loop invariant-loop decreases-loop
 sub-loop c = omega (arith, c.loop.invariant.below)
@@ -59,7 +59,7 @@ loop-again-2 : tie.Need-loop-preserved-2 invariant-loop decreases-loop
 loop-again-2 c = between_down _ _ _ _ c.before.before.before.before.loop.invariant (omega (arith, c.before.before.before.loop-test.true)) (omega (arith, c.before.before.before.loop-test.true)) (rows_said _ _ _ _ _ c.before.equal-range.ensures c.if2.false)
 
 returns : tie.Need-returns invariant-loop decreases-loop
-returns c = between_none _ _ _ _ c.before.loop.invariant (omega (arith, c.loop-test.false)) ∙ first-row _ _ _ _ _
+returns c = between_none _ _ _ _ c.before.loop.invariant (omega (arith, c.loop-test.false)) ∙ first_row _ _ _ _ _
 
 pub first-unequal-row-spec : {M : Type 1} → statement M
 first-unequal-row-spec =

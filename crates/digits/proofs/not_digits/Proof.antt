@@ -1,6 +1,6 @@
 -- `not_digits` tells whether the comparison at fewer digits is refused by 22.
 -- By the tests on the way.
-use Rattle.digits.proofs.Agreeing.{too_many_lem, is-decimal32, else_decimal64}
+use Rattle.digits.proofs.Agreeing.{too_many_lem, is_decimal32, else_decimal64}
 use borrow.Author.Rules.{rules}
 use Rattle.digits.proofs.not_digits.Statement.{statement}
 use Rattle.digits.proofs.not_digits.Tie as tie
@@ -12,7 +12,7 @@ code-requires : tie.Need-code-requires
 code-requires c κs = search rules
 
 returns-2 : tie.Need-returns-2
-returns-2 c = is-decimal32 _ _ c.before.before.if1.false c.before.code.ensures c.if2.true
+returns-2 c = is_decimal32 _ _ c.before.before.if1.false c.before.code.ensures c.if2.true
 
 returns-3 : tie.Need-returns-3
 returns-3 c = else_decimal64 _ _ c.before.before.if1.false c.before.code.ensures c.if2.false

@@ -3,8 +3,8 @@
 -- A chunk that was read is to come; each turn takes from it, until nothing of it is left.
 use Rattle.session.specs.declared.turn.Taken.{Taken}
 use Rattle.session.specs.Turns.{Reader, turn_of, held_in, Lent, Turned}
-use Rattle.session.proofs.Reading.{Read, read-start, read_chunk, read_turn, read_on}
-use Rattle.session.proofs.Takes.{told-within, turned_forward}
+use Rattle.session.proofs.Reading.{Read, read_start, read_chunk, read_turn, read_on}
+use Rattle.session.proofs.Takes.{told_within, turned_forward}
 use mathlib.Core.List.{List, []}
 use mathlib.Core.Path.{◌≡◌, sym}
 use Prim.Native.Nat.{ℕ, ◌-◌, ◌<◌, ◌≤◌}
@@ -44,7 +44,7 @@ start-requires : tie.Need-start-requires invariant-loop2 decreases-loop2 invaria
 start-requires c κs = search rules
 
 loop-holds : tie.Need-loop-init invariant-loop2 decreases-loop2 invariant-loop decreases-loop
-loop-holds c = (search rules, read-start _ _ c.start.ensures)
+loop-holds c = (search rules, read_start _ _ c.start.ensures)
 
 sub-turns : tie.Need-overflow-sub-turns invariant-loop2 decreases-loop2 invariant-loop decreases-loop
 sub-turns c = search rules
@@ -68,10 +68,10 @@ end_requires : tie.Need-end-requires invariant-loop2 decreases-loop2 invariant-l
 end_requires c κs = search rules
 
 array-share-prefix-text : tie.Need-array-share-prefix-text invariant-loop2 decreases-loop2 invariant-loop decreases-loop
-array-share-prefix-text c = told-within _ _ _ _ _ c.end.ensures
+array-share-prefix-text c = told_within _ _ _ _ _ c.end.ensures
 
 slice-aggregate-write-all : tie.Need-slice-aggregate-write-all invariant-loop2 decreases-loop2 invariant-loop decreases-loop
-slice-aggregate-write-all c = sym (length-take-le _ _ (told-within _ _ _ _ _ c.before.end.ensures))
+slice-aggregate-write-all c = sym (length-take-le _ _ (told_within _ _ _ _ _ c.before.end.ensures))
 
 write-all-requires : tie.Need-write-all-requires invariant-loop2 decreases-loop2 invariant-loop decreases-loop
 write-all-requires c κs = search rules
@@ -98,11 +98,11 @@ turn-requires : tie.Need-turn-requires invariant-loop2 decreases-loop2 invariant
 turn-requires c κs = search rules
 
 array-share-prefix-text-2 : tie.Need-array-share-prefix-text-2 invariant-loop2 decreases-loop2 invariant-loop decreases-loop
-array-share-prefix-text-2 c = told-within _ _ _ _ _ c.turn.ensures.told
+array-share-prefix-text-2 c = told_within _ _ _ _ _ c.turn.ensures.told
 
 slice-aggregate-write-all-2 :
     tie.Need-slice-aggregate-write-all-2 invariant-loop2 decreases-loop2 invariant-loop decreases-loop
-slice-aggregate-write-all-2 c = sym (length-take-le _ _ (told-within _ _ _ _ _ c.before.turn.ensures.told))
+slice-aggregate-write-all-2 c = sym (length-take-le _ _ (told_within _ _ _ _ _ c.before.turn.ensures.told))
 
 write-all-requires-2 : tie.Need-write-all-requires-2 invariant-loop2 decreases-loop2 invariant-loop decreases-loop
 write-all-requires-2 c κs = search rules

@@ -2,7 +2,7 @@
 -- By the contracts of the write and of the number, over the part of the buffer that is lent.
 use native.Mathlib.Omega.{arith}
 use lib.ListN.{length-take}
-use Rattle.editions_c.proofs.Outputs.{lent-used, lent-small, lent_output}
+use Rattle.editions_c.proofs.Outputs.{lent_used, lent_small, lent_output}
 use borrow.Author.Rules.{rules}
 use Rattle.editions_c.proofs.editions_write.Statement.{statement}
 use Rattle.editions_c.proofs.editions_write.Tie as tie
@@ -23,13 +23,13 @@ written-numbers-requires : tie.Need-written-numbers-requires
 written-numbers-requires c κs = search rules
 
 pack-requires : tie.Need-pack-requires
-pack-requires c κs = rw c.written-numbers.ensures (lent-small _ _ _ _ c.before.before.before.before.before.used-length.ensures c.before.before.before.write.ensures.0)
+pack-requires c κs = rw c.written-numbers.ensures (lent_small _ _ _ _ c.before.before.before.before.before.used-length.ensures c.before.before.before.write.ensures.0)
 
 same_length : tie.Need-same-length
 same_length c = search rules
 
 returns : tie.Need-returns
-returns c = (rw (← lent-used _ c.before.before.before.before.before.before.used-length.ensures, ← c.before.before.before.before.write.ensures.0, ← c.before.written-numbers.ensures) c.pack.ensures, lent_output _ _ _ _ c.before.before.before.before.before.before.used-length.ensures c.before.before.before.before.write.ensures.1)
+returns c = (rw (← lent_used _ c.before.before.before.before.before.before.used-length.ensures, ← c.before.before.before.before.write.ensures.0, ← c.before.written-numbers.ensures) c.pack.ensures, lent_output _ _ _ _ c.before.before.before.before.before.before.used-length.ensures c.before.before.before.before.write.ensures.1)
 
 pub editions-write-spec : {M : Type 1} → statement M
 editions-write-spec =

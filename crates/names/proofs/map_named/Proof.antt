@@ -28,7 +28,7 @@ is-named-requires c κs = search rules
 
 returns-2 : tie.Need-returns-2
 unfolding map_named named ascii
-returns-2 c = rw (← c.before.before.before.before.before.before.code.ensures.value, eq-eqb _ 42 c.before.before.before.before.before.if1.false, ← c.before.before.before.before.first-child.ensures.value, ← c.before.before.before.first-child2.ensures.value, ← c.before.is-named.ensures, not-true c.before.is-named.result c.if2.true)
+returns-2 c = rw (← c.before.before.before.before.before.before.code.ensures.value, eq-eqb _ 42 c.before.before.before.before.before.if1.false, ← c.before.before.before.before.first_child_lem.ensures.value, ← c.before.before.before.first-child2.ensures.value, ← c.before.is-named.ensures, not-true c.before.is-named.result c.if2.true)
 
 slice-aggregate-is-named-2 : tie.Need-slice-aggregate-is-named-2
 slice-aggregate-is-named-2 c = search rules
@@ -38,7 +38,7 @@ is-named-requires-2 c κs = search rules
 
 returns-3 : tie.Need-returns-3
 unfolding map_named named ascii
-returns-3 c = rw (← c.before.before.before.before.before.before.before.before.before.code.ensures.value, eq-eqb _ 42 c.before.before.before.before.before.before.before.before.if1.false, ← c.before.before.before.before.before.before.before.first-child.ensures.value, ← c.before.before.before.before.before.before.first-child2.ensures.value, ← c.before.before.before.before.is-named.ensures, not-false c.before.before.before.before.is-named.result c.before.before.before.if2.false, ← c.before.is-named2.ensures, not-true c.before.is-named2.result c.if3.true)
+returns-3 c = rw (← c.before.before.before.before.before.before.before.before.before.code.ensures.value, eq-eqb _ 42 c.before.before.before.before.before.before.before.before.if1.false, ← c.before.before.before.before.before.before.before.first_child_lem.ensures.value, ← c.before.before.before.before.before.before.first-child2.ensures.value, ← c.before.before.before.before.is-named.ensures, not-false c.before.before.before.before.is-named.result c.before.before.before.if2.false, ← c.before.is-named2.ensures, not-true c.before.is-named2.result c.if3.true)
 
 add-is-named : tie.Need-overflow-add-is-named
 add-is-named c = search rules
@@ -51,7 +51,7 @@ is-named-requires-3 c κs = search rules
 
 returns-4 : tie.Need-returns-4
 unfolding map_named named ascii
-returns-4 c = rw (← c.before.before.before.before.before.before.before.before.before.before.before.code.ensures.value, eq-eqb _ 42 c.before.before.before.before.before.before.before.before.before.before.if1.false, ← c.before.before.before.before.before.before.before.before.before.first-child.ensures.value, ← c.before.before.before.before.before.before.before.before.first-child2.ensures.value, ← c.before.before.before.before.before.before.is-named.ensures, not-false c.before.before.before.before.before.before.is-named.result c.before.before.before.before.before.if2.false, ← c.before.before.before.is-named2.ensures, not-false c.before.before.before.is-named2.result c.before.before.if3.false, ← c.is-named3.ensures)
+returns-4 c = rw (← c.before.before.before.before.before.before.before.before.before.before.before.code.ensures.value, eq-eqb _ 42 c.before.before.before.before.before.before.before.before.before.before.if1.false, ← c.before.before.before.before.before.before.before.before.before.first_child_lem.ensures.value, ← c.before.before.before.before.before.before.before.before.first-child2.ensures.value, ← c.before.before.before.before.before.before.is-named.ensures, not-false c.before.before.before.before.before.before.is-named.result c.before.before.before.before.before.if2.false, ← c.before.before.before.is-named2.ensures, not-false c.before.before.before.is-named2.result c.before.before.if3.false, ← c.is-named3.ensures)
 
 pub map-named-spec : {M : Type 1} → statement M
 map-named-spec =

@@ -7,7 +7,7 @@ use borrow.Author.Rules.{rules}
 use borrow.Author.Tests.{not-true, not-false}
 use Rattle.image.specs.Ranges.{every}
 use Rattle.image.specs.MapNames.{map_named, maps_named}
-use Rattle.image.proofs.Loops.{Rest, rest-none, every_more, every_fails, every-done}
+use Rattle.image.proofs.Loops.{Rest, rest_none, every_more, every_fails, every_done}
 use Rattle.names.proofs.maps_named.Statement.{statement}
 use Rattle.names.proofs.maps_named.Tie as tie
 
@@ -21,7 +21,7 @@ node-count-requires : tie.Need-node-count-requires invariant-loop decreases-loop
 node-count-requires c κs = search rules
 
 loop-holds : tie.Need-loop-init invariant-loop decreases-loop
-loop-holds c = rest-none _ _ _
+loop-holds c = rest_none _ _ _
 
 map-named-requires : tie.Need-map-named-requires invariant-loop decreases-loop
 map-named-requires c κs = search rules
@@ -41,7 +41,7 @@ loop-again c = every_more _ _ _ _ c.before.before.loop-test.true c.before.before
 
 returns-2 : tie.Need-returns-2 invariant-loop decreases-loop
 unfolding maps_named
-returns-2 c = every-done _ _ _ _ c.loop-test.false c.before.loop.invariant ∙ rw (← c.before.before.node-count.ensures.value)
+returns-2 c = every_done _ _ _ _ c.loop-test.false c.before.loop.invariant ∙ rw (← c.before.before.node-count.ensures.value)
 
 pub maps-named-spec : {M : Type 1} → statement M
 maps-named-spec =

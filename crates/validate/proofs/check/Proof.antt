@@ -38,8 +38,8 @@ module _ {s : List ℕ} {number : ℕ} (l : Left s number) where
     found : node < n → Refused (record { number = number; node = node }) ≡ check_from (numbers_end - 11) 11 s
     found h = sym (l.same ∙ turn s number lt ∙ rw (← e, ← q, lt-ltb node n h))
 
-    left-more : n ≤ node → Left s (number + 1)
-    left-more h = record { within = omega arith; same = l.same ∙ turn s number lt ∙ rw (← e, ← q, le-ltb node n h) }
+    left_more : n ≤ node → Left s (number + 1)
+    left_more h = record { within = omega arith; same = l.same ∙ turn s number lt ∙ rw (← e, ← q, le-ltb node n h) }
 
   accepted : numbers_end ≤ number → Accepted ≡ check_from (numbers_end - 11) 11 s
   unfolding check_from
@@ -86,7 +86,7 @@ loop-less : tie.Need-loop-smaller invariant-loop decreases-loop
 loop-less c = search rules
 
 loop-again : tie.Need-loop-preserved invariant-loop decreases-loop
-loop-again c = (left-more c.before.before.before.loop.invariant.0 c.before.before.loop-test.true c.before.first-faulty.ensures.0 c.before.before.before.before.before.node-count.ensures.value c.if2.false, none_more c.before.before.before.loop.invariant.1 (rw (← c.before.before.before.before.before.node-count.ensures.value, ← c.before.first-faulty.ensures.0) c.if2.false), omega arith)
+loop-again c = (left_more c.before.before.before.loop.invariant.0 c.before.before.loop-test.true c.before.first-faulty.ensures.0 c.before.before.before.before.before.node-count.ensures.value c.if2.false, none_more c.before.before.before.loop.invariant.1 (rw (← c.before.before.before.before.before.node-count.ensures.value, ← c.before.first-faulty.ensures.0) c.if2.false), omega arith)
 
 returns-3 : tie.Need-returns-3 invariant-loop decreases-loop
 unfolding check_image

@@ -30,14 +30,14 @@ buffer-total-requires c κs = search rules
 
 returns-5 : tie.Need-returns-5
 unfolding fault10
-returns-5 c = rw (le-ltb _ _ c.before.before.before.before.before.before.if1.false, le-ltb _ _ c.before.before.before.before.before.if2.false, ← c.before.before.before.before.node-count.ensures.value, ne_eqb _ _ c.before.before.before.if3.false, le-ltb _ _ c.before.before.if4.false, ← c.before.buffer-total.ensures.value, lt-ltb _ _ c.if5.true)
+returns-5 c = rw (le-ltb _ _ c.before.before.before.before.before.before.if1.false, le-ltb _ _ c.before.before.before.before.before.if2.false, ← c.before.before.before.before.node-count.ensures.value, ne_eqb _ _ c.before.before.before.if3.false, le-ltb _ _ c.before.before.if4.false, ← c.before.buffers_total.ensures.value, lt-ltb _ _ c.if5.true)
 
 tables-end-requires : tie.Need-tables-end-requires
 tables-end-requires c κs = search rules
 
 returns-6 : tie.Need-returns-6
 unfolding fault10
-returns-6 c = rw (le-ltb _ _ c.before.before.before.before.before.before.before.if1.false, le-ltb _ _ c.before.before.before.before.before.before.if2.false, ← c.before.before.before.before.before.node-count.ensures.value, ne_eqb _ _ c.before.before.before.before.if3.false, le-ltb _ _ c.before.before.before.if4.false, ← c.before.before.buffer-total.ensures.value, le-ltb _ _ c.before.if5.false, ← c.tables-end.ensures.value)
+returns-6 c = rw (le-ltb _ _ c.before.before.before.before.before.before.before.if1.false, le-ltb _ _ c.before.before.before.before.before.before.if2.false, ← c.before.before.before.before.before.node-count.ensures.value, ne_eqb _ _ c.before.before.before.before.if3.false, le-ltb _ _ c.before.before.before.if4.false, ← c.before.before.buffers_total.ensures.value, le-ltb _ _ c.before.if5.false, ← c.tables-end.ensures.value)
 
 pub fault-10-spec : {M : Type 1} → statement M
 fault-10-spec =

@@ -6,7 +6,7 @@ use mathlib.Core.List.{List}
 use native.Mathlib.Nat.{zero-add}
 use Rattle.image.specs.Ranges.{first}
 use Rattle.image.specs.Faults.{fault, first_faulty}
-use Rattle.image.proofs.Loops.{Rest, rest-none, first_more, first_found, first_done}
+use Rattle.image.proofs.Loops.{Rest, rest_none, first_more, first_found, first_done}
 use Rattle.validate.specs.Walks.{Walks}
 use Prim.Native.Nat.{ℕ, ◌+◌, ◌-◌}
 use native.Mathlib.Omega.{arith}
@@ -27,7 +27,7 @@ node-count-requires : tie.Need-node-count-requires invariant-loop decreases-loop
 node-count-requires c κs = search rules
 
 loop-holds : tie.Need-loop-init invariant-loop decreases-loop
-loop-holds c = (rest-none _ _ _, c.before.before.requires.0)
+loop-holds c = (rest_none _ _ _, c.before.before.requires.0)
 
 has-fault-requires : tie.Need-has-fault-requires invariant-loop decreases-loop
 has-fault-requires c κs = (c.before.loop.invariant.1, (c.before.before.before.before.requires.1.0, c.before.before.before.before.requires.1.1, omega (arith, c.loop-test.true, c.before.before.node-count.ensures.value)))

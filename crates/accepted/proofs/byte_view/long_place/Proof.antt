@@ -1,6 +1,6 @@
 -- The place is that of a long view's bytes, and they lie inside.
 -- Acceptance says that the entry of its buffer lies inside, and that the buffer holds them.
-use Rattle.accepted.proofs.Views.{entry-inside, entry-small, shown_long}
+use Rattle.accepted.proofs.Views.{entry_inside, entry_small, shown_long}
 use native.Mathlib.Omega.{arith}
 use borrow.Author.Rules.{rules}
 use Rattle.accepted.proofs.byte_view.long_place.Statement.{statement}
@@ -19,10 +19,10 @@ mul-quad : tie.Need-overflow-mul-quad
 mul-quad c = search rules
 
 add-quad-2 : tie.Need-overflow-add-quad-2
-add-quad-2 c = omega (arith, entry-small c.before.before.requires.0 c.before.before.requires.1.0 c.before.before.requires.1.1 c.quad.ensures.value)
+add-quad-2 c = omega (arith, entry_small c.before.before.requires.0 c.before.before.requires.1.0 c.before.before.requires.1.1 c.quad.ensures.value)
 
 quad-requires-2 : tie.Need-quad-requires-2
-quad-requires-2 c κs = entry-inside c.before.before.requires.0 c.before.before.requires.1.0 c.before.before.requires.1.1 c.quad.ensures.value
+quad-requires-2 c κs = entry_inside c.before.before.requires.0 c.before.before.requires.1.0 c.before.before.requires.1.1 c.quad.ensures.value
 
 add-quad-3 : tie.Need-overflow-add-quad-3
 add-quad-3 c = search rules

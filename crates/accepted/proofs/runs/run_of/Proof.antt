@@ -24,7 +24,7 @@ length-requires : tie.Need-length-requires invariant-loop decreases-loop
 length-requires c κs = search rules
 
 loop-holds : tie.Need-loop-init invariant-loop decreases-loop
-loop-holds c = bisect_start c.before.before.before.before.requires c.before.first-child.ensures c.length.ensures
+loop-holds c = bisect_start c.before.before.before.before.requires c.before.first_child_lem.ensures c.length.ensures
 
 sub-middle : tie.Need-overflow-sub-middle invariant-loop decreases-loop
 sub-middle c = omega arith

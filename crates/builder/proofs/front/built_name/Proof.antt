@@ -12,11 +12,11 @@ name-length-requires c κs = search rules
 
 returns : tie.Need-returns
 unfolding built_name
-returns c = rw (is_eq c.before.name-length.ensures.value refl c.if1.true)
+returns c = rw (is_eq c.before.name_length_lem.ensures.value refl c.if1.true)
 
 returns-2 : tie.Need-returns-2
 unfolding built_name
-returns-2 c = rw (is_ne c.before.name-length.ensures.value refl c.if1.false) c.before.before.before.requires
+returns-2 c = rw (is_ne c.before.name_length_lem.ensures.value refl c.if1.false) c.before.before.before.requires
 
 pub built-name-spec : {M : Type 1} → statement M
 built-name-spec = tie.close (tie.spec name-length-requires returns returns-2)

@@ -2,7 +2,7 @@
 -- The loop keeps the entries that are still to be put.
 use Prim.Native.Nat.{◌-◌}
 use Rattle.image.specs.Record.{buffer_count}
-use Rattle.rows.proofs.Over.{PiecesToPut, pieces-start, pieces_fit, pieces_more, pieces-place, pieces-done}
+use Rattle.rows.proofs.Over.{PiecesToPut, pieces_start, pieces_fit, pieces_more, pieces_place, pieces_done}
 use Rattle.builder.specs.Front.{entry_from, entries_from}
 use native.Mathlib.Omega.{arith}
 use borrow.Author.Rules.{rules}
@@ -29,7 +29,7 @@ cast-n c = search rules
 
 loop-holds : tie.Need-loop-init invariant-loop decreases-loop
 unfolding entries_from
-loop-holds c = pieces-start _ _ _ c.before.before.before.before.requires.1.1
+loop-holds c = pieces_start _ _ _ c.before.before.before.before.requires.1.1
 
 add-put-entry : tie.Need-overflow-add-put-entry invariant-loop decreases-loop
 add-put-entry c = omega (arith, c.before.before.before.before.before.before.requires.0.1, c.before.before.before.before.before.before.requires.0.2, c.loop-test.true, c.before.before.buffer-count.ensures.small)
@@ -51,7 +51,7 @@ same_length c = c.before.loop.invariant.put.long
 
 returns : tie.Need-returns invariant-loop decreases-loop
 unfolding entries_from
-returns c = (pieces-place c.before.loop.invariant (omega (arith, c.loop-test.false, c.before.before.buffer-count.ensures.value)), pieces-done c.before.loop.invariant (omega (arith, c.loop-test.false, c.before.before.buffer-count.ensures.value)))
+returns c = (pieces_place c.before.loop.invariant (omega (arith, c.loop-test.false, c.before.before.buffer-count.ensures.value)), pieces_done c.before.loop.invariant (omega (arith, c.loop-test.false, c.before.before.buffer-count.ensures.value)))
 
 pub put-entries-spec : {M : Type 1} → statement M
 put-entries-spec =

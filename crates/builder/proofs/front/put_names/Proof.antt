@@ -4,7 +4,7 @@ use Prim.Native.Nat.{◌-◌}
 use Rattle.image.specs.Record.{node_count}
 use Rattle.image.specs.Types.{name_of}
 use Rattle.laws.proofs.Accepted.{accepted}
-use Rattle.rows.proofs.Over.{PiecesToPut, pieces-start, pieces-place, pieces-done}
+use Rattle.rows.proofs.Over.{PiecesToPut, pieces_start, pieces_place, pieces_done}
 use Rattle.builder.proofs.Fields.{piece_fits, piece_put}
 use native.Mathlib.Omega.{arith}
 use borrow.Author.Rules.{rules}
@@ -21,7 +21,7 @@ node-count-requires : tie.Need-node-count-requires invariant-loop decreases-loop
 node-count-requires c κs = search rules
 
 loop-holds : tie.Need-loop-init invariant-loop decreases-loop
-loop-holds c = pieces-start _ _ _ c.before.before.before.requires.1
+loop-holds c = pieces_start _ _ _ c.before.before.before.requires.1
 
 put-name-requires : tie.Need-put-name-requires invariant-loop decreases-loop
 put-name-requires c κs = (((accepted _ c.before.before.before.before.before.before.requires.0).node c.before.before.loop.k (omega (arith, c.before.loop-test.true, c.before.before.before.node-count.ensures.value))).named, piece_fits c.before.before.loop.invariant (omega (arith, c.before.loop-test.true, c.before.before.before.node-count.ensures.value)))
@@ -39,7 +39,7 @@ same_length : tie.Need-same-length invariant-loop decreases-loop
 same_length c = c.before.loop.invariant.put.long
 
 returns : tie.Need-returns invariant-loop decreases-loop
-returns c = (pieces-place c.before.loop.invariant (omega (arith, c.loop-test.false, c.before.before.node-count.ensures.value)), pieces-done c.before.loop.invariant (omega (arith, c.loop-test.false, c.before.before.node-count.ensures.value)))
+returns c = (pieces_place c.before.loop.invariant (omega (arith, c.loop-test.false, c.before.before.node-count.ensures.value)), pieces_done c.before.loop.invariant (omega (arith, c.loop-test.false, c.before.before.node-count.ensures.value)))
 
 pub put-names-spec : {M : Type 1} → statement M
 put-names-spec =

@@ -2,7 +2,7 @@
 -- The loop keeps the records that are still to be put, and where the next name would stand.
 use Prim.Native.Nat.{◌-◌}
 use Rattle.image.specs.Record.{node_count}
-use Rattle.rows.proofs.Over.{PiecesToPut, pieces-start, pieces-place, pieces-done}
+use Rattle.rows.proofs.Over.{PiecesToPut, pieces_start, pieces_place, pieces_done}
 use Rattle.builder.specs.Front.{record_from}
 use Rattle.builder.proofs.Fields.{piece_fits, piece_put}
 use Rattle.builder.proofs.Planning.{Names, names_start, names_more}
@@ -24,16 +24,16 @@ tables-end-requires : tie.Need-tables-end-requires invariant-loop decreases-loop
 tables-end-requires c κs = search rules
 
 loop-holds : tie.Need-loop-init invariant-loop decreases-loop
-loop-holds c = (pieces-start _ _ _ c.before.before.before.before.before.before.requires.1.1, names_start _ c.before.before.before.before.before.before.requires.0 c.tables-end.ensures.value)
+loop-holds c = (pieces_start _ _ _ c.before.before.before.before.before.before.requires.1.1, names_start _ c.before.before.before.before.before.before.requires.0 c.tables-end.ensures.value)
 
 put-record-requires : tie.Need-put-record-requires invariant-loop decreases-loop
-put-record-requires c κs = (record { node = omega (arith, c.before.loop-test.true, c.before.before.before.before.node-count.ensures.value); few = c.before.before.before.before.before.before.before.before.before.requires.0.few-nodes; sized = c.before.before.before.before.before.before.before.before.before.requires.1.0.1; risen = c.before.before.before.before.before.before.before.before.before.requires.1.0.0 }, (c.before.before.loop.invariant.1.start, piece_fits c.before.before.loop.invariant.0 (omega (arith, c.before.loop-test.true, c.before.before.before.before.node-count.ensures.value))))
+put-record-requires c κs = (record { node = omega (arith, c.before.loop-test.true, c.before.before.before.before.node-count.ensures.value); few = c.before.before.before.before.before.before.before.before.before.requires.0.few_nodes; sized = c.before.before.before.before.before.before.before.before.before.requires.1.0.1; risen = c.before.before.before.before.before.before.before.before.before.requires.1.0.0 }, (c.before.before.loop.invariant.1.start, piece_fits c.before.before.loop.invariant.0 (omega (arith, c.before.loop-test.true, c.before.before.before.before.node-count.ensures.value))))
 
 name-length-requires : tie.Need-name-length-requires invariant-loop decreases-loop
 name-length-requires c κs = search rules
 
 add-name : tie.Need-overflow-add-name invariant-loop decreases-loop
-add-name c = omega (arith, c.before.before.before.before.before.before.loop.invariant.1.near, c.before.before.before.before.before.loop-test.true, c.before.before.before.before.before.before.before.before.node-count.ensures.small, c.name-length.ensures.small)
+add-name c = omega (arith, c.before.before.before.before.before.before.loop.invariant.1.near, c.before.before.before.before.before.loop-test.true, c.before.before.before.before.before.before.before.before.node-count.ensures.small, c.name_length_lem.ensures.small)
 
 add-k : tie.Need-overflow-add-k invariant-loop decreases-loop
 add-k c = search rules
@@ -42,13 +42,13 @@ loop-less : tie.Need-loop-smaller invariant-loop decreases-loop
 loop-less c = search rules
 
 loop-again : tie.Need-loop-preserved invariant-loop decreases-loop
-loop-again c = (piece_put c.before.before.before.before.before.before.loop.invariant.0 (omega (arith, c.before.before.before.before.before.loop-test.true, c.before.before.before.before.before.before.before.before.node-count.ensures.value)) c.before.before.before.put_record.ensures, names_more c.before.before.before.before.before.before.loop.invariant.1 c.name-length.ensures)
+loop-again c = (piece_put c.before.before.before.before.before.before.loop.invariant.0 (omega (arith, c.before.before.before.before.before.loop-test.true, c.before.before.before.before.before.before.before.before.node-count.ensures.value)) c.before.before.before.put_record.ensures, names_more c.before.before.before.before.before.before.loop.invariant.1 c.name_length_lem.ensures)
 
 same_length : tie.Need-same-length invariant-loop decreases-loop
 same_length c = c.before.loop.invariant.0.put.long
 
 returns : tie.Need-returns invariant-loop decreases-loop
-returns c = (pieces-place c.before.loop.invariant.0 (omega (arith, c.loop-test.false, c.before.before.before.node-count.ensures.value)), pieces-done c.before.loop.invariant.0 (omega (arith, c.loop-test.false, c.before.before.before.node-count.ensures.value)))
+returns c = (pieces_place c.before.loop.invariant.0 (omega (arith, c.loop-test.false, c.before.before.before.node-count.ensures.value)), pieces_done c.before.loop.invariant.0 (omega (arith, c.loop-test.false, c.before.before.before.node-count.ensures.value)))
 
 pub put-records-spec : {M : Type 1} → statement M
 put-records-spec =

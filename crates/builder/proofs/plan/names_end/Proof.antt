@@ -26,7 +26,7 @@ name-length-requires : tie.Need-name-length-requires invariant-loop decreases-lo
 name-length-requires c κs = search rules
 
 add-end : tie.Need-overflow-add-end invariant-loop decreases-loop
-add-end c = omega (arith, c.before.before.loop.invariant.1.near, c.name-length.ensures.small)
+add-end c = omega (arith, c.before.before.loop.invariant.1.near, c.name_length_lem.ensures.small)
 
 add-k : tie.Need-overflow-add-k invariant-loop decreases-loop
 add-k c = search rules
@@ -35,7 +35,7 @@ loop-less : tie.Need-loop-smaller invariant-loop decreases-loop
 loop-less c = search rules
 
 loop-again : tie.Need-loop-preserved invariant-loop decreases-loop
-loop-again c = (omega arith, names_more c.before.before.loop.invariant.1 c.name-length.ensures)
+loop-again c = (omega arith, names_more c.before.before.loop.invariant.1 c.name_length_lem.ensures)
 
 returns : tie.Need-returns invariant-loop decreases-loop
 returns c = names_done c.before.loop.invariant.1 c.before.before.before.before.before.requires c.before.before.before.node-count.ensures.value c.before.loop.invariant.0 c.loop-test.false

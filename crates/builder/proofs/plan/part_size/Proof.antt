@@ -2,7 +2,7 @@
 -- The part of the node says which of the three it is.
 use borrow.Author.Tests.{eq-eqb, ne_eqb}
 use Rattle.builder.specs.Plan.{size_of, part_size}
-use Rattle.builder.proofs.Sizes.{width-most}
+use Rattle.builder.proofs.Sizes.{width_most}
 use native.Mathlib.Omega.{arith}
 use borrow.Author.Rules.{rules}
 use Rattle.builder.proofs.plan.part_size.Statement.{statement}
@@ -37,7 +37,7 @@ shared-slice-read-first-size : tie.Need-shared-slice-read-first-size
 shared-slice-read-first-size c = search rules
 
 first-size-requires : tie.Need-first-size-requires
-first-size-requires c κs = (rw c.before.element-width.ensures (width-most _ _ (c.before.before.before.before.before.before.before.before.requires.0.0.node _ (omega (arith, c.before.before.before.before.before.before.before.before.requires.0.1))).known), c.before.before.before.before.before.before.before.before.requires.1.1)
+first-size-requires c κs = (rw c.before.element-width.ensures (width_most _ _ (c.before.before.before.before.before.before.before.before.requires.0.0.node _ (omega (arith, c.before.before.before.before.before.before.before.before.requires.0.1))).known), c.before.before.before.before.before.before.before.before.requires.1.1)
 
 returns-2 : tie.Need-returns-2
 unfolding part_size size_of

@@ -3,7 +3,7 @@
 use Prim.Native.Nat.{◌-◌}
 use mathlib.Core.Path.{sym, ◌∙◌}
 use Rattle.laws.proofs.Accepted.{accepted}
-use Rattle.builder.proofs.Planning.{Planning, many-refused, few-rows, planning_start, planning_more, planning_long, planning_room, planning_done}
+use Rattle.builder.proofs.Planning.{Planning, many_refused, few_rows, planning_start, planning_more, planning_long, planning_room, planning_done}
 use native.Mathlib.Omega.{arith}
 use borrow.Author.Rules.{rules}
 use Rattle.builder.proofs.plan.plan.Statement.{statement}
@@ -16,10 +16,10 @@ abbrev decreases-loop : tie.decreases-loop
 decreases-loop image lengths spans room places₀ end place₀ q₀ places place q = end - q
 
 too-many-requires : tie.Need-too-many-requires invariant-loop decreases-loop
-too-many-requires c κs = ((accepted _ c.before.before.before.before.requires.0).tables.few-nodes, c.before.before.before.before.requires.1.0)
+too-many-requires c κs = ((accepted _ c.before.before.before.before.requires.0).tables.few_nodes, c.before.before.before.before.requires.1.0)
 
 returns : tie.Need-returns invariant-loop decreases-loop
-returns c = many-refused _ _ _ (sym c.before.too_many.ensures ∙ c.if1.true)
+returns c = many_refused _ _ _ (sym c.before.too_many.ensures ∙ c.if1.true)
 
 node-count-requires : tie.Need-node-count-requires invariant-loop decreases-loop
 node-count-requires c κs = search rules
@@ -40,7 +40,7 @@ loop-holds : tie.Need-loop-init invariant-loop decreases-loop
 loop-holds c = planning_start _ _ _ c.before.before.before.before.before.before.before.before.args.places.now _ c.before.before.before.before.before.before.before.before.requires.1.2 c.names-end.ensures
 
 part-size-requires : tie.Need-part-size-requires invariant-loop decreases-loop
-part-size-requires c κs = ((accepted _ c.before.before.before.before.before.before.before.before.before.before.requires.0, omega (arith, c.loop-test.true, c.before.before.before.node-count.ensures.value)), ((c.before.before.before.before.before.before.before.before.before.before.requires.1.0, c.before.before.before.before.before.before.before.before.before.before.requires.1.1), few-rows _ _ (sym c.before.before.before.before.before.too_many.ensures ∙ c.before.before.before.before.if1.false) _ (omega (arith, c.loop-test.true, c.before.before.before.node-count.ensures.value))))
+part-size-requires c κs = ((accepted _ c.before.before.before.before.before.before.before.before.before.before.requires.0, omega (arith, c.loop-test.true, c.before.before.before.node-count.ensures.value)), ((c.before.before.before.before.before.before.before.before.before.before.requires.1.0, c.before.before.before.before.before.before.before.before.before.before.requires.1.1), few_rows _ _ (sym c.before.before.before.before.before.too_many.ensures ∙ c.before.before.before.before.if1.false) _ (omega (arith, c.loop-test.true, c.before.before.before.node-count.ensures.value))))
 
 sub-if2 : tie.Need-overflow-sub-if2 invariant-loop decreases-loop
 sub-if2 c = omega (arith, c.before.before.loop.invariant.short)
@@ -61,13 +61,13 @@ mul-places : tie.Need-overflow-mul-places invariant-loop decreases-loop
 mul-places c = omega (arith, c.before.before.loop-test.true, c.before.before.before.before.before.node-count.ensures.small)
 
 slice-write-places-2 : tie.Need-slice-write-places-2 invariant-loop decreases-loop
-slice-write-places-2 c = omega (arith, c.before.before.before.loop.invariant.table.sized, c.before.before.loop-test.true, c.before.before.before.before.before.node-count.ensures.value, (accepted _ c.before.before.before.before.before.before.before.before.before.before.before.before.requires.0).tables.few-nodes)
+slice-write-places-2 c = omega (arith, c.before.before.before.loop.invariant.table.sized, c.before.before.loop-test.true, c.before.before.before.before.before.node-count.ensures.value, (accepted _ c.before.before.before.before.before.before.before.before.before.before.before.before.requires.0).tables.few_nodes)
 
 loop-less : tie.Need-loop-smaller invariant-loop decreases-loop
 loop-less c = omega (arith, c.before.before.loop-test.true)
 
 loop-again : tie.Need-loop-preserved invariant-loop decreases-loop
-loop-again c = planning_more c.before.before.before.loop.invariant (omega (arith, c.before.before.loop-test.true, c.before.before.before.before.before.node-count.ensures.value)) c.before.part-size.ensures (accepted _ c.before.before.before.before.before.before.before.before.before.before.before.before.requires.0).tables.few-nodes (omega (arith, c.if2.false))
+loop-again c = planning_more c.before.before.before.loop.invariant (omega (arith, c.before.before.loop-test.true, c.before.before.before.before.before.node-count.ensures.value)) c.before.part-size.ensures (accepted _ c.before.before.before.before.before.before.before.before.before.before.before.before.requires.0).tables.few_nodes (omega (arith, c.if2.false))
 
 same-length-2 : tie.Need-same-length-2 invariant-loop decreases-loop
 same-length-2 c = c.before.before.loop.invariant.table.sized ∙ sym c.before.before.before.before.before.before.before.before.before.before.before.requires.1.2

@@ -4,7 +4,7 @@ use Prim.Native.Nat.{◌-◌}
 use native.Mathlib.Nat.{zero-add}
 use borrow.Author.Tests.{lt-ltb, le-ltb}
 use Rattle.image.specs.Ranges.{any}
-use Rattle.image.proofs.Loops.{Rest, rest-none, any-more, any_found, any-done}
+use Rattle.image.proofs.Loops.{Rest, rest_none, any_more, any_found, any_done}
 use Rattle.builder.specs.Plan.{too_many}
 use borrow.Author.Rules.{rules}
 use Rattle.builder.proofs.plan.too_many.Statement.{statement}
@@ -23,7 +23,7 @@ cast-n : tie.Need-overflow-cast-n invariant-loop decreases-loop
 cast-n c = search rules
 
 loop-holds : tie.Need-loop-init invariant-loop decreases-loop
-loop-holds c = rest-none _ _ _
+loop-holds c = rest_none _ _ _
 
 mul-if1 : tie.Need-overflow-mul-if1 invariant-loop decreases-loop
 mul-if1 c = search rules
@@ -43,10 +43,10 @@ loop-less c = search rules
 
 loop-again : tie.Need-loop-preserved invariant-loop decreases-loop
 unfolding too_many
-loop-again c = any-more _ _ _ _ c.before.before.loop-test.true c.before.before.before.loop.invariant (rw zero-add (le-ltb _ _ c.if1.false))
+loop-again c = any_more _ _ _ _ c.before.before.loop-test.true c.before.before.before.loop.invariant (rw zero-add (le-ltb _ _ c.if1.false))
 
 returns-2 : tie.Need-returns-2 invariant-loop decreases-loop
-returns-2 c = rw (← c.before.before.node-count.ensures.value) (any-done _ _ _ _ c.loop-test.false c.before.loop.invariant)
+returns-2 c = rw (← c.before.before.node-count.ensures.value) (any_done _ _ _ _ c.loop-test.false c.before.loop.invariant)
 
 pub too-many-spec : {M : Type 1} → statement M
 too-many-spec =

@@ -6,10 +6,10 @@ use native.Mathlib.Omega.{arith}
 use borrow.Author.Tests.{not-true, not-false}
 use borrow.Author.Rules.{rules}
 use Rattle.image.specs.Row.{dictionary_row, row_at}
-use Rattle.accepted.proofs.Nodes.{element-read, part_small, part-nth}
-use Rattle.equal.proofs.Child.{widths-same}
-use Rattle.equal.proofs.Rows.{RowsLeft, rows_none, rows_more, rows_fail, rows-done}
-use Rattle.equal.proofs.Dictionaries.{key-narrow, key-nodes, key_requires, key-answer}
+use Rattle.accepted.proofs.Nodes.{element_read, part_small, part_nth}
+use Rattle.equal.proofs.Child.{widths_same}
+use Rattle.equal.proofs.Rows.{RowsLeft, rows_none, rows_more, rows_fail, rows_done}
+use Rattle.equal.proofs.Dictionaries.{key_narrow, key_nodes, key_requires, key_answer}
 use Rattle.equal.proofs.+equal_long_equal_equal_range_equal_row_equal_valid_equal_values_equal_equal_equal_equal_equal_block_dense_sparse.Proof.Measures.{dictionary::equal-at, dictionary::long-equal-below, equal-row-below}
 use Rattle.equal.proofs.dictionary.equal.Reads as dictionary::equal
 use Rattle.equal.proofs.dictionary.long_equal.Reads as dictionary::long-equal
@@ -52,7 +52,7 @@ first-child-requires-2 : (t : ℕ) → lts.Need-first-child-requires-2 (calls t)
 first-child-requires-2 t c κs = search rules
 
 leaves-of-requires : (t : ℕ) → lts.Need-leaves-of-requires (calls t) (dictionary::equal-at t) dictionary::equal.Post Inv-loop μ-loop
-leaves-of-requires t c κs = key-nodes c.before.before.before.before.before.before.before.before.requires.1.0 c.before.before.before.before.before.before.before.before.requires.1.1 c.before.first-child.ensures c.first-child2.ensures
+leaves-of-requires t c κs = key_nodes c.before.before.before.before.before.before.before.before.requires.1.0 c.before.before.before.before.before.before.before.before.requires.1.1 c.before.first_child_lem.ensures c.first-child2.ensures
 
 loop-holds : (t : ℕ) → lts.Need-loop-init (calls t) (dictionary::equal-at t) dictionary::equal.Post Inv-loop μ-loop
 loop-holds t c = rows_none _ _ _ _ _
@@ -61,19 +61,19 @@ add-nth : (t : ℕ) → lts.Need-overflow-add-nth (calls t) (dictionary::equal-a
 add-nth t c = omega (arith, part_small c.before.before.before.before.before.before.before.before.before.before.before.requires.1.0.left, part_small c.before.before.before.before.before.before.before.before.before.before.before.requires.1.0.right, c.loop-test.true)
 
 nth-requires : (t : ℕ) → lts.Need-nth-requires (calls t) (dictionary::equal-at t) dictionary::equal.Post Inv-loop μ-loop
-nth-requires t c κs = part-nth c.before.before.before.before.before.before.before.before.before.before.before.requires.1.0.left c.before.loop.k (omega (arith, c.loop-test.true)) c.before.before.before.before.before.before.buffer-place.ensures (omega (arith, c.before.before.before.before.before.before.before.element-width.ensures, key-narrow c.before.before.before.before.before.before.before.before.before.before.before.requires.1.0 c.before.before.before.before.before.before.before.before.before.before.before.requires.1.1))
+nth-requires t c κs = part_nth c.before.before.before.before.before.before.before.before.before.before.before.requires.1.0.left c.before.loop.k (omega (arith, c.loop-test.true)) c.before.before.before.before.before.before.buffer-place.ensures (omega (arith, c.before.before.before.before.before.before.before.element-width.ensures, key_narrow c.before.before.before.before.before.before.before.before.before.before.before.requires.1.0 c.before.before.before.before.before.before.before.before.before.before.before.requires.1.1))
 
 add-nth-2 : (t : ℕ) → lts.Need-overflow-add-nth-2 (calls t) (dictionary::equal-at t) dictionary::equal.Post Inv-loop μ-loop
 add-nth-2 t c = omega (arith, part_small c.before.before.before.before.before.before.before.before.before.before.before.before.requires.1.0.left, part_small c.before.before.before.before.before.before.before.before.before.before.before.before.requires.1.0.right, c.before.loop-test.true)
 
 nth-requires-2 : (t : ℕ) → lts.Need-nth-requires-2 (calls t) (dictionary::equal-at t) dictionary::equal.Post Inv-loop μ-loop
-nth-requires-2 t c κs = part-nth c.before.before.before.before.before.before.before.before.before.before.before.before.requires.1.0.right c.before.before.loop.k (omega (arith, c.before.loop-test.true)) c.before.before.before.before.before.before.buffer-place2.ensures (omega (arith, c.before.before.before.before.before.before.before.before.element-width.ensures, key-narrow c.before.before.before.before.before.before.before.before.before.before.before.before.requires.1.0 c.before.before.before.before.before.before.before.before.before.before.before.before.requires.1.1))
+nth-requires-2 t c κs = part_nth c.before.before.before.before.before.before.before.before.before.before.before.before.requires.1.0.right c.before.before.loop.k (omega (arith, c.before.loop-test.true)) c.before.before.before.before.before.before.buffer-place2.ensures (omega (arith, c.before.before.before.before.before.before.before.before.element-width.ensures, key_narrow c.before.before.before.before.before.before.before.before.before.before.before.before.requires.1.0 c.before.before.before.before.before.before.before.before.before.before.before.before.requires.1.1))
 
 equal-row-requires : (t : ℕ) → lts.Need-equal-row-requires (calls t) (dictionary::equal-at t) dictionary::equal.Post Inv-loop μ-loop
-equal-row-requires t c κs = (search rules, (key_requires c.before.before.before.before.before.before.before.before.before.before.before.before.before.requires.1.0 c.before.before.before.before.before.before.before.before.before.before.before.before.before.requires.1.1 c.before.before.before.loop.k c.before.before.loop-test.true c.before.before.before.before.before.before.first-child.ensures c.before.before.before.before.before.first-child2.ensures (element-read _ _ _ c.before.before.before.before.before.before.before.before.before.element-width.ensures c.before.before.before.before.before.before.before.before.buffer-place.ensures c.before.nth.ensures) (element-read _ _ _ (c.before.before.before.before.before.before.before.before.before.element-width.ensures ∙ widths-same c.before.before.before.before.before.before.before.before.before.before.before.before.before.requires.1.0) c.before.before.before.before.before.before.before.buffer-place2.ensures c.nth2.ensures), c.before.before.before.before.Leaves-of.ensures))
+equal-row-requires t c κs = (search rules, (key_requires c.before.before.before.before.before.before.before.before.before.before.before.before.before.requires.1.0 c.before.before.before.before.before.before.before.before.before.before.before.before.before.requires.1.1 c.before.before.before.loop.k c.before.before.loop-test.true c.before.before.before.before.before.before.first_child_lem.ensures c.before.before.before.before.before.first-child2.ensures (element_read _ _ _ c.before.before.before.before.before.before.before.before.before.element-width.ensures c.before.before.before.before.before.before.before.before.buffer-place.ensures c.before.nth.ensures) (element_read _ _ _ (c.before.before.before.before.before.before.before.before.before.element-width.ensures ∙ widths_same c.before.before.before.before.before.before.before.before.before.before.before.before.before.requires.1.0) c.before.before.before.before.before.before.before.buffer-place2.ensures c.nth2.ensures), c.before.before.before.before.Leaves-of.ensures))
 
 returns-2 : (t : ℕ) → lts.Need-returns-2 (calls t) (dictionary::equal-at t) dictionary::equal.Post Inv-loop μ-loop
-returns-2 t c = rows_fail c.before.before.before.before.before.loop.invariant c.before.before.before.before.loop-test.true (sym (key-answer c.before.before.before.before.before.before.before.before.before.before.before.before.before.before.before.requires.1.0 c.before.before.before.before.before.before.before.before.before.before.before.before.before.before.before.requires.1.1 c.before.before.before.before.before.loop.k c.before.before.before.before.loop-test.true c.before.before.before.before.before.before.before.before.first-child.ensures c.before.before.before.before.before.before.before.first-child2.ensures (element-read _ _ _ c.before.before.before.before.before.before.before.before.before.before.before.element-width.ensures c.before.before.before.before.before.before.before.before.before.before.buffer-place.ensures c.before.before.before.nth.ensures) (element-read _ _ _ (c.before.before.before.before.before.before.before.before.before.before.before.element-width.ensures ∙ widths-same c.before.before.before.before.before.before.before.before.before.before.before.before.before.before.before.requires.1.0) c.before.before.before.before.before.before.before.before.before.buffer-place2.ensures c.before.before.nth2.ensures)) ∙ sym c.before.equal-row.ensures ∙ not-true c.before.equal-row.result c.if2.true)
+returns-2 t c = rows_fail c.before.before.before.before.before.loop.invariant c.before.before.before.before.loop-test.true (sym (key_answer c.before.before.before.before.before.before.before.before.before.before.before.before.before.before.before.requires.1.0 c.before.before.before.before.before.before.before.before.before.before.before.before.before.before.before.requires.1.1 c.before.before.before.before.before.loop.k c.before.before.before.before.loop-test.true c.before.before.before.before.before.before.before.before.first_child_lem.ensures c.before.before.before.before.before.before.before.first-child2.ensures (element_read _ _ _ c.before.before.before.before.before.before.before.before.before.before.before.element-width.ensures c.before.before.before.before.before.before.before.before.before.before.buffer-place.ensures c.before.before.before.nth.ensures) (element_read _ _ _ (c.before.before.before.before.before.before.before.before.before.before.before.element-width.ensures ∙ widths_same c.before.before.before.before.before.before.before.before.before.before.before.before.before.before.before.requires.1.0) c.before.before.before.before.before.before.before.before.before.buffer-place2.ensures c.before.before.nth2.ensures)) ∙ sym c.before.equal-row.ensures ∙ not-true c.before.equal-row.result c.if2.true)
 
 add-k : (t : ℕ) → lts.Need-overflow-add-k (calls t) (dictionary::equal-at t) dictionary::equal.Post Inv-loop μ-loop
 add-k t c = omega (arith, part_small c.before.before.before.before.before.before.before.before.before.before.before.before.before.before.before.requires.1.0.left, part_small c.before.before.before.before.before.before.before.before.before.before.before.before.before.before.before.requires.1.0.right, c.before.before.before.before.loop-test.true)
@@ -82,10 +82,10 @@ loop-less : (t : ℕ) → lts.Need-loop-smaller (calls t) (dictionary::equal-at 
 loop-less t c = search rules
 
 loop-again : (t : ℕ) → lts.Need-loop-preserved (calls t) (dictionary::equal-at t) dictionary::equal.Post Inv-loop μ-loop
-loop-again t c = rows_more c.before.before.before.before.before.loop.invariant c.before.before.before.before.loop-test.true (sym (key-answer c.before.before.before.before.before.before.before.before.before.before.before.before.before.before.before.requires.1.0 c.before.before.before.before.before.before.before.before.before.before.before.before.before.before.before.requires.1.1 c.before.before.before.before.before.loop.k c.before.before.before.before.loop-test.true c.before.before.before.before.before.before.before.before.first-child.ensures c.before.before.before.before.before.before.before.first-child2.ensures (element-read _ _ _ c.before.before.before.before.before.before.before.before.before.before.before.element-width.ensures c.before.before.before.before.before.before.before.before.before.before.buffer-place.ensures c.before.before.before.nth.ensures) (element-read _ _ _ (c.before.before.before.before.before.before.before.before.before.before.before.element-width.ensures ∙ widths-same c.before.before.before.before.before.before.before.before.before.before.before.before.before.before.before.requires.1.0) c.before.before.before.before.before.before.before.before.before.buffer-place2.ensures c.before.before.nth2.ensures)) ∙ sym c.before.equal-row.ensures ∙ not-false c.before.equal-row.result c.if2.false)
+loop-again t c = rows_more c.before.before.before.before.before.loop.invariant c.before.before.before.before.loop-test.true (sym (key_answer c.before.before.before.before.before.before.before.before.before.before.before.before.before.before.before.requires.1.0 c.before.before.before.before.before.before.before.before.before.before.before.before.before.before.before.requires.1.1 c.before.before.before.before.before.loop.k c.before.before.before.before.loop-test.true c.before.before.before.before.before.before.before.before.first_child_lem.ensures c.before.before.before.before.before.before.before.first-child2.ensures (element_read _ _ _ c.before.before.before.before.before.before.before.before.before.before.before.element-width.ensures c.before.before.before.before.before.before.before.before.before.before.buffer-place.ensures c.before.before.before.nth.ensures) (element_read _ _ _ (c.before.before.before.before.before.before.before.before.before.before.before.element-width.ensures ∙ widths_same c.before.before.before.before.before.before.before.before.before.before.before.before.before.before.before.requires.1.0) c.before.before.before.before.before.before.before.before.before.buffer-place2.ensures c.before.before.nth2.ensures)) ∙ sym c.before.equal-row.ensures ∙ not-false c.before.equal-row.result c.if2.false)
 
 returns-3 : (t : ℕ) → lts.Need-returns-3 (calls t) (dictionary::equal-at t) dictionary::equal.Post Inv-loop μ-loop
-returns-3 t c = rows-done c.before.loop.invariant c.loop-test.false
+returns-3 t c = rows_done c.before.loop.invariant c.loop-test.false
 
 pub proof : {M : Type 1} (t : ℕ) → lts.Closed (calls t) (dictionary::equal-at t) dictionary::equal.Post M
 proof t =

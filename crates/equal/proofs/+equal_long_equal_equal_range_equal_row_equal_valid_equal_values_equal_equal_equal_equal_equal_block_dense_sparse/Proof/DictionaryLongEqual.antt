@@ -6,10 +6,10 @@ use native.Mathlib.Omega.{arith}
 use borrow.Author.Tests.{not-true, not-false}
 use borrow.Author.Rules.{rules}
 use Rattle.image.specs.Row.{dictionary_row, row_at}
-use Rattle.accepted.proofs.Nodes.{element-read, part_small, part-nth}
-use Rattle.equal.proofs.Child.{widths-same}
-use Rattle.equal.proofs.Rows.{one-row, RowsLeft, rows_none, rows_more, rows_fail, rows-done}
-use Rattle.equal.proofs.Dictionaries.{key-narrow, key-nodes, key_requires, key-small, key-answer, key-same, KeptPairs, kept-none, kept-equal, kept_more}
+use Rattle.accepted.proofs.Nodes.{element_read, part_small, part_nth}
+use Rattle.equal.proofs.Child.{widths_same}
+use Rattle.equal.proofs.Rows.{one_row, RowsLeft, rows_none, rows_more, rows_fail, rows_done}
+use Rattle.equal.proofs.Dictionaries.{key_narrow, key_nodes, key_requires, key_small, key_answer, key_same, KeptPairs, kept_none, kept_equal, kept_more}
 use Rattle.equal.proofs.+equal_long_equal_equal_range_equal_row_equal_valid_equal_values_equal_equal_equal_equal_equal_block_dense_sparse.Proof.Measures.{dictionary::long-equal-at, equal-row-below}
 use Rattle.equal.proofs.dictionary.long_equal.Reads as dictionary::long-equal
 use Rattle.equal.proofs.equal_row.Reads as equal-row
@@ -45,31 +45,31 @@ first-child-requires-2 : (t : ℕ) → lts.Need-first-child-requires-2 (calls t)
 first-child-requires-2 t c κs = search rules
 
 leaves-of-requires : (t : ℕ) → lts.Need-leaves-of-requires (calls t) (dictionary::long-equal-at t) dictionary::long-equal.Post Inv-loop μ-loop
-leaves-of-requires t c κs = key-nodes c.before.before.before.before.before.before.before.requires.1.0 c.before.before.before.before.before.before.before.requires.1.1 c.before.first-child.ensures c.first-child2.ensures
+leaves-of-requires t c κs = key_nodes c.before.before.before.before.before.before.before.requires.1.0 c.before.before.before.before.before.before.before.requires.1.1 c.before.first_child_lem.ensures c.first-child2.ensures
 
 loop-holds : (t : ℕ) → lts.Need-loop-init (calls t) (dictionary::long-equal-at t) dictionary::long-equal.Post Inv-loop μ-loop
-loop-holds t c = (kept-none _ _, rows_none _ _ _ _ _)
+loop-holds t c = (kept_none _ _, rows_none _ _ _ _ _)
 
 add-nth : (t : ℕ) → lts.Need-overflow-add-nth (calls t) (dictionary::long-equal-at t) dictionary::long-equal.Post Inv-loop μ-loop
 add-nth t c = omega (arith, part_small c.before.before.before.before.before.before.before.before.before.before.requires.1.0.left, part_small c.before.before.before.before.before.before.before.before.before.before.requires.1.0.right, c.loop-test.true)
 
 nth-requires : (t : ℕ) → lts.Need-nth-requires (calls t) (dictionary::long-equal-at t) dictionary::long-equal.Post Inv-loop μ-loop
-nth-requires t c κs = part-nth c.before.before.before.before.before.before.before.before.before.before.requires.1.0.left c.before.loop.row (omega (arith, c.loop-test.true)) c.before.before.before.before.before.before.buffer-place.ensures (omega (arith, c.before.before.before.before.before.before.before.element-width.ensures, key-narrow c.before.before.before.before.before.before.before.before.before.before.requires.1.0 c.before.before.before.before.before.before.before.before.before.before.requires.1.1))
+nth-requires t c κs = part_nth c.before.before.before.before.before.before.before.before.before.before.requires.1.0.left c.before.loop.row (omega (arith, c.loop-test.true)) c.before.before.before.before.before.before.buffer-place.ensures (omega (arith, c.before.before.before.before.before.before.before.element-width.ensures, key_narrow c.before.before.before.before.before.before.before.before.before.before.requires.1.0 c.before.before.before.before.before.before.before.before.before.before.requires.1.1))
 
 add-nth-2 : (t : ℕ) → lts.Need-overflow-add-nth-2 (calls t) (dictionary::long-equal-at t) dictionary::long-equal.Post Inv-loop μ-loop
 add-nth-2 t c = omega (arith, part_small c.before.before.before.before.before.before.before.before.before.before.before.requires.1.0.left, part_small c.before.before.before.before.before.before.before.before.before.before.before.requires.1.0.right, c.before.loop-test.true)
 
 nth-requires-2 : (t : ℕ) → lts.Need-nth-requires-2 (calls t) (dictionary::long-equal-at t) dictionary::long-equal.Post Inv-loop μ-loop
-nth-requires-2 t c κs = part-nth c.before.before.before.before.before.before.before.before.before.before.before.requires.1.0.right c.before.before.loop.row (omega (arith, c.before.loop-test.true)) c.before.before.before.before.before.before.buffer-place2.ensures (omega (arith, c.before.before.before.before.before.before.before.before.element-width.ensures, key-narrow c.before.before.before.before.before.before.before.before.before.before.before.requires.1.0 c.before.before.before.before.before.before.before.before.before.before.before.requires.1.1))
+nth-requires-2 t c κs = part_nth c.before.before.before.before.before.before.before.before.before.before.before.requires.1.0.right c.before.before.loop.row (omega (arith, c.before.loop-test.true)) c.before.before.before.before.before.before.buffer-place2.ensures (omega (arith, c.before.before.before.before.before.before.before.before.element-width.ensures, key_narrow c.before.before.before.before.before.before.before.before.before.before.before.requires.1.0 c.before.before.before.before.before.before.before.before.before.before.before.requires.1.1))
 
 mul-pair : (t : ℕ) → lts.Need-overflow-mul-pair (calls t) (dictionary::long-equal-at t) dictionary::long-equal.Post Inv-loop μ-loop
-mul-pair t c = omega (arith, key-small c.before.before.before.before.before.before.before.before.before.before.before.before.requires.1.0 c.before.before.before.before.before.before.before.before.before.before.before.before.requires.1.1 c.before.before.before.loop.row c.before.before.loop-test.true c.before.before.before.before.before.before.first-child.ensures c.before.before.before.before.before.first-child2.ensures (element-read _ _ _ c.before.before.before.before.before.before.before.before.before.element-width.ensures c.before.before.before.before.before.before.before.before.buffer-place.ensures c.before.nth.ensures) (element-read _ _ _ (c.before.before.before.before.before.before.before.before.before.element-width.ensures ∙ widths-same c.before.before.before.before.before.before.before.before.before.before.before.before.requires.1.0) c.before.before.before.before.before.before.before.buffer-place2.ensures c.nth2.ensures))
+mul-pair t c = omega (arith, key_small c.before.before.before.before.before.before.before.before.before.before.before.before.requires.1.0 c.before.before.before.before.before.before.before.before.before.before.before.before.requires.1.1 c.before.before.before.loop.row c.before.before.loop-test.true c.before.before.before.before.before.before.first_child_lem.ensures c.before.before.before.before.before.first-child2.ensures (element_read _ _ _ c.before.before.before.before.before.before.before.before.before.element-width.ensures c.before.before.before.before.before.before.before.before.buffer-place.ensures c.before.nth.ensures) (element_read _ _ _ (c.before.before.before.before.before.before.before.before.before.element-width.ensures ∙ widths_same c.before.before.before.before.before.before.before.before.before.before.before.before.requires.1.0) c.before.before.before.before.before.before.before.buffer-place2.ensures c.nth2.ensures))
 
 add-pair : (t : ℕ) → lts.Need-overflow-add-pair (calls t) (dictionary::long-equal-at t) dictionary::long-equal.Post Inv-loop μ-loop
-add-pair t c = omega (arith, key-small c.before.before.before.before.before.before.before.before.before.before.before.before.requires.1.0 c.before.before.before.before.before.before.before.before.before.before.before.before.requires.1.1 c.before.before.before.loop.row c.before.before.loop-test.true c.before.before.before.before.before.before.first-child.ensures c.before.before.before.before.before.first-child2.ensures (element-read _ _ _ c.before.before.before.before.before.before.before.before.before.element-width.ensures c.before.before.before.before.before.before.before.before.buffer-place.ensures c.before.nth.ensures) (element-read _ _ _ (c.before.before.before.before.before.before.before.before.before.element-width.ensures ∙ widths-same c.before.before.before.before.before.before.before.before.before.before.before.before.requires.1.0) c.before.before.before.before.before.before.before.buffer-place2.ensures c.nth2.ensures))
+add-pair t c = omega (arith, key_small c.before.before.before.before.before.before.before.before.before.before.before.before.requires.1.0 c.before.before.before.before.before.before.before.before.before.before.before.before.requires.1.1 c.before.before.before.loop.row c.before.before.loop-test.true c.before.before.before.before.before.before.first_child_lem.ensures c.before.before.before.before.before.first-child2.ensures (element_read _ _ _ c.before.before.before.before.before.before.before.before.before.element-width.ensures c.before.before.before.before.before.before.before.before.buffer-place.ensures c.before.nth.ensures) (element_read _ _ _ (c.before.before.before.before.before.before.before.before.before.element-width.ensures ∙ widths_same c.before.before.before.before.before.before.before.before.before.before.before.before.requires.1.0) c.before.before.before.before.before.before.before.buffer-place2.ensures c.nth2.ensures))
 
 add-pair-2 : (t : ℕ) → lts.Need-overflow-add-pair-2 (calls t) (dictionary::long-equal-at t) dictionary::long-equal.Post Inv-loop μ-loop
-add-pair-2 t c = omega (arith, key-small c.before.before.before.before.before.before.before.before.before.before.before.before.requires.1.0 c.before.before.before.before.before.before.before.before.before.before.before.before.requires.1.1 c.before.before.before.loop.row c.before.before.loop-test.true c.before.before.before.before.before.before.first-child.ensures c.before.before.before.before.before.first-child2.ensures (element-read _ _ _ c.before.before.before.before.before.before.before.before.before.element-width.ensures c.before.before.before.before.before.before.before.before.buffer-place.ensures c.before.nth.ensures) (element-read _ _ _ (c.before.before.before.before.before.before.before.before.before.element-width.ensures ∙ widths-same c.before.before.before.before.before.before.before.before.before.before.before.before.requires.1.0) c.before.before.before.before.before.before.before.buffer-place2.ensures c.nth2.ensures))
+add-pair-2 t c = omega (arith, key_small c.before.before.before.before.before.before.before.before.before.before.before.before.requires.1.0 c.before.before.before.before.before.before.before.before.before.before.before.before.requires.1.1 c.before.before.before.loop.row c.before.before.loop-test.true c.before.before.before.before.before.before.first_child_lem.ensures c.before.before.before.before.before.first-child2.ensures (element_read _ _ _ c.before.before.before.before.before.before.before.before.before.element-width.ensures c.before.before.before.before.before.before.before.before.buffer-place.ensures c.before.nth.ensures) (element_read _ _ _ (c.before.before.before.before.before.before.before.before.before.element-width.ensures ∙ widths_same c.before.before.before.before.before.before.before.before.before.before.before.before.requires.1.0) c.before.before.before.before.before.before.before.buffer-place2.ensures c.nth2.ensures))
 
 add_row : (t : ℕ) → lts.Need-overflow-add-row (calls t) (dictionary::long-equal-at t) dictionary::long-equal.Post Inv-loop μ-loop
 add_row t c = omega (arith, part_small c.before.before.before.before.before.before.before.before.before.before.before.before.requires.1.0.left, part_small c.before.before.before.before.before.before.before.before.before.before.before.before.requires.1.0.right, c.before.before.loop-test.true)
@@ -81,10 +81,10 @@ array-read-if1 : (t : ℕ) → lts.Need-array-read-if1 (calls t) (dictionary::lo
 array-read-if1 t c = omega (arith, c.before.before.before.loop.invariant.0.sized)
 
 equal-row-requires : (t : ℕ) → lts.Need-equal-row-requires (calls t) (dictionary::long-equal-at t) dictionary::long-equal.Post Inv-loop μ-loop
-equal-row-requires t c κs = (search rules, (key_requires c.before.before.before.before.before.before.before.before.before.before.before.before.before.requires.1.0 c.before.before.before.before.before.before.before.before.before.before.before.before.before.requires.1.1 c.before.before.before.before.loop.row c.before.before.before.loop-test.true c.before.before.before.before.before.before.before.first-child.ensures c.before.before.before.before.before.before.first-child2.ensures (element-read _ _ _ c.before.before.before.before.before.before.before.before.before.before.element-width.ensures c.before.before.before.before.before.before.before.before.before.buffer-place.ensures c.before.before.nth.ensures) (element-read _ _ _ (c.before.before.before.before.before.before.before.before.before.before.element-width.ensures ∙ widths-same c.before.before.before.before.before.before.before.before.before.before.before.before.before.requires.1.0) c.before.before.before.before.before.before.before.before.buffer-place2.ensures c.before.nth2.ensures), c.before.before.before.before.before.Leaves-of.ensures))
+equal-row-requires t c κs = (search rules, (key_requires c.before.before.before.before.before.before.before.before.before.before.before.before.before.requires.1.0 c.before.before.before.before.before.before.before.before.before.before.before.before.before.requires.1.1 c.before.before.before.before.loop.row c.before.before.before.loop-test.true c.before.before.before.before.before.before.before.first_child_lem.ensures c.before.before.before.before.before.before.first-child2.ensures (element_read _ _ _ c.before.before.before.before.before.before.before.before.before.before.element-width.ensures c.before.before.before.before.before.before.before.before.before.buffer-place.ensures c.before.before.nth.ensures) (element_read _ _ _ (c.before.before.before.before.before.before.before.before.before.before.element-width.ensures ∙ widths_same c.before.before.before.before.before.before.before.before.before.before.before.before.before.requires.1.0) c.before.before.before.before.before.before.before.before.buffer-place2.ensures c.before.nth2.ensures), c.before.before.before.before.before.Leaves-of.ensures))
 
 returns : (t : ℕ) → lts.Need-returns (calls t) (dictionary::long-equal-at t) dictionary::long-equal.Post Inv-loop μ-loop
-returns t c = rows_fail c.before.before.before.before.before.before.loop.invariant.1 c.before.before.before.before.before.loop-test.true (sym (key-answer c.before.before.before.before.before.before.before.before.before.before.before.before.before.before.before.requires.1.0 c.before.before.before.before.before.before.before.before.before.before.before.before.before.before.before.requires.1.1 c.before.before.before.before.before.before.loop.row c.before.before.before.before.before.loop-test.true c.before.before.before.before.before.before.before.before.before.first-child.ensures c.before.before.before.before.before.before.before.before.first-child2.ensures (element-read _ _ _ c.before.before.before.before.before.before.before.before.before.before.before.before.element-width.ensures c.before.before.before.before.before.before.before.before.before.before.before.buffer-place.ensures c.before.before.before.before.nth.ensures) (element-read _ _ _ (c.before.before.before.before.before.before.before.before.before.before.before.before.element-width.ensures ∙ widths-same c.before.before.before.before.before.before.before.before.before.before.before.before.before.before.before.requires.1.0) c.before.before.before.before.before.before.before.before.before.before.buffer-place2.ensures c.before.before.before.nth2.ensures)) ∙ sym c.before.equal-row.ensures ∙ not-true c.before.equal-row.result c.if2.true)
+returns t c = rows_fail c.before.before.before.before.before.before.loop.invariant.1 c.before.before.before.before.before.loop-test.true (sym (key_answer c.before.before.before.before.before.before.before.before.before.before.before.before.before.before.before.requires.1.0 c.before.before.before.before.before.before.before.before.before.before.before.before.before.before.before.requires.1.1 c.before.before.before.before.before.before.loop.row c.before.before.before.before.before.loop-test.true c.before.before.before.before.before.before.before.before.before.first_child_lem.ensures c.before.before.before.before.before.before.before.before.first-child2.ensures (element_read _ _ _ c.before.before.before.before.before.before.before.before.before.before.before.before.element-width.ensures c.before.before.before.before.before.before.before.before.before.before.before.buffer-place.ensures c.before.before.before.before.nth.ensures) (element_read _ _ _ (c.before.before.before.before.before.before.before.before.before.before.before.before.element-width.ensures ∙ widths_same c.before.before.before.before.before.before.before.before.before.before.before.before.before.before.before.requires.1.0) c.before.before.before.before.before.before.before.before.before.before.buffer-place2.ensures c.before.before.before.nth2.ensures)) ∙ sym c.before.equal-row.ensures ∙ not-true c.before.equal-row.result c.if2.true)
 
 mul-kept : (t : ℕ) → lts.Need-overflow-mul-kept (calls t) (dictionary::long-equal-at t) dictionary::long-equal.Post Inv-loop μ-loop
 mul-kept t c = omega arith
@@ -96,16 +96,16 @@ loop-less : (t : ℕ) → lts.Need-loop-smaller (calls t) (dictionary::long-equa
 loop-less t c = search rules
 
 loop-again : (t : ℕ) → lts.Need-loop-preserved (calls t) (dictionary::long-equal-at t) dictionary::long-equal.Post Inv-loop μ-loop
-loop-again t c = (kept_more c.before.before.before.before.before.before.loop.invariant.0 _ _ (omega (arith, key-small c.before.before.before.before.before.before.before.before.before.before.before.before.before.before.before.requires.1.0 c.before.before.before.before.before.before.before.before.before.before.before.before.before.before.before.requires.1.1 c.before.before.before.before.before.before.loop.row c.before.before.before.before.before.loop-test.true c.before.before.before.before.before.before.before.before.before.first-child.ensures c.before.before.before.before.before.before.before.before.first-child2.ensures (element-read _ _ _ c.before.before.before.before.before.before.before.before.before.before.before.before.element-width.ensures c.before.before.before.before.before.before.before.before.before.before.before.buffer-place.ensures c.before.before.before.before.nth.ensures) (element-read _ _ _ (c.before.before.before.before.before.before.before.before.before.before.before.before.element-width.ensures ∙ widths-same c.before.before.before.before.before.before.before.before.before.before.before.before.before.before.before.requires.1.0) c.before.before.before.before.before.before.before.before.before.before.buffer-place2.ensures c.before.before.before.nth2.ensures))) (sym (one-row _ _ _ _) ∙ sym c.before.equal-row.ensures ∙ not-false c.before.equal-row.result c.if2.false), rows_more c.before.before.before.before.before.before.loop.invariant.1 c.before.before.before.before.before.loop-test.true (sym (key-answer c.before.before.before.before.before.before.before.before.before.before.before.before.before.before.before.requires.1.0 c.before.before.before.before.before.before.before.before.before.before.before.before.before.before.before.requires.1.1 c.before.before.before.before.before.before.loop.row c.before.before.before.before.before.loop-test.true c.before.before.before.before.before.before.before.before.before.first-child.ensures c.before.before.before.before.before.before.before.before.first-child2.ensures (element-read _ _ _ c.before.before.before.before.before.before.before.before.before.before.before.before.element-width.ensures c.before.before.before.before.before.before.before.before.before.before.before.buffer-place.ensures c.before.before.before.before.nth.ensures) (element-read _ _ _ (c.before.before.before.before.before.before.before.before.before.before.before.before.element-width.ensures ∙ widths-same c.before.before.before.before.before.before.before.before.before.before.before.before.before.before.before.requires.1.0) c.before.before.before.before.before.before.before.before.before.before.buffer-place2.ensures c.before.before.before.nth2.ensures)) ∙ sym c.before.equal-row.ensures ∙ not-false c.before.equal-row.result c.if2.false))
+loop-again t c = (kept_more c.before.before.before.before.before.before.loop.invariant.0 _ _ (omega (arith, key_small c.before.before.before.before.before.before.before.before.before.before.before.before.before.before.before.requires.1.0 c.before.before.before.before.before.before.before.before.before.before.before.before.before.before.before.requires.1.1 c.before.before.before.before.before.before.loop.row c.before.before.before.before.before.loop-test.true c.before.before.before.before.before.before.before.before.before.first_child_lem.ensures c.before.before.before.before.before.before.before.before.first-child2.ensures (element_read _ _ _ c.before.before.before.before.before.before.before.before.before.before.before.before.element-width.ensures c.before.before.before.before.before.before.before.before.before.before.before.buffer-place.ensures c.before.before.before.before.nth.ensures) (element_read _ _ _ (c.before.before.before.before.before.before.before.before.before.before.before.before.element-width.ensures ∙ widths_same c.before.before.before.before.before.before.before.before.before.before.before.before.before.before.before.requires.1.0) c.before.before.before.before.before.before.before.before.before.before.buffer-place2.ensures c.before.before.before.nth2.ensures))) (sym (one_row _ _ _ _) ∙ sym c.before.equal-row.ensures ∙ not-false c.before.equal-row.result c.if2.false), rows_more c.before.before.before.before.before.before.loop.invariant.1 c.before.before.before.before.before.loop-test.true (sym (key_answer c.before.before.before.before.before.before.before.before.before.before.before.before.before.before.before.requires.1.0 c.before.before.before.before.before.before.before.before.before.before.before.before.before.before.before.requires.1.1 c.before.before.before.before.before.before.loop.row c.before.before.before.before.before.loop-test.true c.before.before.before.before.before.before.before.before.before.first_child_lem.ensures c.before.before.before.before.before.before.before.before.first-child2.ensures (element_read _ _ _ c.before.before.before.before.before.before.before.before.before.before.before.before.element-width.ensures c.before.before.before.before.before.before.before.before.before.before.before.buffer-place.ensures c.before.before.before.before.nth.ensures) (element_read _ _ _ (c.before.before.before.before.before.before.before.before.before.before.before.before.element-width.ensures ∙ widths_same c.before.before.before.before.before.before.before.before.before.before.before.before.before.before.before.requires.1.0) c.before.before.before.before.before.before.before.before.before.before.buffer-place2.ensures c.before.before.before.nth2.ensures)) ∙ sym c.before.equal-row.ensures ∙ not-false c.before.equal-row.result c.if2.false))
 
 loop-less-2 : (t : ℕ) → lts.Need-loop-smaller-2 (calls t) (dictionary::long-equal-at t) dictionary::long-equal.Post Inv-loop μ-loop
 loop-less-2 t c = search rules
 
 loop-again-2 : (t : ℕ) → lts.Need-loop-preserved-2 (calls t) (dictionary::long-equal-at t) dictionary::long-equal.Post Inv-loop μ-loop
-loop-again-2 t c = (c.before.before.before.before.loop.invariant.0, rows_more c.before.before.before.before.loop.invariant.1 c.before.before.before.loop-test.true (sym (key-same c.before.before.before.before.before.before.before.before.before.before.before.before.before.requires.1.0 c.before.before.before.before.before.before.before.before.before.before.before.before.before.requires.1.1 c.before.before.before.before.loop.row c.before.before.before.loop-test.true c.before.before.before.before.before.before.before.first-child.ensures c.before.before.before.before.before.before.first-child2.ensures (element-read _ _ _ c.before.before.before.before.before.before.before.before.before.before.element-width.ensures c.before.before.before.before.before.before.before.before.before.buffer-place.ensures c.before.before.nth.ensures) (element-read _ _ _ (c.before.before.before.before.before.before.before.before.before.before.element-width.ensures ∙ widths-same c.before.before.before.before.before.before.before.before.before.before.before.before.before.requires.1.0) c.before.before.before.before.before.before.before.before.buffer-place2.ensures c.before.nth2.ensures)) ∙ kept-equal c.before.before.before.before.loop.invariant.0 _ _ (omega (arith, key-small c.before.before.before.before.before.before.before.before.before.before.before.before.before.requires.1.0 c.before.before.before.before.before.before.before.before.before.before.before.before.before.requires.1.1 c.before.before.before.before.loop.row c.before.before.before.loop-test.true c.before.before.before.before.before.before.before.first-child.ensures c.before.before.before.before.before.before.first-child2.ensures (element-read _ _ _ c.before.before.before.before.before.before.before.before.before.before.element-width.ensures c.before.before.before.before.before.before.before.before.before.buffer-place.ensures c.before.before.nth.ensures) (element-read _ _ _ (c.before.before.before.before.before.before.before.before.before.before.element-width.ensures ∙ widths-same c.before.before.before.before.before.before.before.before.before.before.before.before.before.requires.1.0) c.before.before.before.before.before.before.before.before.buffer-place2.ensures c.before.nth2.ensures))) c.if1.false))
+loop-again-2 t c = (c.before.before.before.before.loop.invariant.0, rows_more c.before.before.before.before.loop.invariant.1 c.before.before.before.loop-test.true (sym (key_same c.before.before.before.before.before.before.before.before.before.before.before.before.before.requires.1.0 c.before.before.before.before.before.before.before.before.before.before.before.before.before.requires.1.1 c.before.before.before.before.loop.row c.before.before.before.loop-test.true c.before.before.before.before.before.before.before.first_child_lem.ensures c.before.before.before.before.before.before.first-child2.ensures (element_read _ _ _ c.before.before.before.before.before.before.before.before.before.before.element-width.ensures c.before.before.before.before.before.before.before.before.before.buffer-place.ensures c.before.before.nth.ensures) (element_read _ _ _ (c.before.before.before.before.before.before.before.before.before.before.element-width.ensures ∙ widths_same c.before.before.before.before.before.before.before.before.before.before.before.before.before.requires.1.0) c.before.before.before.before.before.before.before.before.buffer-place2.ensures c.before.nth2.ensures)) ∙ kept_equal c.before.before.before.before.loop.invariant.0 _ _ (omega (arith, key_small c.before.before.before.before.before.before.before.before.before.before.before.before.before.requires.1.0 c.before.before.before.before.before.before.before.before.before.before.before.before.before.requires.1.1 c.before.before.before.before.loop.row c.before.before.before.loop-test.true c.before.before.before.before.before.before.before.first_child_lem.ensures c.before.before.before.before.before.before.first-child2.ensures (element_read _ _ _ c.before.before.before.before.before.before.before.before.before.before.element-width.ensures c.before.before.before.before.before.before.before.before.before.buffer-place.ensures c.before.before.nth.ensures) (element_read _ _ _ (c.before.before.before.before.before.before.before.before.before.before.element-width.ensures ∙ widths_same c.before.before.before.before.before.before.before.before.before.before.before.before.before.requires.1.0) c.before.before.before.before.before.before.before.before.buffer-place2.ensures c.before.nth2.ensures))) c.if1.false))
 
 returns-2 : (t : ℕ) → lts.Need-returns-2 (calls t) (dictionary::long-equal-at t) dictionary::long-equal.Post Inv-loop μ-loop
-returns-2 t c = rows-done c.before.loop.invariant.1 c.loop-test.false
+returns-2 t c = rows_done c.before.loop.invariant.1 c.loop-test.false
 
 pub proof : {M : Type 1} (t : ℕ) → lts.Closed (calls t) (dictionary::long-equal-at t) dictionary::long-equal.Post M
 proof t =

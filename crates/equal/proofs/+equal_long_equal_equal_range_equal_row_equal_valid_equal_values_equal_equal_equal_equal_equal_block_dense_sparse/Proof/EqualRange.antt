@@ -5,7 +5,7 @@ use Prim.Native.Nat.{ℕ}
 use native.Mathlib.Omega.{arith}
 use borrow.Author.Tests.{not-true, not-false}
 use borrow.Author.Rules.{rules}
-use Rattle.equal.proofs.Nulls.{sides_left, sides_right, range_none, range_sides, range-rows, range-masks, range_requires, range-answer}
+use Rattle.equal.proofs.Nulls.{sides_left, sides_right, range_none, range_sides, range_rows, range_masks, range_requires, range_answer}
 use Rattle.equal.proofs.+equal_long_equal_equal_range_equal_row_equal_valid_equal_values_equal_equal_equal_equal_equal_block_dense_sparse.Proof.Measures.{equal-range-at, equal-valid-below, equal-values-below}
 use Rattle.equal.proofs.equal_range.Reads as equal-range
 use Rattle.equal.proofs.equal_valid.Reads as equal-valid
@@ -25,7 +25,7 @@ equal-nulls-requires : (t : ℕ) → lts.Need-equal-nulls-requires (calls t) (eq
 equal-nulls-requires t c κs = (omega (arith, sides_left c.before.before.before.requires.1), omega (arith, sides_right c.before.before.before.requires.1))
 
 returns-2 : (t : ℕ) → lts.Need-returns-2 (calls t) (equal-range-at t) equal-range.Post
-returns-2 t c = range-masks c.before.before.before.before.before.requires.1 c.before.before.if1.false (sym c.before.equal-nulls.ensures ∙ not-true c.before.equal-nulls.result c.if2.true)
+returns-2 t c = range_masks c.before.before.before.before.before.requires.1 c.before.before.if1.false (sym c.before.equal-nulls.ensures ∙ not-true c.before.equal-nulls.result c.if2.true)
 
 contains-nulls-requires : (t : ℕ) → lts.Need-contains-nulls-requires (calls t) (equal-range-at t) equal-range.Post
 contains-nulls-requires t c κs = omega (arith, sides_left c.before.before.before.before.before.requires.1)
@@ -37,7 +37,7 @@ equal-valid-requires : (t : ℕ) → lts.Need-equal-valid-requires (calls t) (eq
 equal-valid-requires t c κs = (omega arith, (range_sides c.before.before.before.before.before.before.before.requires.1 c.before.before.before.before.if1.false, (sym c.before.before.before.equal-nulls.ensures ∙ not-false c.before.before.before.equal-nulls.result c.before.before.if2.false)))
 
 returns-3 : (t : ℕ) → lts.Need-returns-3 (calls t) (equal-range-at t) equal-range.Post
-returns-3 t c = c.equal-valid.ensures ∙ range-rows c.before.before.before.before.before.before.before.before.requires.1 c.before.before.before.before.before.if1.false
+returns-3 t c = c.equal-valid.ensures ∙ range_rows c.before.before.before.before.before.before.before.before.requires.1 c.before.before.before.before.before.if1.false
 
 offset-requires : (t : ℕ) → lts.Need-offset-requires (calls t) (equal-range-at t) equal-range.Post
 offset-requires t c κs = search rules
@@ -58,7 +58,7 @@ equal-values-requires : (t : ℕ) → lts.Need-equal-values-requires (calls t) (
 equal-values-requires t c κs = (omega arith, range_requires c.before.before.before.before.before.before.before.before.before.requires.1 c.before.before.before.before.before.before.if1.false (sym c.before.before.before.before.before.equal-nulls.ensures ∙ not-false c.before.before.before.before.before.equal-nulls.result c.before.before.before.before.if2.false) (not-false _ (sym c.before.before.before.contains-nulls.ensures ∙ c.before.before.if3.false)) c.before.offset.ensures c.offset2.ensures)
 
 returns-4 : (t : ℕ) → lts.Need-returns-4 (calls t) (equal-range-at t) equal-range.Post
-returns-4 t c = c.equal-values.ensures ∙ range-answer c.before.before.before.before.before.before.before.before.before.before.requires.1 c.before.before.before.before.before.before.before.if1.false (sym c.before.before.before.before.before.before.equal-nulls.ensures ∙ not-false c.before.before.before.before.before.before.equal-nulls.result c.before.before.before.before.before.if2.false) (not-false _ (sym c.before.before.before.before.contains-nulls.ensures ∙ c.before.before.before.if3.false)) c.before.before.offset.ensures c.before.offset2.ensures
+returns-4 t c = c.equal-values.ensures ∙ range_answer c.before.before.before.before.before.before.before.before.before.before.requires.1 c.before.before.before.before.before.before.before.if1.false (sym c.before.before.before.before.before.before.equal-nulls.ensures ∙ not-false c.before.before.before.before.before.before.equal-nulls.result c.before.before.before.before.before.if2.false) (not-false _ (sym c.before.before.before.before.contains-nulls.ensures ∙ c.before.before.before.if3.false)) c.before.before.offset.ensures c.before.offset2.ensures
 
 pub proof : {M : Type 1} (t : ℕ) → lts.Closed (calls t) (equal-range-at t) equal-range.Post M
 proof t =

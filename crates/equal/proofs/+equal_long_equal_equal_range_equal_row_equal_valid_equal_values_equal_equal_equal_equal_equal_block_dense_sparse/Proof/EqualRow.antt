@@ -4,7 +4,7 @@ use mathlib.Core.Path.{◌∙◌}
 use Prim.Native.Nat.{ℕ}
 use native.Mathlib.Omega.{arith}
 use borrow.Author.Rules.{rules}
-use Rattle.equal.proofs.Nulls.{range_sides, range-rows}
+use Rattle.equal.proofs.Nulls.{range_sides, range_rows}
 use Rattle.equal.proofs.+equal_long_equal_equal_range_equal_row_equal_valid_equal_values_equal_equal_equal_equal_equal_block_dense_sparse.Proof.Measures.{equal-row-at, equal-range-below}
 use Rattle.equal.proofs.equal_range.Reads as equal-range
 use Rattle.equal.proofs.equal_row.Reads as equal-row
@@ -21,7 +21,7 @@ leaf-equal-requires : (t : ℕ) → lts.Need-leaf-equal-requires (calls t) (equa
 leaf-equal-requires t c κs = (range_sides c.before.before.before.before.before.requires.1.0 (λ z. omega (arith, c.before.before.if1.true)), (c.before.before.before.before.before.requires.1.1, c.if2.true))
 
 returns : (t : ℕ) → lts.Need-returns (calls t) (equal-row-at t) equal-row.Post
-returns t c = c.leaf-equal.ensures ∙ range-rows c.before.before.before.before.before.before.requires.1.0 (λ z. omega (arith, c.before.before.before.if1.true))
+returns t c = c.leaf-equal.ensures ∙ range_rows c.before.before.before.before.before.before.requires.1.0 (λ z. omega (arith, c.before.before.before.if1.true))
 
 equal-range-requires : (t : ℕ) → lts.Need-equal-range-requires (calls t) (equal-row-at t) equal-row.Post
 equal-range-requires t c κs = (search rules, c.before.before.before.requires.1.0)

@@ -9,9 +9,9 @@ use borrow.Author.Rules.{rules}
 use Rattle.image.specs.declared.type_code.Layout.TheVariants.{FixedWidth, View}
 use Rattle.image.specs.Row.{fixed_row, view_row, row_at}
 use Rattle.image.proofs.CodeTable.{at_layouts}
-use Rattle.equal.proofs.Rows.{RowsLeft, rows_none, rows-done}
+use Rattle.equal.proofs.Rows.{RowsLeft, rows_none, rows_done}
 use Rattle.accepted.proofs.Nodes.{layout_is}
-use Rattle.equal.proofs.Nulls.{sides_left, sides_right, null-more, valid_requires, valid-more, valid_fail, masked_requires, masked-answer}
+use Rattle.equal.proofs.Nulls.{sides_left, sides_right, null_more, valid_requires, valid_more, valid_fail, masked_requires, masked_answer}
 use Rattle.equal.proofs.+equal_long_equal_equal_range_equal_row_equal_valid_equal_values_equal_equal_equal_equal_equal_block_dense_sparse.Proof.Measures.{equal-valid-at, equal-values-below}
 use Rattle.equal.proofs.equal_valid.Reads as equal-valid
 use Rattle.equal.proofs.equal_values.Reads as equal-values
@@ -45,7 +45,7 @@ masked-equal-requires : (t : ℕ) → lts.Need-masked-equal-requires (calls t) (
 masked-equal-requires t c κs = masked_requires c.before.before.before.before.before.before.requires.1.0 (layout_is c.before.before.before.code.ensures c.before.before.layout.ensures (at_layouts (2 ∷ []) FixedWidth (λ l. l) refl c.before.before.layout.result c.before.match.keys1)) c.before.before.before.before.before.before.requires.1.1
 
 returns : (t : ℕ) → lts.Need-returns (calls t) (equal-valid-at t) equal-valid.Post Inv-loop μ-loop
-returns t c = c.masked-equal.ensures ∙ masked-answer c.before.before.before.before.before.before.before.requires.1.0 (layout_is c.before.before.before.before.code.ensures c.before.before.before.layout.ensures (at_layouts (2 ∷ []) FixedWidth (λ l. l) refl c.before.before.before.layout.result c.before.before.match.keys1)) fixed_row (λ A s k j. refl)
+returns t c = c.masked-equal.ensures ∙ masked_answer c.before.before.before.before.before.before.before.requires.1.0 (layout_is c.before.before.before.before.code.ensures c.before.before.before.layout.ensures (at_layouts (2 ∷ []) FixedWidth (λ l. l) refl c.before.before.before.layout.result c.before.before.match.keys1)) fixed_row (λ A s k j. refl)
 
 enum-told-2 : (t : ℕ) → lts.Need-enum-told-2 (calls t) (equal-valid-at t) equal-valid.Post Inv-loop μ-loop
 enum-told-2 t c = search rules
@@ -54,7 +54,7 @@ masked-views-equal-requires : (t : ℕ) → lts.Need-masked-views-equal-requires
 masked-views-equal-requires t c κs = masked_requires c.before.before.before.before.before.before.before.requires.1.0 (layout_is c.before.before.before.before.code.ensures c.before.before.before.layout.ensures (at_layouts (4 ∷ []) View (λ l. l) refl c.before.before.before.layout.result c.before.match2.keys1)) c.before.before.before.before.before.before.before.requires.1.1
 
 returns-2 : (t : ℕ) → lts.Need-returns-2 (calls t) (equal-valid-at t) equal-valid.Post Inv-loop μ-loop
-returns-2 t c = c.masked-views-equal.ensures ∙ masked-answer c.before.before.before.before.before.before.before.before.requires.1.0 (layout_is c.before.before.before.before.before.code.ensures c.before.before.before.before.layout.ensures (at_layouts (4 ∷ []) View (λ l. l) refl c.before.before.before.before.layout.result c.before.before.match2.keys1)) view_row (λ A s k j. refl)
+returns-2 t c = c.masked-views-equal.ensures ∙ masked_answer c.before.before.before.before.before.before.before.before.requires.1.0 (layout_is c.before.before.before.before.before.code.ensures c.before.before.before.before.layout.ensures (at_layouts (4 ∷ []) View (λ l. l) refl c.before.before.before.before.layout.result c.before.before.match2.keys1)) view_row (λ A s k j. refl)
 
 offset-requires : (t : ℕ) → lts.Need-offset-requires (calls t) (equal-valid-at t) equal-valid.Post Inv-loop μ-loop
 offset-requires t c κs = search rules
@@ -81,7 +81,7 @@ loop-less : (t : ℕ) → lts.Need-loop-smaller (calls t) (equal-valid-at t) equ
 loop-less t c = omega arith
 
 loop-again : (t : ℕ) → lts.Need-loop-preserved (calls t) (equal-valid-at t) equal-valid.Post Inv-loop μ-loop
-loop-again t c = null-more c.before.before.before.before.before.before.before.before.before.before.before.before.requires.1.0 c.before.before.before.before.before.before.before.before.before.before.before.before.requires.1.1 c.before.before.before.loop.invariant c.before.valid-rows.ensures c.before.before.loop-test.true c.if1.true
+loop-again t c = null_more c.before.before.before.before.before.before.before.before.before.before.before.before.requires.1.0 c.before.before.before.before.before.before.before.before.before.before.before.before.requires.1.1 c.before.before.before.loop.invariant c.before.valid-rows.ensures c.before.before.loop-test.true c.if1.true
 
 add-equal-values : (t : ℕ) → lts.Need-overflow-add-equal-values (calls t) (equal-valid-at t) equal-valid.Post Inv-loop μ-loop
 add-equal-values t c = omega (arith, sides_left c.before.before.before.before.before.before.before.before.before.before.before.before.requires.1.0, sides_right c.before.before.before.before.before.before.before.before.before.before.before.before.requires.1.0, c.before.before.before.before.before.offset.ensures.value, c.before.before.before.before.offset2.ensures.value, c.before.before.loop-test.true)
@@ -108,10 +108,10 @@ loop-less-2 : (t : ℕ) → lts.Need-loop-smaller-2 (calls t) (equal-valid-at t)
 loop-less-2 t c = omega (arith, c.before.before.before.valid-rows.ensures.within, c.before.before.if1.false)
 
 loop-again-2 : (t : ℕ) → lts.Need-loop-preserved-2 (calls t) (equal-valid-at t) equal-valid.Post Inv-loop μ-loop
-loop-again-2 t c = valid-more c.before.before.before.before.before.before.before.before.before.before.before.before.before.before.requires.1.0 c.before.before.before.before.before.before.before.before.before.before.before.before.before.before.requires.1.1 c.before.before.before.before.before.loop.invariant c.before.before.before.valid-rows.ensures c.before.before.before.before.before.before.before.offset.ensures c.before.before.before.before.before.before.offset2.ensures (sym c.before.equal-values.ensures ∙ not-false c.before.equal-values.result c.if2.false)
+loop-again-2 t c = valid_more c.before.before.before.before.before.before.before.before.before.before.before.before.before.before.requires.1.0 c.before.before.before.before.before.before.before.before.before.before.before.before.before.before.requires.1.1 c.before.before.before.before.before.loop.invariant c.before.before.before.valid-rows.ensures c.before.before.before.before.before.before.before.offset.ensures c.before.before.before.before.before.before.offset2.ensures (sym c.before.equal-values.ensures ∙ not-false c.before.equal-values.result c.if2.false)
 
 returns-4 : (t : ℕ) → lts.Need-returns-4 (calls t) (equal-valid-at t) equal-valid.Post Inv-loop μ-loop
-returns-4 t c = rows-done c.before.loop.invariant c.loop-test.false
+returns-4 t c = rows_done c.before.loop.invariant c.loop-test.false
 
 pub proof : {M : Type 1} (t : ℕ) → lts.Closed (calls t) (equal-valid-at t) equal-valid.Post M
 proof t =

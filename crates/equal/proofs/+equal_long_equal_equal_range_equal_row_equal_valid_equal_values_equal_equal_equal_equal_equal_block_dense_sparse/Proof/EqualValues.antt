@@ -8,13 +8,13 @@ use borrow.Author.Rules.{rules}
 use Rattle.image.specs.declared.type_code.Layout.TheVariants.{Null, Boolean, FixedWidth, VariableSize, View, List as Lists, ListView, FixedList, Struct, DenseUnion, SparseUnion, Dictionary, Runs}
 use Rattle.image.proofs.CodeTable.{at_layouts}
 use Rattle.accepted.proofs.Nodes.{layout_is}
-use Rattle.equal.proofs.Values.{parts-shallow, by_layout, null-values}
-use Rattle.equal.proofs.+equal_long_equal_equal_range_equal_row_equal_valid_equal_values_equal_equal_equal_equal_equal_block_dense_sparse.Proof.Measures.{equal-values-at, dictionary::equal-below, fixed-list::equal-below, list-view::equal-below, list::equal-below, run::equal-below, structure::equal-below, union::dense-below, union::sparse-below}
+use Rattle.equal.proofs.Values.{parts_shallow, by_layout, null_values}
+use Rattle.equal.proofs.+equal_long_equal_equal_range_equal_row_equal_valid_equal_values_equal_equal_equal_equal_equal_block_dense_sparse.Proof.Measures.{equal-values-at, dictionary::equal-below, fixed_list::equal-below, list_view::equal-below, list::equal-below, run::equal-below, structure::equal-below, union::dense-below, union::sparse-below}
 use Rattle.equal.proofs.dictionary.equal.Reads as dictionary::equal
 use Rattle.equal.proofs.equal_values.Reads as equal-values
-use Rattle.equal.proofs.fixed_list.equal.Reads as fixed-list::equal
+use Rattle.equal.proofs.fixed_list.equal.Reads as fixed_list::equal
 use Rattle.equal.proofs.list.equal.Reads as list::equal
-use Rattle.equal.proofs.list_view.equal.Reads as list-view::equal
+use Rattle.equal.proofs.list_view.equal.Reads as list_view::equal
 use Rattle.equal.proofs.run.equal.Reads as run::equal
 use Rattle.equal.proofs.structure.equal.Reads as structure::equal
 use Rattle.equal.proofs.union.dense.Reads as union::dense
@@ -29,7 +29,7 @@ use Rattle.values.proofs.variable_size.variable_sized_equal.Reads as variable-si
 use Rattle.equal.proofs.+equal_long_equal_equal_range_equal_row_equal_valid_equal_values_equal_equal_equal_equal_equal_block_dense_sparse.Lts-equal_values as lts
 
 abbrev calls : ℕ → lts.Claims
-calls t = (code_Reads.Asked, code_Reads.Learnt, layout-reads.Asked, layout-reads.Learnt, null-equal-reads.Asked, null-equal-reads.Learnt, boolean-equal-reads.Asked, boolean-equal-reads.Learnt, primitive-equal-reads.Asked, primitive-equal-reads.Learnt, variable-sized-equal-reads.Asked, variable-sized-equal-reads.Learnt, byte-view-equal-reads.Asked, byte-view-equal-reads.Learnt, list::equal-below t, list::equal.Post, list-view::equal-below t, list-view::equal.Post, fixed-list::equal-below t, fixed-list::equal.Post, structure::equal-below t, structure::equal.Post, union::dense-below t, union::dense.Post, union::sparse-below t, union::sparse.Post, dictionary::equal-below t, dictionary::equal.Post, run::equal-below t, run::equal.Post)
+calls t = (code_Reads.Asked, code_Reads.Learnt, layout-reads.Asked, layout-reads.Learnt, null-equal-reads.Asked, null-equal-reads.Learnt, boolean-equal-reads.Asked, boolean-equal-reads.Learnt, primitive-equal-reads.Asked, primitive-equal-reads.Learnt, variable-sized-equal-reads.Asked, variable-sized-equal-reads.Learnt, byte-view-equal-reads.Asked, byte-view-equal-reads.Learnt, list::equal-below t, list::equal.Post, list_view::equal-below t, list_view::equal.Post, fixed_list::equal-below t, fixed_list::equal.Post, structure::equal-below t, structure::equal.Post, union::dense-below t, union::dense.Post, union::sparse-below t, union::sparse.Post, dictionary::equal-below t, dictionary::equal.Post, run::equal-below t, run::equal.Post)
 
 code-requires : (t : ℕ) → lts.Need-code-requires (calls t) (equal-values-at t) equal-values.Post
 code-requires t c κs = search rules
@@ -47,25 +47,25 @@ enum-told-2 : (t : ℕ) → lts.Need-enum-told-2 (calls t) (equal-values-at t) e
 enum-told-2 t c = search rules
 
 boolean-equal-requires : (t : ℕ) → lts.Need-boolean-equal-requires (calls t) (equal-values-at t) equal-values.Post
-boolean-equal-requires t c κs = (parts-shallow c.before.before.before.before.before.before.requires.1, (layout_is c.before.before.before.code.ensures c.before.before.layout.ensures (at_layouts (1 ∷ []) Boolean (λ l. l) refl c.before.before.layout.result c.before.match.keys2)))
+boolean-equal-requires t c κs = (parts_shallow c.before.before.before.before.before.before.requires.1, (layout_is c.before.before.before.code.ensures c.before.before.layout.ensures (at_layouts (1 ∷ []) Boolean (λ l. l) refl c.before.before.layout.result c.before.match.keys2)))
 
 enum-told-3 : (t : ℕ) → lts.Need-enum-told-3 (calls t) (equal-values-at t) equal-values.Post
 enum-told-3 t c = search rules
 
 primitive-equal-requires : (t : ℕ) → lts.Need-primitive-equal-requires (calls t) (equal-values-at t) equal-values.Post
-primitive-equal-requires t c κs = (parts-shallow c.before.before.before.before.before.before.requires.1, (layout_is c.before.before.before.code.ensures c.before.before.layout.ensures (at_layouts (2 ∷ []) FixedWidth (λ l. l) refl c.before.before.layout.result c.before.match.keys3)))
+primitive-equal-requires t c κs = (parts_shallow c.before.before.before.before.before.before.requires.1, (layout_is c.before.before.before.code.ensures c.before.before.layout.ensures (at_layouts (2 ∷ []) FixedWidth (λ l. l) refl c.before.before.layout.result c.before.match.keys3)))
 
 enum-told-4 : (t : ℕ) → lts.Need-enum-told-4 (calls t) (equal-values-at t) equal-values.Post
 enum-told-4 t c = search rules
 
 variable-sized-equal-requires : (t : ℕ) → lts.Need-variable-sized-equal-requires (calls t) (equal-values-at t) equal-values.Post
-variable-sized-equal-requires t c κs = (parts-shallow c.before.before.before.before.before.before.requires.1, (layout_is c.before.before.before.code.ensures c.before.before.layout.ensures (at_layouts (3 ∷ []) VariableSize (λ l. l) refl c.before.before.layout.result c.before.match.keys4)))
+variable-sized-equal-requires t c κs = (parts_shallow c.before.before.before.before.before.before.requires.1, (layout_is c.before.before.before.code.ensures c.before.before.layout.ensures (at_layouts (3 ∷ []) VariableSize (λ l. l) refl c.before.before.layout.result c.before.match.keys4)))
 
 enum-told-5 : (t : ℕ) → lts.Need-enum-told-5 (calls t) (equal-values-at t) equal-values.Post
 enum-told-5 t c = search rules
 
 byte-view-equal-requires : (t : ℕ) → lts.Need-byte-view-equal-requires (calls t) (equal-values-at t) equal-values.Post
-byte-view-equal-requires t c κs = (parts-shallow c.before.before.before.before.before.before.requires.1, (layout_is c.before.before.before.code.ensures c.before.before.layout.ensures (at_layouts (4 ∷ []) View (λ l. l) refl c.before.before.layout.result c.before.match.keys5)))
+byte-view-equal-requires t c κs = (parts_shallow c.before.before.before.before.before.before.requires.1, (layout_is c.before.before.before.code.ensures c.before.before.layout.ensures (at_layouts (4 ∷ []) View (λ l. l) refl c.before.before.layout.result c.before.match.keys5)))
 
 enum-told-6 : (t : ℕ) → lts.Need-enum-told-6 (calls t) (equal-values-at t) equal-values.Post
 enum-told-6 t c = search rules
@@ -116,7 +116,7 @@ run-equal-requires : (t : ℕ) → lts.Need-equal-requires-6 (calls t) (equal-va
 run-equal-requires t c κs = (search rules, (c.before.before.before.before.before.before.requires.1, (layout_is c.before.before.before.code.ensures c.before.before.layout.ensures (at_layouts (12 ∷ []) Runs (λ l. l) refl c.before.before.layout.result c.before.match.keys13))))
 
 returns : (t : ℕ) → lts.Need-returns (calls t) (equal-values-at t) equal-values.Post
-returns t c = c.null-equal.ensures ∙ null-values c.before.before.before.before.before.before.before.requires.1 (layout_is c.before.before.before.before.code.ensures c.before.before.before.layout.ensures (at_layouts (0 ∷ []) Null (λ l. l) refl c.before.before.before.layout.result c.before.before.match.keys1))
+returns t c = c.null-equal.ensures ∙ null_values c.before.before.before.before.before.before.before.requires.1 (layout_is c.before.before.before.before.code.ensures c.before.before.before.layout.ensures (at_layouts (0 ∷ []) Null (λ l. l) refl c.before.before.before.layout.result c.before.before.match.keys1))
 
 returns-2 : (t : ℕ) → lts.Need-returns-2 (calls t) (equal-values-at t) equal-values.Post
 returns-2 t c = c.boolean-equal.ensures ∙ by_layout c.before.before.before.before.before.before.before.requires.1 Boolean (layout_is c.before.before.before.before.code.ensures c.before.before.before.layout.ensures (at_layouts (1 ∷ []) Boolean (λ l. l) refl c.before.before.before.layout.result c.before.before.match.keys2))

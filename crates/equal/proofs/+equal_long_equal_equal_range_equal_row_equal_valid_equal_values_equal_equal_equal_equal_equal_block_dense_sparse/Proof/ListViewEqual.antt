@@ -6,13 +6,13 @@ use native.Mathlib.Omega.{arith}
 use borrow.Author.Tests.{not-true, not-false}
 use borrow.Author.Rules.{rules}
 use Rattle.image.specs.Row.{list_view_row, row_at}
-use Rattle.accepted.proofs.Nodes.{element-read, size-read, part_small, part-nth}
-use Rattle.equal.proofs.Child.{widths-same}
-use Rattle.equal.proofs.Rows.{RowsLeft, rows_none, rows_more, rows_fail, rows-done}
-use Rattle.equal.proofs.ListViews.{view-narrow, view_differs, view_requires, view-answer}
-use Rattle.equal.proofs.+equal_long_equal_equal_range_equal_row_equal_valid_equal_values_equal_equal_equal_equal_equal_block_dense_sparse.Proof.Measures.{list-view::equal-at, equal-range-below}
+use Rattle.accepted.proofs.Nodes.{element_read, size_read, part_small, part_nth}
+use Rattle.equal.proofs.Child.{widths_same}
+use Rattle.equal.proofs.Rows.{RowsLeft, rows_none, rows_more, rows_fail, rows_done}
+use Rattle.equal.proofs.ListViews.{view_narrow, view_differs, view_requires, view_answer}
+use Rattle.equal.proofs.+equal_long_equal_equal_range_equal_row_equal_valid_equal_values_equal_equal_equal_equal_equal_block_dense_sparse.Proof.Measures.{list_view::equal-at, equal-range-below}
 use Rattle.equal.proofs.equal_range.Reads as equal-range
-use Rattle.equal.proofs.list_view.equal.Reads as list-view::equal
+use Rattle.equal.proofs.list_view.equal.Reads as list_view::equal
 use Rattle.image.proofs.bytes.nth.Reads as nth-reads
 use Rattle.image.proofs.element.element_width.Reads as element-width-reads
 use Rattle.image.proofs.record.buffer_place.Reads as buffer-place-reads
@@ -28,78 +28,78 @@ Inv-loop a an b bn s t n depth width oa ob za zb ca cb k₀ k = RowsLeft (list_v
 abbrev μ-loop : lts.decreases-loop
 μ-loop a an b bn s t n depth width oa ob za zb ca cb k₀ k = n - k
 
-element-width-requires : (t : ℕ) → lts.Need-element-width-requires (calls t) (list-view::equal-at t) list-view::equal.Post Inv-loop μ-loop
+element-width-requires : (t : ℕ) → lts.Need-element-width-requires (calls t) (list_view::equal-at t) list_view::equal.Post Inv-loop μ-loop
 element-width-requires t c κs = search rules
 
-buffer-place-requires : (t : ℕ) → lts.Need-buffer-place-requires (calls t) (list-view::equal-at t) list-view::equal.Post Inv-loop μ-loop
+buffer-place-requires : (t : ℕ) → lts.Need-buffer-place-requires (calls t) (list_view::equal-at t) list_view::equal.Post Inv-loop μ-loop
 buffer-place-requires t c κs = search rules
 
-buffer-place-requires-2 : (t : ℕ) → lts.Need-buffer-place-requires-2 (calls t) (list-view::equal-at t) list-view::equal.Post Inv-loop μ-loop
+buffer-place-requires-2 : (t : ℕ) → lts.Need-buffer-place-requires-2 (calls t) (list_view::equal-at t) list_view::equal.Post Inv-loop μ-loop
 buffer-place-requires-2 t c κs = search rules
 
-buffer-place-requires-3 : (t : ℕ) → lts.Need-buffer-place-requires-3 (calls t) (list-view::equal-at t) list-view::equal.Post Inv-loop μ-loop
+buffer-place-requires-3 : (t : ℕ) → lts.Need-buffer-place-requires-3 (calls t) (list_view::equal-at t) list_view::equal.Post Inv-loop μ-loop
 buffer-place-requires-3 t c κs = search rules
 
-buffer-place-requires-4 : (t : ℕ) → lts.Need-buffer-place-requires-4 (calls t) (list-view::equal-at t) list-view::equal.Post Inv-loop μ-loop
+buffer-place-requires-4 : (t : ℕ) → lts.Need-buffer-place-requires-4 (calls t) (list_view::equal-at t) list_view::equal.Post Inv-loop μ-loop
 buffer-place-requires-4 t c κs = search rules
 
-first-child-requires : (t : ℕ) → lts.Need-first-child-requires (calls t) (list-view::equal-at t) list-view::equal.Post Inv-loop μ-loop
+first-child-requires : (t : ℕ) → lts.Need-first-child-requires (calls t) (list_view::equal-at t) list_view::equal.Post Inv-loop μ-loop
 first-child-requires t c κs = search rules
 
-first-child-requires-2 : (t : ℕ) → lts.Need-first-child-requires-2 (calls t) (list-view::equal-at t) list-view::equal.Post Inv-loop μ-loop
+first-child-requires-2 : (t : ℕ) → lts.Need-first-child-requires-2 (calls t) (list_view::equal-at t) list_view::equal.Post Inv-loop μ-loop
 first-child-requires-2 t c κs = search rules
 
-loop-holds : (t : ℕ) → lts.Need-loop-init (calls t) (list-view::equal-at t) list-view::equal.Post Inv-loop μ-loop
+loop-holds : (t : ℕ) → lts.Need-loop-init (calls t) (list_view::equal-at t) list_view::equal.Post Inv-loop μ-loop
 loop-holds t c = rows_none _ _ _ _ _
 
-add-nth : (t : ℕ) → lts.Need-overflow-add-nth (calls t) (list-view::equal-at t) list-view::equal.Post Inv-loop μ-loop
+add-nth : (t : ℕ) → lts.Need-overflow-add-nth (calls t) (list_view::equal-at t) list_view::equal.Post Inv-loop μ-loop
 add-nth t c = omega (arith, part_small c.before.before.before.before.before.before.before.before.before.before.before.requires.1.0.left, part_small c.before.before.before.before.before.before.before.before.before.before.before.requires.1.0.right, c.loop-test.true)
 
-nth-requires : (t : ℕ) → lts.Need-nth-requires (calls t) (list-view::equal-at t) list-view::equal.Post Inv-loop μ-loop
-nth-requires t c κs = part-nth c.before.before.before.before.before.before.before.before.before.before.before.requires.1.0.left c.before.loop.k (omega (arith, c.loop-test.true)) c.before.before.before.before.before.buffer-place3.ensures (omega (arith, c.before.before.before.before.before.before.before.before.element-width.ensures, view-narrow c.before.before.before.before.before.before.before.before.before.before.before.requires.1.0 c.before.before.before.before.before.before.before.before.before.before.before.requires.1.1))
+nth-requires : (t : ℕ) → lts.Need-nth-requires (calls t) (list_view::equal-at t) list_view::equal.Post Inv-loop μ-loop
+nth-requires t c κs = part_nth c.before.before.before.before.before.before.before.before.before.before.before.requires.1.0.left c.before.loop.k (omega (arith, c.loop-test.true)) c.before.before.before.before.before.buffer-place3.ensures (omega (arith, c.before.before.before.before.before.before.before.before.element-width.ensures, view_narrow c.before.before.before.before.before.before.before.before.before.before.before.requires.1.0 c.before.before.before.before.before.before.before.before.before.before.before.requires.1.1))
 
-add-nth-2 : (t : ℕ) → lts.Need-overflow-add-nth-2 (calls t) (list-view::equal-at t) list-view::equal.Post Inv-loop μ-loop
+add-nth-2 : (t : ℕ) → lts.Need-overflow-add-nth-2 (calls t) (list_view::equal-at t) list_view::equal.Post Inv-loop μ-loop
 add-nth-2 t c = omega (arith, part_small c.before.before.before.before.before.before.before.before.before.before.before.before.requires.1.0.left, part_small c.before.before.before.before.before.before.before.before.before.before.before.before.requires.1.0.right, c.before.loop-test.true)
 
-nth-requires-2 : (t : ℕ) → lts.Need-nth-requires-2 (calls t) (list-view::equal-at t) list-view::equal.Post Inv-loop μ-loop
-nth-requires-2 t c κs = part-nth c.before.before.before.before.before.before.before.before.before.before.before.before.requires.1.0.right c.before.before.loop.k (omega (arith, c.before.loop-test.true)) c.before.before.before.before.before.buffer-place4.ensures (omega (arith, c.before.before.before.before.before.before.before.before.before.element-width.ensures, view-narrow c.before.before.before.before.before.before.before.before.before.before.before.before.requires.1.0 c.before.before.before.before.before.before.before.before.before.before.before.before.requires.1.1))
+nth-requires-2 : (t : ℕ) → lts.Need-nth-requires-2 (calls t) (list_view::equal-at t) list_view::equal.Post Inv-loop μ-loop
+nth-requires-2 t c κs = part_nth c.before.before.before.before.before.before.before.before.before.before.before.before.requires.1.0.right c.before.before.loop.k (omega (arith, c.before.loop-test.true)) c.before.before.before.before.before.buffer-place4.ensures (omega (arith, c.before.before.before.before.before.before.before.before.before.element-width.ensures, view_narrow c.before.before.before.before.before.before.before.before.before.before.before.before.requires.1.0 c.before.before.before.before.before.before.before.before.before.before.before.before.requires.1.1))
 
-returns : (t : ℕ) → lts.Need-returns (calls t) (list-view::equal-at t) list-view::equal.Post Inv-loop μ-loop
-returns t c = rows_fail c.before.before.before.before.loop.invariant c.before.before.before.loop-test.true (view_differs c.before.before.before.before.before.before.before.before.before.before.before.before.before.before.requires.1.0 c.before.before.before.before.before.before.before.before.before.before.before.before.before.before.requires.1.1 c.before.before.before.before.loop.k c.before.before.before.loop-test.true (size-read _ _ _ c.before.before.before.before.before.before.before.before.before.before.before.element-width.ensures c.before.before.before.before.before.before.before.before.buffer-place3.ensures c.before.before.nth.ensures) (size-read _ _ _ (c.before.before.before.before.before.before.before.before.before.before.before.element-width.ensures ∙ widths-same c.before.before.before.before.before.before.before.before.before.before.before.before.before.before.requires.1.0) c.before.before.before.before.before.before.before.buffer-place4.ensures c.before.nth2.ensures) c.if1.true)
+returns : (t : ℕ) → lts.Need-returns (calls t) (list_view::equal-at t) list_view::equal.Post Inv-loop μ-loop
+returns t c = rows_fail c.before.before.before.before.loop.invariant c.before.before.before.loop-test.true (view_differs c.before.before.before.before.before.before.before.before.before.before.before.before.before.before.requires.1.0 c.before.before.before.before.before.before.before.before.before.before.before.before.before.before.requires.1.1 c.before.before.before.before.loop.k c.before.before.before.loop-test.true (size_read _ _ _ c.before.before.before.before.before.before.before.before.before.before.before.element-width.ensures c.before.before.before.before.before.before.before.before.buffer-place3.ensures c.before.before.nth.ensures) (size_read _ _ _ (c.before.before.before.before.before.before.before.before.before.before.before.element-width.ensures ∙ widths_same c.before.before.before.before.before.before.before.before.before.before.before.before.before.before.requires.1.0) c.before.before.before.before.before.before.before.buffer-place4.ensures c.before.nth2.ensures) c.if1.true)
 
-add-nth-3 : (t : ℕ) → lts.Need-overflow-add-nth-3 (calls t) (list-view::equal-at t) list-view::equal.Post Inv-loop μ-loop
+add-nth-3 : (t : ℕ) → lts.Need-overflow-add-nth-3 (calls t) (list_view::equal-at t) list_view::equal.Post Inv-loop μ-loop
 add-nth-3 t c = omega (arith, part_small c.before.before.before.before.before.before.before.before.before.before.before.before.before.before.requires.1.0.left, part_small c.before.before.before.before.before.before.before.before.before.before.before.before.before.before.requires.1.0.right, c.before.before.before.loop-test.true)
 
-nth-requires-3 : (t : ℕ) → lts.Need-nth-requires-3 (calls t) (list-view::equal-at t) list-view::equal.Post Inv-loop μ-loop
-nth-requires-3 t c κs = part-nth c.before.before.before.before.before.before.before.before.before.before.before.before.before.before.requires.1.0.left c.before.before.before.before.loop.k (omega (arith, c.before.before.before.loop-test.true)) c.before.before.before.before.before.before.before.before.before.before.buffer-place.ensures (omega (arith, c.before.before.before.before.before.before.before.before.before.before.before.element-width.ensures, view-narrow c.before.before.before.before.before.before.before.before.before.before.before.before.before.before.requires.1.0 c.before.before.before.before.before.before.before.before.before.before.before.before.before.before.requires.1.1))
+nth-requires-3 : (t : ℕ) → lts.Need-nth-requires-3 (calls t) (list_view::equal-at t) list_view::equal.Post Inv-loop μ-loop
+nth-requires-3 t c κs = part_nth c.before.before.before.before.before.before.before.before.before.before.before.before.before.before.requires.1.0.left c.before.before.before.before.loop.k (omega (arith, c.before.before.before.loop-test.true)) c.before.before.before.before.before.before.before.before.before.before.buffer-place.ensures (omega (arith, c.before.before.before.before.before.before.before.before.before.before.before.element-width.ensures, view_narrow c.before.before.before.before.before.before.before.before.before.before.before.before.before.before.requires.1.0 c.before.before.before.before.before.before.before.before.before.before.before.before.before.before.requires.1.1))
 
-add-nth-4 : (t : ℕ) → lts.Need-overflow-add-nth-4 (calls t) (list-view::equal-at t) list-view::equal.Post Inv-loop μ-loop
+add-nth-4 : (t : ℕ) → lts.Need-overflow-add-nth-4 (calls t) (list_view::equal-at t) list_view::equal.Post Inv-loop μ-loop
 add-nth-4 t c = omega (arith, part_small c.before.before.before.before.before.before.before.before.before.before.before.before.before.before.before.requires.1.0.left, part_small c.before.before.before.before.before.before.before.before.before.before.before.before.before.before.before.requires.1.0.right, c.before.before.before.before.loop-test.true)
 
-nth-requires-4 : (t : ℕ) → lts.Need-nth-requires-4 (calls t) (list-view::equal-at t) list-view::equal.Post Inv-loop μ-loop
-nth-requires-4 t c κs = part-nth c.before.before.before.before.before.before.before.before.before.before.before.before.before.before.before.requires.1.0.right c.before.before.before.before.before.loop.k (omega (arith, c.before.before.before.before.loop-test.true)) c.before.before.before.before.before.before.before.before.before.before.buffer-place2.ensures (omega (arith, c.before.before.before.before.before.before.before.before.before.before.before.before.element-width.ensures, view-narrow c.before.before.before.before.before.before.before.before.before.before.before.before.before.before.before.requires.1.0 c.before.before.before.before.before.before.before.before.before.before.before.before.before.before.before.requires.1.1))
+nth-requires-4 : (t : ℕ) → lts.Need-nth-requires-4 (calls t) (list_view::equal-at t) list_view::equal.Post Inv-loop μ-loop
+nth-requires-4 t c κs = part_nth c.before.before.before.before.before.before.before.before.before.before.before.before.before.before.before.requires.1.0.right c.before.before.before.before.before.loop.k (omega (arith, c.before.before.before.before.loop-test.true)) c.before.before.before.before.before.before.before.before.before.before.buffer-place2.ensures (omega (arith, c.before.before.before.before.before.before.before.before.before.before.before.before.element-width.ensures, view_narrow c.before.before.before.before.before.before.before.before.before.before.before.before.before.before.before.requires.1.0 c.before.before.before.before.before.before.before.before.before.before.before.before.before.before.before.requires.1.1))
 
-equal-range-requires : (t : ℕ) → lts.Need-equal-range-requires (calls t) (list-view::equal-at t) list-view::equal.Post Inv-loop μ-loop
-equal-range-requires t c κs = (omega (arith, c.before.before.before.before.before.before.before.before.before.before.before.before.before.before.before.before.requires.0), view_requires c.before.before.before.before.before.before.before.before.before.before.before.before.before.before.before.before.requires.1.0 c.before.before.before.before.before.before.before.before.before.before.before.before.before.before.before.before.requires.1.1 c.before.before.before.before.before.before.loop.k c.before.before.before.before.before.loop-test.true c.before.before.before.before.before.before.before.before.first-child.ensures c.before.before.before.before.before.before.before.first-child2.ensures (size-read _ _ _ c.before.before.before.before.before.before.before.before.before.before.before.before.before.element-width.ensures c.before.before.before.before.before.before.before.before.before.before.buffer-place3.ensures c.before.before.before.before.nth.ensures) (size-read _ _ _ (c.before.before.before.before.before.before.before.before.before.before.before.before.before.element-width.ensures ∙ widths-same c.before.before.before.before.before.before.before.before.before.before.before.before.before.before.before.before.requires.1.0) c.before.before.before.before.before.before.before.before.before.buffer-place4.ensures c.before.before.before.nth2.ensures) c.before.before.if1.false (element-read _ _ _ c.before.before.before.before.before.before.before.before.before.before.before.before.before.element-width.ensures c.before.before.before.before.before.before.before.before.before.before.before.before.buffer-place.ensures c.before.nth3.ensures) (element-read _ _ _ (c.before.before.before.before.before.before.before.before.before.before.before.before.before.element-width.ensures ∙ widths-same c.before.before.before.before.before.before.before.before.before.before.before.before.before.before.before.before.requires.1.0) c.before.before.before.before.before.before.before.before.before.before.before.buffer-place2.ensures c.nth4.ensures))
+equal-range-requires : (t : ℕ) → lts.Need-equal-range-requires (calls t) (list_view::equal-at t) list_view::equal.Post Inv-loop μ-loop
+equal-range-requires t c κs = (omega (arith, c.before.before.before.before.before.before.before.before.before.before.before.before.before.before.before.before.requires.0), view_requires c.before.before.before.before.before.before.before.before.before.before.before.before.before.before.before.before.requires.1.0 c.before.before.before.before.before.before.before.before.before.before.before.before.before.before.before.before.requires.1.1 c.before.before.before.before.before.before.loop.k c.before.before.before.before.before.loop-test.true c.before.before.before.before.before.before.before.before.first_child_lem.ensures c.before.before.before.before.before.before.before.first-child2.ensures (size_read _ _ _ c.before.before.before.before.before.before.before.before.before.before.before.before.before.element-width.ensures c.before.before.before.before.before.before.before.before.before.before.buffer-place3.ensures c.before.before.before.before.nth.ensures) (size_read _ _ _ (c.before.before.before.before.before.before.before.before.before.before.before.before.before.element-width.ensures ∙ widths_same c.before.before.before.before.before.before.before.before.before.before.before.before.before.before.before.before.requires.1.0) c.before.before.before.before.before.before.before.before.before.buffer-place4.ensures c.before.before.before.nth2.ensures) c.before.before.if1.false (element_read _ _ _ c.before.before.before.before.before.before.before.before.before.before.before.before.before.element-width.ensures c.before.before.before.before.before.before.before.before.before.before.before.before.buffer-place.ensures c.before.nth3.ensures) (element_read _ _ _ (c.before.before.before.before.before.before.before.before.before.before.before.before.before.element-width.ensures ∙ widths_same c.before.before.before.before.before.before.before.before.before.before.before.before.before.before.before.before.requires.1.0) c.before.before.before.before.before.before.before.before.before.before.before.buffer-place2.ensures c.nth4.ensures))
 
-returns-2 : (t : ℕ) → lts.Need-returns-2 (calls t) (list-view::equal-at t) list-view::equal.Post Inv-loop μ-loop
-returns-2 t c = rows_fail c.before.before.before.before.before.before.before.before.loop.invariant c.before.before.before.before.before.before.before.loop-test.true (sym (view-answer c.before.before.before.before.before.before.before.before.before.before.before.before.before.before.before.before.before.before.requires.1.0 c.before.before.before.before.before.before.before.before.before.before.before.before.before.before.before.before.before.before.requires.1.1 c.before.before.before.before.before.before.before.before.loop.k c.before.before.before.before.before.before.before.loop-test.true c.before.before.before.before.before.before.before.before.before.before.first-child.ensures c.before.before.before.before.before.before.before.before.before.first-child2.ensures (size-read _ _ _ c.before.before.before.before.before.before.before.before.before.before.before.before.before.before.before.element-width.ensures c.before.before.before.before.before.before.before.before.before.before.before.before.buffer-place3.ensures c.before.before.before.before.before.before.nth.ensures) (size-read _ _ _ (c.before.before.before.before.before.before.before.before.before.before.before.before.before.before.before.element-width.ensures ∙ widths-same c.before.before.before.before.before.before.before.before.before.before.before.before.before.before.before.before.before.before.requires.1.0) c.before.before.before.before.before.before.before.before.before.before.before.buffer-place4.ensures c.before.before.before.before.before.nth2.ensures) c.before.before.before.before.if1.false (element-read _ _ _ c.before.before.before.before.before.before.before.before.before.before.before.before.before.before.before.element-width.ensures c.before.before.before.before.before.before.before.before.before.before.before.before.before.before.buffer-place.ensures c.before.before.before.nth3.ensures) (element-read _ _ _ (c.before.before.before.before.before.before.before.before.before.before.before.before.before.before.before.element-width.ensures ∙ widths-same c.before.before.before.before.before.before.before.before.before.before.before.before.before.before.before.before.before.before.requires.1.0) c.before.before.before.before.before.before.before.before.before.before.before.before.before.buffer-place2.ensures c.before.before.nth4.ensures)) ∙ sym c.before.equal-range.ensures ∙ not-true c.before.equal-range.result c.if2.true)
+returns-2 : (t : ℕ) → lts.Need-returns-2 (calls t) (list_view::equal-at t) list_view::equal.Post Inv-loop μ-loop
+returns-2 t c = rows_fail c.before.before.before.before.before.before.before.before.loop.invariant c.before.before.before.before.before.before.before.loop-test.true (sym (view_answer c.before.before.before.before.before.before.before.before.before.before.before.before.before.before.before.before.before.before.requires.1.0 c.before.before.before.before.before.before.before.before.before.before.before.before.before.before.before.before.before.before.requires.1.1 c.before.before.before.before.before.before.before.before.loop.k c.before.before.before.before.before.before.before.loop-test.true c.before.before.before.before.before.before.before.before.before.before.first_child_lem.ensures c.before.before.before.before.before.before.before.before.before.first-child2.ensures (size_read _ _ _ c.before.before.before.before.before.before.before.before.before.before.before.before.before.before.before.element-width.ensures c.before.before.before.before.before.before.before.before.before.before.before.before.buffer-place3.ensures c.before.before.before.before.before.before.nth.ensures) (size_read _ _ _ (c.before.before.before.before.before.before.before.before.before.before.before.before.before.before.before.element-width.ensures ∙ widths_same c.before.before.before.before.before.before.before.before.before.before.before.before.before.before.before.before.before.before.requires.1.0) c.before.before.before.before.before.before.before.before.before.before.before.buffer-place4.ensures c.before.before.before.before.before.nth2.ensures) c.before.before.before.before.if1.false (element_read _ _ _ c.before.before.before.before.before.before.before.before.before.before.before.before.before.before.before.element-width.ensures c.before.before.before.before.before.before.before.before.before.before.before.before.before.before.buffer-place.ensures c.before.before.before.nth3.ensures) (element_read _ _ _ (c.before.before.before.before.before.before.before.before.before.before.before.before.before.before.before.element-width.ensures ∙ widths_same c.before.before.before.before.before.before.before.before.before.before.before.before.before.before.before.before.before.before.requires.1.0) c.before.before.before.before.before.before.before.before.before.before.before.before.before.buffer-place2.ensures c.before.before.nth4.ensures)) ∙ sym c.before.equal-range.ensures ∙ not-true c.before.equal-range.result c.if2.true)
 
-add-k : (t : ℕ) → lts.Need-overflow-add-k (calls t) (list-view::equal-at t) list-view::equal.Post Inv-loop μ-loop
+add-k : (t : ℕ) → lts.Need-overflow-add-k (calls t) (list_view::equal-at t) list_view::equal.Post Inv-loop μ-loop
 add-k t c = omega (arith, part_small c.before.before.before.before.before.before.before.before.before.before.before.before.before.before.before.before.before.before.requires.1.0.left, part_small c.before.before.before.before.before.before.before.before.before.before.before.before.before.before.before.before.before.before.requires.1.0.right, c.before.before.before.before.before.before.before.loop-test.true)
 
-loop-less : (t : ℕ) → lts.Need-loop-smaller (calls t) (list-view::equal-at t) list-view::equal.Post Inv-loop μ-loop
+loop-less : (t : ℕ) → lts.Need-loop-smaller (calls t) (list_view::equal-at t) list_view::equal.Post Inv-loop μ-loop
 loop-less t c = search rules
 
-loop-again : (t : ℕ) → lts.Need-loop-preserved (calls t) (list-view::equal-at t) list-view::equal.Post Inv-loop μ-loop
-loop-again t c = rows_more c.before.before.before.before.before.before.before.before.loop.invariant c.before.before.before.before.before.before.before.loop-test.true (sym (view-answer c.before.before.before.before.before.before.before.before.before.before.before.before.before.before.before.before.before.before.requires.1.0 c.before.before.before.before.before.before.before.before.before.before.before.before.before.before.before.before.before.before.requires.1.1 c.before.before.before.before.before.before.before.before.loop.k c.before.before.before.before.before.before.before.loop-test.true c.before.before.before.before.before.before.before.before.before.before.first-child.ensures c.before.before.before.before.before.before.before.before.before.first-child2.ensures (size-read _ _ _ c.before.before.before.before.before.before.before.before.before.before.before.before.before.before.before.element-width.ensures c.before.before.before.before.before.before.before.before.before.before.before.before.buffer-place3.ensures c.before.before.before.before.before.before.nth.ensures) (size-read _ _ _ (c.before.before.before.before.before.before.before.before.before.before.before.before.before.before.before.element-width.ensures ∙ widths-same c.before.before.before.before.before.before.before.before.before.before.before.before.before.before.before.before.before.before.requires.1.0) c.before.before.before.before.before.before.before.before.before.before.before.buffer-place4.ensures c.before.before.before.before.before.nth2.ensures) c.before.before.before.before.if1.false (element-read _ _ _ c.before.before.before.before.before.before.before.before.before.before.before.before.before.before.before.element-width.ensures c.before.before.before.before.before.before.before.before.before.before.before.before.before.before.buffer-place.ensures c.before.before.before.nth3.ensures) (element-read _ _ _ (c.before.before.before.before.before.before.before.before.before.before.before.before.before.before.before.element-width.ensures ∙ widths-same c.before.before.before.before.before.before.before.before.before.before.before.before.before.before.before.before.before.before.requires.1.0) c.before.before.before.before.before.before.before.before.before.before.before.before.before.buffer-place2.ensures c.before.before.nth4.ensures)) ∙ sym c.before.equal-range.ensures ∙ not-false c.before.equal-range.result c.if2.false)
+loop-again : (t : ℕ) → lts.Need-loop-preserved (calls t) (list_view::equal-at t) list_view::equal.Post Inv-loop μ-loop
+loop-again t c = rows_more c.before.before.before.before.before.before.before.before.loop.invariant c.before.before.before.before.before.before.before.loop-test.true (sym (view_answer c.before.before.before.before.before.before.before.before.before.before.before.before.before.before.before.before.before.before.requires.1.0 c.before.before.before.before.before.before.before.before.before.before.before.before.before.before.before.before.before.before.requires.1.1 c.before.before.before.before.before.before.before.before.loop.k c.before.before.before.before.before.before.before.loop-test.true c.before.before.before.before.before.before.before.before.before.before.first_child_lem.ensures c.before.before.before.before.before.before.before.before.before.first-child2.ensures (size_read _ _ _ c.before.before.before.before.before.before.before.before.before.before.before.before.before.before.before.element-width.ensures c.before.before.before.before.before.before.before.before.before.before.before.before.buffer-place3.ensures c.before.before.before.before.before.before.nth.ensures) (size_read _ _ _ (c.before.before.before.before.before.before.before.before.before.before.before.before.before.before.before.element-width.ensures ∙ widths_same c.before.before.before.before.before.before.before.before.before.before.before.before.before.before.before.before.before.before.requires.1.0) c.before.before.before.before.before.before.before.before.before.before.before.buffer-place4.ensures c.before.before.before.before.before.nth2.ensures) c.before.before.before.before.if1.false (element_read _ _ _ c.before.before.before.before.before.before.before.before.before.before.before.before.before.before.before.element-width.ensures c.before.before.before.before.before.before.before.before.before.before.before.before.before.before.buffer-place.ensures c.before.before.before.nth3.ensures) (element_read _ _ _ (c.before.before.before.before.before.before.before.before.before.before.before.before.before.before.before.element-width.ensures ∙ widths_same c.before.before.before.before.before.before.before.before.before.before.before.before.before.before.before.before.before.before.requires.1.0) c.before.before.before.before.before.before.before.before.before.before.before.before.before.buffer-place2.ensures c.before.before.nth4.ensures)) ∙ sym c.before.equal-range.ensures ∙ not-false c.before.equal-range.result c.if2.false)
 
-returns-3 : (t : ℕ) → lts.Need-returns-3 (calls t) (list-view::equal-at t) list-view::equal.Post Inv-loop μ-loop
-returns-3 t c = rows-done c.before.loop.invariant c.loop-test.false
+returns-3 : (t : ℕ) → lts.Need-returns-3 (calls t) (list_view::equal-at t) list_view::equal.Post Inv-loop μ-loop
+returns-3 t c = rows_done c.before.loop.invariant c.loop-test.false
 
-pub proof : {M : Type 1} (t : ℕ) → lts.Closed (calls t) (list-view::equal-at t) list-view::equal.Post M
+pub proof : {M : Type 1} (t : ℕ) → lts.Closed (calls t) (list_view::equal-at t) list_view::equal.Post M
 proof t =
-    lts.spec (calls t) (list-view::equal-at t) list-view::equal.Post Inv-loop μ-loop
+    lts.spec (calls t) (list_view::equal-at t) list_view::equal.Post Inv-loop μ-loop
     (element-width-requires t)
     (buffer-place-requires t)
     (buffer-place-requires-2 t)

@@ -15,12 +15,12 @@ use Rattle.equal.proofs.equal_valid.Reads as equal-valid
 use Rattle.equal.proofs.equal_valid.Kinds as equal-valid-kinds
 use Rattle.equal.proofs.equal_values.Reads as equal-values
 use Rattle.equal.proofs.equal_values.Kinds as equal-values-kinds
-use Rattle.equal.proofs.fixed_list.equal.Reads as fixed-list::equal
-use Rattle.equal.proofs.fixed_list.equal.Kinds as fixed-list::equal-kinds
+use Rattle.equal.proofs.fixed_list.equal.Reads as fixed_list::equal
+use Rattle.equal.proofs.fixed_list.equal.Kinds as fixed_list::equal-kinds
 use Rattle.equal.proofs.list.equal.Reads as list::equal
 use Rattle.equal.proofs.list.equal.Kinds as list::equal-kinds
-use Rattle.equal.proofs.list_view.equal.Reads as list-view::equal
-use Rattle.equal.proofs.list_view.equal.Kinds as list-view::equal-kinds
+use Rattle.equal.proofs.list_view.equal.Reads as list_view::equal
+use Rattle.equal.proofs.list_view.equal.Kinds as list_view::equal-kinds
 use Rattle.equal.proofs.run.equal.Reads as run::equal
 use Rattle.equal.proofs.run.equal.Kinds as run::equal-kinds
 use Rattle.equal.proofs.structure.equal.Reads as structure::equal
@@ -50,13 +50,13 @@ abbrev pub μ-equal-valid : Measures 2 equal-valid-kinds.ps ℕ
 abbrev pub μ-equal-values : Measures 2 equal-values-kinds.ps ℕ
 μ-equal-values κs a = 7 * a.1.1.1.1.1.1.1.0 + 5
 
-abbrev pub μ-fixed-list::equal : Measures 2 fixed-list::equal-kinds.ps ℕ
+abbrev pub μ-fixed-list::equal : Measures 2 fixed_list::equal-kinds.ps ℕ
 μ-fixed-list::equal κs a = 7 * a.1.1.1.1.1.1.1.0 + 2
 
 abbrev pub μ-list::equal : Measures 2 list::equal-kinds.ps ℕ
 μ-list::equal κs a = 7 * a.1.1.1.1.1.1.1.0 + 2
 
-abbrev pub μ-list-view::equal : Measures 2 list-view::equal-kinds.ps ℕ
+abbrev pub μ-list-view::equal : Measures 2 list_view::equal-kinds.ps ℕ
 μ-list-view::equal κs a = 7 * a.1.1.1.1.1.1.1.0 + 2
 
 abbrev pub μ-run::equal : Measures 2 run::equal-kinds.ps ℕ
@@ -110,11 +110,11 @@ equal-values-at t = and 2 equal-values-kinds.ps (is 2 equal-values-kinds.ps μ-e
 abbrev pub equal-values-below : ℕ → In 2 equal-values-kinds.ps
 equal-values-below t = and 2 equal-values-kinds.ps (falls 2 equal-values-kinds.ps ◌<◌ μ-equal-values t) equal-values.Pre
 
-abbrev pub fixed-list::equal-at : ℕ → In 2 fixed-list::equal-kinds.ps
-fixed-list::equal-at t = and 2 fixed-list::equal-kinds.ps (is 2 fixed-list::equal-kinds.ps μ-fixed-list::equal t) fixed-list::equal.Pre
+abbrev pub fixed_list::equal-at : ℕ → In 2 fixed_list::equal-kinds.ps
+fixed_list::equal-at t = and 2 fixed_list::equal-kinds.ps (is 2 fixed_list::equal-kinds.ps μ-fixed-list::equal t) fixed_list::equal.Pre
 
-abbrev pub fixed-list::equal-below : ℕ → In 2 fixed-list::equal-kinds.ps
-fixed-list::equal-below t = and 2 fixed-list::equal-kinds.ps (falls 2 fixed-list::equal-kinds.ps ◌<◌ μ-fixed-list::equal t) fixed-list::equal.Pre
+abbrev pub fixed_list::equal-below : ℕ → In 2 fixed_list::equal-kinds.ps
+fixed_list::equal-below t = and 2 fixed_list::equal-kinds.ps (falls 2 fixed_list::equal-kinds.ps ◌<◌ μ-fixed-list::equal t) fixed_list::equal.Pre
 
 abbrev pub list::equal-at : ℕ → In 2 list::equal-kinds.ps
 list::equal-at t = and 2 list::equal-kinds.ps (is 2 list::equal-kinds.ps μ-list::equal t) list::equal.Pre
@@ -122,11 +122,11 @@ list::equal-at t = and 2 list::equal-kinds.ps (is 2 list::equal-kinds.ps μ-list
 abbrev pub list::equal-below : ℕ → In 2 list::equal-kinds.ps
 list::equal-below t = and 2 list::equal-kinds.ps (falls 2 list::equal-kinds.ps ◌<◌ μ-list::equal t) list::equal.Pre
 
-abbrev pub list-view::equal-at : ℕ → In 2 list-view::equal-kinds.ps
-list-view::equal-at t = and 2 list-view::equal-kinds.ps (is 2 list-view::equal-kinds.ps μ-list-view::equal t) list-view::equal.Pre
+abbrev pub list_view::equal-at : ℕ → In 2 list_view::equal-kinds.ps
+list_view::equal-at t = and 2 list_view::equal-kinds.ps (is 2 list_view::equal-kinds.ps μ-list-view::equal t) list_view::equal.Pre
 
-abbrev pub list-view::equal-below : ℕ → In 2 list-view::equal-kinds.ps
-list-view::equal-below t = and 2 list-view::equal-kinds.ps (falls 2 list-view::equal-kinds.ps ◌<◌ μ-list-view::equal t) list-view::equal.Pre
+abbrev pub list_view::equal-below : ℕ → In 2 list_view::equal-kinds.ps
+list_view::equal-below t = and 2 list_view::equal-kinds.ps (falls 2 list_view::equal-kinds.ps ◌<◌ μ-list-view::equal t) list_view::equal.Pre
 
 abbrev pub run::equal-at : ℕ → In 2 run::equal-kinds.ps
 run::equal-at t = and 2 run::equal-kinds.ps (is 2 run::equal-kinds.ps μ-run::equal t) run::equal.Pre

@@ -7,11 +7,11 @@ use native.Mathlib.Omega.{arith}
 use borrow.Author.Tests.{not-true, not-false}
 use borrow.Author.Rules.{rules}
 use Rattle.image.specs.Row.{run_row, row_at}
-use Rattle.equal.proofs.Runs.{Stepping, stepping_start, run-nodes, run_small, run-above, step_requires, step_fail, step_some, step_again, run-parts, together_requires, together_answer}
-use Rattle.equal.proofs.Child.{layout-right}
+use Rattle.equal.proofs.Runs.{Stepping, stepping_start, run_nodes, run_small, run_above, step_requires, step_fail, step_some, step_again, run_parts, together_requires, together_answer}
+use Rattle.equal.proofs.Child.{layout_right}
 use Rattle.accepted.proofs.Nodes.{part_small}
-use Rattle.accepted.proofs.RunEnds.{run-first}
-use Rattle.equal.proofs.Rows.{RowsLeft, rows_none, rows-done}
+use Rattle.accepted.proofs.RunEnds.{run_first}
+use Rattle.equal.proofs.Rows.{RowsLeft, rows_none, rows_done}
 use Rattle.equal.proofs.+equal_long_equal_equal_range_equal_row_equal_valid_equal_values_equal_equal_equal_equal_equal_block_dense_sparse.Proof.Measures.{run::equal-at, equal-range-below, equal-row-below}
 use Rattle.equal.proofs.equal_range.Reads as equal-range
 use Rattle.equal.proofs.equal_row.Reads as equal-row
@@ -39,7 +39,7 @@ first-child-requires : (t : ℕ) → lts.Need-first-child-requires (calls t) (ru
 first-child-requires t c κs = search rules
 
 add-va : (t : ℕ) → lts.Need-overflow-add-va (calls t) (run::equal-at t) run::equal.Post Inv-runs μ-runs
-add-va t c = omega (arith, c.first-child.ensures.small)
+add-va t c = omega (arith, c.first_child_lem.ensures.small)
 
 first-child-requires-2 : (t : ℕ) → lts.Need-first-child-requires-2 (calls t) (run::equal-at t) run::equal.Post Inv-runs μ-runs
 first-child-requires-2 t c κs = search rules
@@ -48,25 +48,25 @@ add-vb : (t : ℕ) → lts.Need-overflow-add-vb (calls t) (run::equal-at t) run:
 add-vb t c = omega (arith, c.first-child2.ensures.small)
 
 returns : (t : ℕ) → lts.Need-returns (calls t) (run::equal-at t) run::equal.Post Inv-runs μ-runs
-returns t c = rows-done (rows_none _ _ _ _ _) (omega (arith, c.if1.true))
+returns t c = rows_done (rows_none _ _ _ _ _) (omega (arith, c.if1.true))
 
 run-of-requires : (t : ℕ) → lts.Need-run-of-requires (calls t) (run::equal-at t) run::equal.Post Inv-runs μ-runs
-run-of-requires t c κs = run-first c.before.before.before.before.before.requires.1.0.left c.before.before.before.before.before.requires.1.1 (omega (arith, c.if1.false))
+run-of-requires t c κs = run_first c.before.before.before.before.before.requires.1.0.left c.before.before.before.before.before.requires.1.1 (omega (arith, c.if1.false))
 
 run-of-requires-2 : (t : ℕ) → lts.Need-run-of-requires-2 (calls t) (run::equal-at t) run::equal.Post Inv-runs μ-runs
-run-of-requires-2 t c κs = run-first c.before.before.before.before.before.before.requires.1.0.right (layout-right c.before.before.before.before.before.before.requires.1.0 c.before.before.before.before.before.before.requires.1.1) (omega (arith, c.before.if1.false))
+run-of-requires-2 t c κs = run_first c.before.before.before.before.before.before.requires.1.0.right (layout_right c.before.before.before.before.before.before.requires.1.0 c.before.before.before.before.before.before.requires.1.1) (omega (arith, c.before.if1.false))
 
 same-runs-requires : (t : ℕ) → lts.Need-same-runs-requires (calls t) (run::equal-at t) run::equal.Post Inv-runs μ-runs
-same-runs-requires t c κs = run-parts c.before.before.before.before.before.before.before.requires.1.0 c.before.before.before.before.before.before.before.requires.1.1 (omega (arith, c.before.before.if1.false)) c.before.run_of.ensures c.run-of2.ensures
+same-runs-requires t c κs = run_parts c.before.before.before.before.before.before.before.requires.1.0 c.before.before.before.before.before.before.before.requires.1.1 (omega (arith, c.before.before.if1.false)) c.before.run_of.ensures c.run-of2.ensures
 
 equal-range-requires : (t : ℕ) → lts.Need-equal-range-requires (calls t) (run::equal-at t) run::equal.Post Inv-runs μ-runs
-equal-range-requires t c κs = (search rules, together_requires c.before.before.before.before.before.before.before.before.before.requires.1.0 c.before.before.before.before.before.before.before.before.before.requires.1.1 c.before.before.before.run_of.ensures c.before.before.run-of2.ensures (omega (arith, c.before.before.before.before.if1.false)) c.if2.true (c.before.same_runs.ensures c.if2.true) c.before.before.before.before.before.before.first-child.ensures c.before.before.before.before.before.first-child2.ensures)
+equal-range-requires t c κs = (search rules, together_requires c.before.before.before.before.before.before.before.before.before.requires.1.0 c.before.before.before.before.before.before.before.before.before.requires.1.1 c.before.before.before.run_of.ensures c.before.before.run-of2.ensures (omega (arith, c.before.before.before.before.if1.false)) c.if2.true (c.before.same_runs.ensures c.if2.true) c.before.before.before.before.before.before.first_child_lem.ensures c.before.before.before.before.before.first-child2.ensures)
 
 returns-2 : (t : ℕ) → lts.Need-returns-2 (calls t) (run::equal-at t) run::equal.Post Inv-runs μ-runs
-returns-2 t c = c.equal-range.ensures ∙ together_answer c.before.before.before.before.before.before.before.before.before.before.requires.1.0 c.before.before.before.before.before.before.before.before.before.before.requires.1.1 c.before.before.before.before.run_of.ensures c.before.before.before.run-of2.ensures (omega (arith, c.before.before.before.before.before.if1.false)) c.before.if2.true (c.before.before.same_runs.ensures c.before.if2.true) c.before.before.before.before.before.before.before.first-child.ensures c.before.before.before.before.before.before.first-child2.ensures
+returns-2 t c = c.equal-range.ensures ∙ together_answer c.before.before.before.before.before.before.before.before.before.before.requires.1.0 c.before.before.before.before.before.before.before.before.before.before.requires.1.1 c.before.before.before.before.run_of.ensures c.before.before.before.run-of2.ensures (omega (arith, c.before.before.before.before.before.if1.false)) c.before.if2.true (c.before.before.same_runs.ensures c.before.if2.true) c.before.before.before.before.before.before.before.first_child_lem.ensures c.before.before.before.before.before.before.first-child2.ensures
 
 leaves-of-requires : (t : ℕ) → lts.Need-leaves-of-requires (calls t) (run::equal-at t) run::equal.Post Inv-runs μ-runs
-leaves-of-requires t c κs = run-nodes c.before.before.before.before.before.before.before.before.before.requires.1.0 c.before.before.before.before.before.before.before.before.before.requires.1.1 c.before.before.before.before.before.before.first-child.ensures c.before.before.before.before.before.first-child2.ensures
+leaves-of-requires t c κs = run_nodes c.before.before.before.before.before.before.before.before.before.requires.1.0 c.before.before.before.before.before.before.before.before.before.requires.1.1 c.before.before.before.before.before.before.first_child_lem.ensures c.before.before.before.before.before.first-child2.ensures
 
 ends-of-requires : (t : ℕ) → lts.Need-ends-of-requires (calls t) (run::equal-at t) run::equal.Post Inv-runs μ-runs
 ends-of-requires t c κs = search rules
@@ -78,25 +78,25 @@ runs-holds : (t : ℕ) → lts.Need-runs-init (calls t) (run::equal-at t) run::e
 runs-holds t c = (refl, (stepping_start _ _ _ _ _ _ _ c.before.before.before.before.before.before.run_of.ensures c.before.before.before.before.before.run-of2.ensures, rows_none _ _ _ _ _))
 
 equal-row-requires : (t : ℕ) → lts.Need-equal-row-requires (calls t) (run::equal-at t) run::equal.Post Inv-runs μ-runs
-equal-row-requires t c κs = (omega (arith, c.before.before.before.before.before.before.before.before.before.before.before.before.before.before.requires.0), (step_requires c.before.before.before.before.before.before.before.before.before.before.before.before.before.before.requires.1.0 c.before.before.before.before.before.before.before.before.before.before.before.before.before.before.requires.1.1 c.before.runs.invariant.1.0 c.runs-test.true c.before.before.before.before.before.before.before.before.before.before.before.first-child.ensures c.before.before.before.before.before.before.before.before.before.before.first-child2.ensures, c.before.before.before.before.Leaves-of.ensures))
+equal-row-requires t c κs = (omega (arith, c.before.before.before.before.before.before.before.before.before.before.before.before.before.before.requires.0), (step_requires c.before.before.before.before.before.before.before.before.before.before.before.before.before.before.requires.1.0 c.before.before.before.before.before.before.before.before.before.before.before.before.before.before.requires.1.1 c.before.runs.invariant.1.0 c.runs-test.true c.before.before.before.before.before.before.before.before.before.before.before.first_child_lem.ensures c.before.before.before.before.before.before.before.before.before.before.first-child2.ensures, c.before.before.before.before.Leaves-of.ensures))
 
 run-end-requires : (t : ℕ) → lts.Need-run-end-requires (calls t) (run::equal-at t) run::equal.Post Inv-runs μ-runs
 run-end-requires t c κs = (omega (arith, run_small c.before.before.before.before.before.before.before.before.before.before.before.before.before.before.before.before.requires.1.0.left c.before.before.before.before.before.before.before.before.before.before.before.before.before.before.before.before.requires.1.1 c.before.before.runs-test.true (c.before.before.before.runs.invariant.1.0.left c.before.before.runs-test.true)), c.before.before.before.before.before.ends_of.ensures)
 
 run-end-requires-2 : (t : ℕ) → lts.Need-run-end-requires-2 (calls t) (run::equal-at t) run::equal.Post Inv-runs μ-runs
-run-end-requires-2 t c κs = (omega (arith, run_small c.before.before.before.before.before.before.before.before.before.before.before.before.before.before.before.before.before.requires.1.0.right (layout-right c.before.before.before.before.before.before.before.before.before.before.before.before.before.before.before.before.before.requires.1.0 c.before.before.before.before.before.before.before.before.before.before.before.before.before.before.before.before.before.requires.1.1) c.before.before.before.runs-test.true (c.before.before.before.before.runs.invariant.1.0.right c.before.before.before.runs-test.true)), c.before.before.before.before.before.ends-of2.ensures)
+run-end-requires-2 t c κs = (omega (arith, run_small c.before.before.before.before.before.before.before.before.before.before.before.before.before.before.before.before.before.requires.1.0.right (layout_right c.before.before.before.before.before.before.before.before.before.before.before.before.before.before.before.before.before.requires.1.0 c.before.before.before.before.before.before.before.before.before.before.before.before.before.before.before.before.before.requires.1.1) c.before.before.before.runs-test.true (c.before.before.before.before.runs.invariant.1.0.right c.before.before.before.runs-test.true)), c.before.before.before.before.before.ends-of2.ensures)
 
 add-least : (t : ℕ) → lts.Need-overflow-add-least (calls t) (run::equal-at t) run::equal.Post Inv-runs μ-runs
 add-least t c = omega (arith, part_small c.before.before.before.before.before.before.before.before.before.before.before.before.before.before.before.before.before.before.requires.1.0.left, c.before.before.before.before.runs-test.true)
 
 sub-least : (t : ℕ) → lts.Need-overflow-sub-least (calls t) (run::equal-at t) run::equal.Post Inv-runs μ-runs
-sub-least t c = omega (arith, run-above c.before.before.before.before.before.before.before.before.before.before.before.before.before.before.before.before.before.before.requires.1.0.left c.before.before.before.before.before.before.before.before.before.before.before.before.before.before.before.before.before.before.requires.1.1 c.before.before.before.before.runs-test.true (c.before.before.before.before.before.runs.invariant.1.0.left c.before.before.before.before.runs-test.true) c.before.run-end.ensures)
+sub-least t c = omega (arith, run_above c.before.before.before.before.before.before.before.before.before.before.before.before.before.before.before.before.before.before.requires.1.0.left c.before.before.before.before.before.before.before.before.before.before.before.before.before.before.before.before.before.before.requires.1.1 c.before.before.before.before.runs-test.true (c.before.before.before.before.before.runs.invariant.1.0.left c.before.before.before.before.runs-test.true) c.before.run-end.ensures)
 
 add-least-2 : (t : ℕ) → lts.Need-overflow-add-least-2 (calls t) (run::equal-at t) run::equal.Post Inv-runs μ-runs
 add-least-2 t c = omega (arith, part_small c.before.before.before.before.before.before.before.before.before.before.before.before.before.before.before.before.before.before.requires.1.0.right, c.before.before.before.before.runs-test.true)
 
 sub-least-2 : (t : ℕ) → lts.Need-overflow-sub-least-2 (calls t) (run::equal-at t) run::equal.Post Inv-runs μ-runs
-sub-least-2 t c = omega (arith, run-above c.before.before.before.before.before.before.before.before.before.before.before.before.before.before.before.before.before.before.requires.1.0.right (layout-right c.before.before.before.before.before.before.before.before.before.before.before.before.before.before.before.before.before.before.requires.1.0 c.before.before.before.before.before.before.before.before.before.before.before.before.before.before.before.before.before.before.requires.1.1) c.before.before.before.before.runs-test.true (c.before.before.before.before.before.runs.invariant.1.0.right c.before.before.before.before.runs-test.true) c.run-end2.ensures)
+sub-least-2 t c = omega (arith, run_above c.before.before.before.before.before.before.before.before.before.before.before.before.before.before.before.before.before.before.requires.1.0.right (layout_right c.before.before.before.before.before.before.before.before.before.before.before.before.before.before.before.before.before.before.requires.1.0 c.before.before.before.before.before.before.before.before.before.before.before.before.before.before.before.before.before.before.requires.1.1) c.before.before.before.before.runs-test.true (c.before.before.before.before.before.runs.invariant.1.0.right c.before.before.before.before.runs-test.true) c.run-end2.ensures)
 
 least-requires : (t : ℕ) → lts.Need-least-requires (calls t) (run::equal-at t) run::equal.Post Inv-runs μ-runs
 least-requires t c κs = search rules
@@ -123,19 +123,19 @@ add-next-run-2 : (t : ℕ) → lts.Need-overflow-add-next-run-2 (calls t) (run::
 add-next-run-2 t c = omega (arith, part_small c.before.before.before.before.before.before.before.before.before.before.before.before.before.before.before.before.before.before.before.before.before.requires.1.0.right)
 
 next-run-requires-2 : (t : ℕ) → lts.Need-next-run-requires-2 (calls t) (run::equal-at t) run::equal.Post Inv-runs μ-runs
-next-run-requires-2 t c κs = (omega (arith, part_small c.before.before.before.before.before.before.before.before.before.before.before.before.before.before.before.before.before.before.before.before.before.requires.1.0.right), omega (arith, run_small c.before.before.before.before.before.before.before.before.before.before.before.before.before.before.before.before.before.before.before.before.before.requires.1.0.right (layout-right c.before.before.before.before.before.before.before.before.before.before.before.before.before.before.before.before.before.before.before.before.before.requires.1.0 c.before.before.before.before.before.before.before.before.before.before.before.before.before.before.before.before.before.before.before.before.before.requires.1.1) c.before.before.before.before.before.before.before.runs-test.true (c.before.before.before.before.before.before.before.before.runs.invariant.1.0.right c.before.before.before.before.before.before.before.runs-test.true)))
+next-run-requires-2 t c κs = (omega (arith, part_small c.before.before.before.before.before.before.before.before.before.before.before.before.before.before.before.before.before.before.before.before.before.requires.1.0.right), omega (arith, run_small c.before.before.before.before.before.before.before.before.before.before.before.before.before.before.before.before.before.before.before.before.before.requires.1.0.right (layout_right c.before.before.before.before.before.before.before.before.before.before.before.before.before.before.before.before.before.before.before.before.before.requires.1.0 c.before.before.before.before.before.before.before.before.before.before.before.before.before.before.before.before.before.before.before.before.before.requires.1.1) c.before.before.before.before.before.before.before.runs-test.true (c.before.before.before.before.before.before.before.before.runs.invariant.1.0.right c.before.before.before.before.before.before.before.runs-test.true)))
 
 runs-less : (t : ℕ) → lts.Need-runs-smaller (calls t) (run::equal-at t) run::equal.Post Inv-runs μ-runs
 runs-less t c = omega (arith, step_some c.before.before.before.before.before.before.before.before.before.before.before.before.before.before.before.before.before.before.before.before.before.before.requires.1.0 c.before.before.before.before.before.before.before.before.before.before.before.before.before.before.before.before.before.before.before.before.before.before.requires.1.1 c.before.before.before.before.before.before.before.before.before.runs.invariant.1.0 c.before.before.before.before.before.before.before.before.runs-test.true c.before.before.before.before.before.run-end.ensures c.before.before.before.before.run-end2.ensures c.before.before.before.least.ensures c.before.before.least2.ensures)
 
 runs-again : (t : ℕ) → lts.Need-runs-preserved (calls t) (run::equal-at t) run::equal.Post Inv-runs μ-runs
-runs-again t c = (c.before.before.before.before.before.before.before.before.before.runs.invariant.0, step_again c.before.before.before.before.before.before.before.before.before.before.before.before.before.before.before.before.before.before.before.before.before.before.requires.1.0 c.before.before.before.before.before.before.before.before.before.before.before.before.before.before.before.before.before.before.before.before.before.before.requires.1.1 c.before.before.before.before.before.before.before.before.before.runs.invariant.1.0 c.before.before.before.before.before.before.before.before.runs-test.true c.before.before.before.before.before.run-end.ensures c.before.before.before.before.run-end2.ensures c.before.before.before.least.ensures c.before.before.least2.ensures c.before.before.before.before.before.before.before.before.before.before.before.before.before.before.before.before.before.before.before.first-child.ensures c.before.before.before.before.before.before.before.before.before.before.before.before.before.before.before.before.before.before.first-child2.ensures c.before.before.before.before.before.before.before.before.before.runs.invariant.1.1 (sym c.before.before.before.before.before.before.before.equal-row.ensures ∙ not-false c.before.before.before.before.before.before.before.equal-row.result c.before.before.before.before.before.before.if3.false) c.before.next-run.ensures c.next-run2.ensures)
+runs-again t c = (c.before.before.before.before.before.before.before.before.before.runs.invariant.0, step_again c.before.before.before.before.before.before.before.before.before.before.before.before.before.before.before.before.before.before.before.before.before.before.requires.1.0 c.before.before.before.before.before.before.before.before.before.before.before.before.before.before.before.before.before.before.before.before.before.before.requires.1.1 c.before.before.before.before.before.before.before.before.before.runs.invariant.1.0 c.before.before.before.before.before.before.before.before.runs-test.true c.before.before.before.before.before.run-end.ensures c.before.before.before.before.run-end2.ensures c.before.before.before.least.ensures c.before.before.least2.ensures c.before.before.before.before.before.before.before.before.before.before.before.before.before.before.before.before.before.before.before.first_child_lem.ensures c.before.before.before.before.before.before.before.before.before.before.before.before.before.before.before.before.before.before.first-child2.ensures c.before.before.before.before.before.before.before.before.before.runs.invariant.1.1 (sym c.before.before.before.before.before.before.before.equal-row.ensures ∙ not-false c.before.before.before.before.before.before.before.equal-row.result c.before.before.before.before.before.before.if3.false) c.before.next-run.ensures c.next-run2.ensures)
 
 returns-3 : (t : ℕ) → lts.Need-returns-3 (calls t) (run::equal-at t) run::equal.Post Inv-runs μ-runs
-returns-3 t c = c.before.runs.invariant.0 ∙ rows-done c.before.runs.invariant.1.1 c.runs-test.false
+returns-3 t c = c.before.runs.invariant.0 ∙ rows_done c.before.runs.invariant.1.1 c.runs-test.false
 
 returns-4 : (t : ℕ) → lts.Need-returns-4 (calls t) (run::equal-at t) run::equal.Post Inv-runs μ-runs
-returns-4 t c = step_fail c.before.before.before.before.before.before.before.before.before.before.before.before.before.before.before.before.requires.1.0 c.before.before.before.before.before.before.before.before.before.before.before.before.before.before.before.before.requires.1.1 c.before.before.before.runs.invariant.1.0 c.before.before.runs-test.true c.before.before.before.before.before.before.before.before.before.before.before.before.before.first-child.ensures c.before.before.before.before.before.before.before.before.before.before.before.before.first-child2.ensures c.before.before.before.runs.invariant.1.1 (sym c.before.equal-row.ensures ∙ not-true c.before.equal-row.result c.if3.true)
+returns-4 t c = step_fail c.before.before.before.before.before.before.before.before.before.before.before.before.before.before.before.before.requires.1.0 c.before.before.before.before.before.before.before.before.before.before.before.before.before.before.before.before.requires.1.1 c.before.before.before.runs.invariant.1.0 c.before.before.runs-test.true c.before.before.before.before.before.before.before.before.before.before.before.before.before.first_child_lem.ensures c.before.before.before.before.before.before.before.before.before.before.before.before.first-child2.ensures c.before.before.before.runs.invariant.1.1 (sym c.before.equal-row.ensures ∙ not-true c.before.equal-row.result c.if3.true)
 
 pub proof : {M : Type 1} (t : ℕ) → lts.Closed (calls t) (run::equal-at t) run::equal.Post M
 proof t =

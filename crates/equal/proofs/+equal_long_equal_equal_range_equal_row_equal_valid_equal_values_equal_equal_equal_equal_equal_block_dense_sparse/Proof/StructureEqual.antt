@@ -36,16 +36,16 @@ loop-holds : (t : ℕ) → lts.Need-loop-init (calls t) (structure::equal-at t) 
 loop-holds t c = columns_start _ _ _ _ _ _ _ _
 
 add-equal-range : (t : ℕ) → lts.Need-overflow-add-equal-range (calls t) (structure::equal-at t) structure::equal.Post Inv-loop μ-loop
-add-equal-range t c = omega (arith, c.before.before.before.first-child.ensures.small, c.before.before.before.before.child-count.ensures.small, c.loop-test.true)
+add-equal-range t c = omega (arith, c.before.before.before.first_child_lem.ensures.small, c.before.before.before.before.child-count.ensures.small, c.loop-test.true)
 
 add-equal-range-2 : (t : ℕ) → lts.Need-overflow-add-equal-range-2 (calls t) (structure::equal-at t) structure::equal.Post Inv-loop μ-loop
 add-equal-range-2 t c = omega (arith, c.before.before.first-child2.ensures.small, c.before.before.before.before.child-count.ensures.small, c.loop-test.true)
 
 equal-range-requires : (t : ℕ) → lts.Need-equal-range-requires (calls t) (structure::equal-at t) structure::equal.Post Inv-loop μ-loop
-equal-range-requires t c κs = (search rules, struct_requires c.before.before.before.before.before.before.before.requires.1.0 c.before.before.before.before.before.before.before.requires.1.1 c.before.before.before.first-child.ensures c.before.before.first-child2.ensures c.before.before.before.before.child-count.ensures c.loop-test.true)
+equal-range-requires t c κs = (search rules, struct_requires c.before.before.before.before.before.before.before.requires.1.0 c.before.before.before.before.before.before.before.requires.1.1 c.before.before.before.first_child_lem.ensures c.before.before.first-child2.ensures c.before.before.before.before.child-count.ensures c.loop-test.true)
 
 returns : (t : ℕ) → lts.Need-returns (calls t) (structure::equal-at t) structure::equal.Post Inv-loop μ-loop
-returns t c = columns_fail c.before.before.before.before.before.before.before.before.before.requires.1.0 c.before.before.before.before.before.before.before.before.before.requires.1.1 c.before.before.before.before.before.first-child.ensures c.before.before.before.before.first-child2.ensures c.before.before.before.before.before.before.child-count.ensures c.before.before.before.loop.invariant c.before.before.loop-test.true (sym c.before.equal-range.ensures ∙ not-true c.before.equal-range.result c.if1.true)
+returns t c = columns_fail c.before.before.before.before.before.before.before.before.before.requires.1.0 c.before.before.before.before.before.before.before.before.before.requires.1.1 c.before.before.before.before.before.first_child_lem.ensures c.before.before.before.before.first-child2.ensures c.before.before.before.before.before.before.child-count.ensures c.before.before.before.loop.invariant c.before.before.loop-test.true (sym c.before.equal-range.ensures ∙ not-true c.before.equal-range.result c.if1.true)
 
 add-k : (t : ℕ) → lts.Need-overflow-add-k (calls t) (structure::equal-at t) structure::equal.Post Inv-loop μ-loop
 add-k t c = omega (arith, c.before.before.before.before.before.before.child-count.ensures.small, c.before.before.loop-test.true)
@@ -54,10 +54,10 @@ loop-less : (t : ℕ) → lts.Need-loop-smaller (calls t) (structure::equal-at t
 loop-less t c = search rules
 
 loop-again : (t : ℕ) → lts.Need-loop-preserved (calls t) (structure::equal-at t) structure::equal.Post Inv-loop μ-loop
-loop-again t c = columns_more_left c.before.before.before.before.before.before.before.before.before.requires.1.0 c.before.before.before.before.before.before.before.before.before.requires.1.1 c.before.before.before.before.before.first-child.ensures c.before.before.before.before.first-child2.ensures c.before.before.before.before.before.before.child-count.ensures c.before.before.before.loop.invariant c.before.before.loop-test.true (sym c.before.equal-range.ensures ∙ not-false c.before.equal-range.result c.if1.false)
+loop-again t c = columns_more_left c.before.before.before.before.before.before.before.before.before.requires.1.0 c.before.before.before.before.before.before.before.before.before.requires.1.1 c.before.before.before.before.before.first_child_lem.ensures c.before.before.before.before.first-child2.ensures c.before.before.before.before.before.before.child-count.ensures c.before.before.before.loop.invariant c.before.before.loop-test.true (sym c.before.equal-range.ensures ∙ not-false c.before.equal-range.result c.if1.false)
 
 returns-2 : (t : ℕ) → lts.Need-returns-2 (calls t) (structure::equal-at t) structure::equal.Post Inv-loop μ-loop
-returns-2 t c = columns_done c.before.before.before.before.before.before.before.requires.1.0 c.before.before.before.before.before.before.before.requires.1.1 c.before.before.before.first-child.ensures c.before.before.first-child2.ensures c.before.before.before.before.child-count.ensures c.before.loop.invariant c.loop-test.false
+returns-2 t c = columns_done c.before.before.before.before.before.before.before.requires.1.0 c.before.before.before.before.before.before.before.requires.1.1 c.before.before.before.first_child_lem.ensures c.before.before.first-child2.ensures c.before.before.before.before.child-count.ensures c.before.loop.invariant c.loop-test.false
 
 pub proof : {M : Type 1} (t : ℕ) → lts.Closed (calls t) (structure::equal-at t) structure::equal.Post M
 proof t =

@@ -5,11 +5,11 @@ use mathlib.Core.Path.{sym, ◌∙◌}
 use Prim.Native.Nat.{ℕ, ◌-◌}
 use borrow.Author.Tests.{not-true, not-false}
 use Rattle.image.specs.Row.{sparse_row, row_at}
-use Rattle.accepted.proofs.Nodes.{id-read, part_small}
-use Rattle.equal.proofs.Rows.{RowsLeft, rows_none, rows_more, rows_fail, rows-done}
-use Rattle.equal.proofs.Unions.{sparse_differs, sparse-low, sparse_requires, sparse-answer, sparse-inside, whole-children}
+use Rattle.accepted.proofs.Nodes.{id_read, part_small}
+use Rattle.equal.proofs.Rows.{RowsLeft, rows_none, rows_more, rows_fail, rows_done}
+use Rattle.equal.proofs.Unions.{sparse_differs, sparse_low, sparse_requires, sparse_answer, sparse_inside, whole_children}
 use mathlib.Core.Logic.{inr}
-use Rattle.equal.proofs.Child.{layout-right}
+use Rattle.equal.proofs.Child.{layout_right}
 use native.Mathlib.Omega.{arith}
 use borrow.Author.Rules.{rules}
 use Rattle.equal.proofs.equal_range.Reads as equal-range
@@ -51,13 +51,13 @@ add-equal-len-2 : (t : ℕ) → lts.Need-overflow-add-equal-len-2 (calls t) (uni
 add-equal-len-2 t c = omega (arith, part_small c.before.before.before.before.before.before.before.requires.1.0.left, part_small c.before.before.before.before.before.before.before.requires.1.0.right, c.before.before.before.before.buffer-place.ensures.small, c.before.before.before.buffer-place2.ensures.small)
 
 equal-len-requires : (t : ℕ) → lts.Need-equal-len-requires (calls t) (union::block-at t) union::block.Post Inv-loop μ-loop
-equal-len-requires t c κs = (sparse-inside c.before.before.before.before.before.before.before.requires.1.0.left c.before.before.before.before.before.before.before.requires.1.1 c.before.before.before.before.buffer-place.ensures.value, sparse-inside c.before.before.before.before.before.before.before.requires.1.0.right (layout-right c.before.before.before.before.before.before.before.requires.1.0 c.before.before.before.before.before.before.before.requires.1.1) c.before.before.before.buffer-place2.ensures.value)
+equal-len-requires t c κs = (sparse_inside c.before.before.before.before.before.before.before.requires.1.0.left c.before.before.before.before.before.before.before.requires.1.1 c.before.before.before.before.buffer-place.ensures.value, sparse_inside c.before.before.before.before.before.before.before.requires.1.0.right (layout_right c.before.before.before.before.before.before.before.requires.1.0 c.before.before.before.before.before.before.before.requires.1.1) c.before.before.before.buffer-place2.ensures.value)
 
 struct-equal-requires : (t : ℕ) → lts.Need-equal-requires (calls t) (union::block-at t) union::block.Post Inv-loop μ-loop
 struct-equal-requires t c κs = (search rules, (c.before.before.before.before.before.before.before.before.before.requires.1.0, inr c.before.before.before.before.before.before.before.before.before.requires.1.1))
 
 returns : (t : ℕ) → lts.Need-returns (calls t) (union::block-at t) union::block.Post Inv-loop μ-loop
-returns t c = whole-children c.before.before.before.before.before.before.before.before.before.before.before.requires.1.0 c.before.before.before.before.before.before.before.before.before.before.before.requires.1.1 (sym c.before.equal.ensures ∙ c.if3.true) c.before.before.before.before.before.before.before.before.buffer-place.ensures.value c.before.before.before.before.before.before.before.buffer-place2.ensures.value (sym c.before.before.before.equal-len.ensures ∙ c.before.before.if2.true)
+returns t c = whole_children c.before.before.before.before.before.before.before.before.before.before.before.requires.1.0 c.before.before.before.before.before.before.before.before.before.before.before.requires.1.1 (sym c.before.equal.ensures ∙ c.if3.true) c.before.before.before.before.before.before.before.before.buffer-place.ensures.value c.before.before.before.before.before.before.before.buffer-place2.ensures.value (sym c.before.before.before.equal-len.ensures ∙ c.before.before.if2.true)
 
 loop-holds : (t : ℕ) → lts.Need-loop-init (calls t) (union::block-at t) union::block.Post Inv-loop μ-loop
 loop-holds t c = rows_none _ _ _ _ _
@@ -81,13 +81,13 @@ byte-requires-2 : (t : ℕ) → lts.Need-byte-requires-2 (calls t) (union::block
 byte-requires-2 t c κs = search rules
 
 returns-2 : (t : ℕ) → lts.Need-returns-2 (calls t) (union::block-at t) union::block.Post Inv-loop μ-loop
-returns-2 t c = rows_fail c.before.before.before.before.loop.invariant c.before.before.before.loop-test.true (sparse_differs c.before.before.before.before.before.before.before.before.before.before.before.before.requires.1.0 c.before.before.before.before.before.before.before.before.before.before.before.before.requires.1.1 c.before.before.before.before.loop.k c.before.before.before.loop-test.true (id-read _ _ _ c.before.before.before.before.before.before.before.before.before.buffer-place.ensures c.before.before.byte.ensures) (id-read _ _ _ c.before.before.before.before.before.before.before.before.buffer-place2.ensures c.before.byte2.ensures) c.if4.true)
+returns-2 t c = rows_fail c.before.before.before.before.loop.invariant c.before.before.before.loop-test.true (sparse_differs c.before.before.before.before.before.before.before.before.before.before.before.before.requires.1.0 c.before.before.before.before.before.before.before.before.before.before.before.before.requires.1.1 c.before.before.before.before.loop.k c.before.before.before.loop-test.true (id_read _ _ _ c.before.before.before.before.before.before.before.before.before.buffer-place.ensures c.before.before.byte.ensures) (id_read _ _ _ c.before.before.before.before.before.before.before.before.buffer-place2.ensures c.before.byte2.ensures) c.if4.true)
 
 child-with-id-requires : (t : ℕ) → lts.Need-child-with-id-requires (calls t) (union::block-at t) union::block.Post Inv-loop μ-loop
 child-with-id-requires t c κs = search rules
 
 sub-equal-range : (t : ℕ) → lts.Need-overflow-sub-equal-range (calls t) (union::block-at t) union::block.Post Inv-loop μ-loop
-sub-equal-range t c = sparse-low c.before.before.before.before.before.before.before.before.before.before.before.before.before.requires.1.0 c.before.before.before.before.before.before.before.before.before.before.before.before.before.requires.1.1 c.before.before.before.before.before.loop.k c.before.before.before.before.loop-test.true (id-read _ _ _ c.before.before.before.before.before.before.before.before.before.before.buffer-place.ensures c.before.before.before.byte.ensures) (id-read _ _ _ c.before.before.before.before.before.before.before.before.before.buffer-place2.ensures c.before.before.byte2.ensures) c.before.if4.false c.before.before.before.before.before.before.before.before.first-child.ensures c.before.before.before.before.before.before.before.first-child2.ensures c.child-with-id.ensures
+sub-equal-range t c = sparse_low c.before.before.before.before.before.before.before.before.before.before.before.before.before.requires.1.0 c.before.before.before.before.before.before.before.before.before.before.before.before.before.requires.1.1 c.before.before.before.before.before.loop.k c.before.before.before.before.loop-test.true (id_read _ _ _ c.before.before.before.before.before.before.before.before.before.before.buffer-place.ensures c.before.before.before.byte.ensures) (id_read _ _ _ c.before.before.before.before.before.before.before.before.before.buffer-place2.ensures c.before.before.byte2.ensures) c.before.if4.false c.before.before.before.before.before.before.before.before.first_child_lem.ensures c.before.before.before.before.before.before.before.first-child2.ensures c.child-with-id.ensures
 
 add-equal-range : (t : ℕ) → lts.Need-overflow-add-equal-range (calls t) (union::block-at t) union::block.Post Inv-loop μ-loop
 add-equal-range t c = omega (arith, c.before.before.before.before.before.before.before.first-child2.ensures.small, c.child-with-id.ensures.small)
@@ -99,10 +99,10 @@ add-equal-range-3 : (t : ℕ) → lts.Need-overflow-add-equal-range-3 (calls t) 
 add-equal-range-3 t c = omega (arith, part_small c.before.before.before.before.before.before.before.before.before.before.before.before.before.requires.1.0.left, part_small c.before.before.before.before.before.before.before.before.before.before.before.before.before.requires.1.0.right, c.before.before.before.before.loop-test.true, c.before.before.before.before.before.before.before.before.before.before.buffer-place.ensures.small, c.before.before.before.before.before.before.before.before.before.buffer-place2.ensures.small)
 
 equal-range-requires : (t : ℕ) → lts.Need-equal-range-requires (calls t) (union::block-at t) union::block.Post Inv-loop μ-loop
-equal-range-requires t c κs = (search rules, sparse_requires c.before.before.before.before.before.before.before.before.before.before.before.before.before.requires.1.0 c.before.before.before.before.before.before.before.before.before.before.before.before.before.requires.1.1 c.before.before.before.before.before.loop.k c.before.before.before.before.loop-test.true (id-read _ _ _ c.before.before.before.before.before.before.before.before.before.before.buffer-place.ensures c.before.before.before.byte.ensures) (id-read _ _ _ c.before.before.before.before.before.before.before.before.before.buffer-place2.ensures c.before.before.byte2.ensures) c.before.if4.false c.before.before.before.before.before.before.before.before.first-child.ensures c.before.before.before.before.before.before.before.first-child2.ensures c.child-with-id.ensures)
+equal-range-requires t c κs = (search rules, sparse_requires c.before.before.before.before.before.before.before.before.before.before.before.before.before.requires.1.0 c.before.before.before.before.before.before.before.before.before.before.before.before.before.requires.1.1 c.before.before.before.before.before.loop.k c.before.before.before.before.loop-test.true (id_read _ _ _ c.before.before.before.before.before.before.before.before.before.before.buffer-place.ensures c.before.before.before.byte.ensures) (id_read _ _ _ c.before.before.before.before.before.before.before.before.before.buffer-place2.ensures c.before.before.byte2.ensures) c.before.if4.false c.before.before.before.before.before.before.before.before.first_child_lem.ensures c.before.before.before.before.before.before.before.first-child2.ensures c.child-with-id.ensures)
 
 returns-3 : (t : ℕ) → lts.Need-returns-3 (calls t) (union::block-at t) union::block.Post Inv-loop μ-loop
-returns-3 t c = rows_fail c.before.before.before.before.before.before.before.loop.invariant c.before.before.before.before.before.before.loop-test.true (sym (sparse-answer c.before.before.before.before.before.before.before.before.before.before.before.before.before.before.before.requires.1.0 c.before.before.before.before.before.before.before.before.before.before.before.before.before.before.before.requires.1.1 c.before.before.before.before.before.before.before.loop.k c.before.before.before.before.before.before.loop-test.true (id-read _ _ _ c.before.before.before.before.before.before.before.before.before.before.before.before.buffer-place.ensures c.before.before.before.before.before.byte.ensures) (id-read _ _ _ c.before.before.before.before.before.before.before.before.before.before.before.buffer-place2.ensures c.before.before.before.before.byte2.ensures) c.before.before.before.if4.false c.before.before.before.before.before.before.before.before.before.before.first-child.ensures c.before.before.before.before.before.before.before.before.before.first-child2.ensures c.before.before.child-with-id.ensures) ∙ sym c.before.equal-range.ensures ∙ not-true c.before.equal-range.result c.if5.true)
+returns-3 t c = rows_fail c.before.before.before.before.before.before.before.loop.invariant c.before.before.before.before.before.before.loop-test.true (sym (sparse_answer c.before.before.before.before.before.before.before.before.before.before.before.before.before.before.before.requires.1.0 c.before.before.before.before.before.before.before.before.before.before.before.before.before.before.before.requires.1.1 c.before.before.before.before.before.before.before.loop.k c.before.before.before.before.before.before.loop-test.true (id_read _ _ _ c.before.before.before.before.before.before.before.before.before.before.before.before.buffer-place.ensures c.before.before.before.before.before.byte.ensures) (id_read _ _ _ c.before.before.before.before.before.before.before.before.before.before.before.buffer-place2.ensures c.before.before.before.before.byte2.ensures) c.before.before.before.if4.false c.before.before.before.before.before.before.before.before.before.before.first_child_lem.ensures c.before.before.before.before.before.before.before.before.before.first-child2.ensures c.before.before.child-with-id.ensures) ∙ sym c.before.equal-range.ensures ∙ not-true c.before.equal-range.result c.if5.true)
 
 add-k : (t : ℕ) → lts.Need-overflow-add-k (calls t) (union::block-at t) union::block.Post Inv-loop μ-loop
 add-k t c = omega (arith, part_small c.before.before.before.before.before.before.before.before.before.before.before.before.before.before.before.requires.1.0.left, part_small c.before.before.before.before.before.before.before.before.before.before.before.before.before.before.before.requires.1.0.right, c.before.before.before.before.before.before.loop-test.true, c.before.before.before.before.before.before.before.before.before.before.before.before.buffer-place.ensures.small, c.before.before.before.before.before.before.before.before.before.before.before.buffer-place2.ensures.small)
@@ -111,10 +111,10 @@ loop-less : (t : ℕ) → lts.Need-loop-smaller (calls t) (union::block-at t) un
 loop-less t c = search rules
 
 loop-again : (t : ℕ) → lts.Need-loop-preserved (calls t) (union::block-at t) union::block.Post Inv-loop μ-loop
-loop-again t c = rows_more c.before.before.before.before.before.before.before.loop.invariant c.before.before.before.before.before.before.loop-test.true (sym (sparse-answer c.before.before.before.before.before.before.before.before.before.before.before.before.before.before.before.requires.1.0 c.before.before.before.before.before.before.before.before.before.before.before.before.before.before.before.requires.1.1 c.before.before.before.before.before.before.before.loop.k c.before.before.before.before.before.before.loop-test.true (id-read _ _ _ c.before.before.before.before.before.before.before.before.before.before.before.before.buffer-place.ensures c.before.before.before.before.before.byte.ensures) (id-read _ _ _ c.before.before.before.before.before.before.before.before.before.before.before.buffer-place2.ensures c.before.before.before.before.byte2.ensures) c.before.before.before.if4.false c.before.before.before.before.before.before.before.before.before.before.first-child.ensures c.before.before.before.before.before.before.before.before.before.first-child2.ensures c.before.before.child-with-id.ensures) ∙ sym c.before.equal-range.ensures ∙ not-false c.before.equal-range.result c.if5.false)
+loop-again t c = rows_more c.before.before.before.before.before.before.before.loop.invariant c.before.before.before.before.before.before.loop-test.true (sym (sparse_answer c.before.before.before.before.before.before.before.before.before.before.before.before.before.before.before.requires.1.0 c.before.before.before.before.before.before.before.before.before.before.before.before.before.before.before.requires.1.1 c.before.before.before.before.before.before.before.loop.k c.before.before.before.before.before.before.loop-test.true (id_read _ _ _ c.before.before.before.before.before.before.before.before.before.before.before.before.buffer-place.ensures c.before.before.before.before.before.byte.ensures) (id_read _ _ _ c.before.before.before.before.before.before.before.before.before.before.before.buffer-place2.ensures c.before.before.before.before.byte2.ensures) c.before.before.before.if4.false c.before.before.before.before.before.before.before.before.before.before.first_child_lem.ensures c.before.before.before.before.before.before.before.before.before.first-child2.ensures c.before.before.child-with-id.ensures) ∙ sym c.before.equal-range.ensures ∙ not-false c.before.equal-range.result c.if5.false)
 
 returns-4 : (t : ℕ) → lts.Need-returns-4 (calls t) (union::block-at t) union::block.Post Inv-loop μ-loop
-returns-4 t c = rows-done c.before.loop.invariant c.loop-test.false
+returns-4 t c = rows_done c.before.loop.invariant c.loop-test.false
 
 pub proof : {M : Type 1} (t : ℕ) → lts.Closed (calls t) (union::block-at t) union::block.Post M
 proof t =

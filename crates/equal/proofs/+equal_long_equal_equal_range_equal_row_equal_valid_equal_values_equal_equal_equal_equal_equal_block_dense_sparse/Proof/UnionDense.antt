@@ -6,9 +6,9 @@ use native.Mathlib.Omega.{arith}
 use borrow.Author.Tests.{not-true, not-false}
 use borrow.Author.Rules.{rules}
 use Rattle.image.specs.Row.{dense_row, row_at}
-use Rattle.accepted.proofs.Nodes.{id-read, dense_offset-read, part_small, part-nth}
-use Rattle.equal.proofs.Rows.{RowsLeft, rows_none, rows_more, rows_fail, rows-done}
-use Rattle.equal.proofs.Unions.{dense_differs, dense-low, dense_requires, dense-answer}
+use Rattle.accepted.proofs.Nodes.{id_read, dense_offset_read, part_small, part_nth}
+use Rattle.equal.proofs.Rows.{RowsLeft, rows_none, rows_more, rows_fail, rows_done}
+use Rattle.equal.proofs.Unions.{dense_differs, dense_low, dense_requires, dense_answer}
 use Rattle.equal.proofs.+equal_long_equal_equal_range_equal_row_equal_valid_equal_values_equal_equal_equal_equal_equal_block_dense_sparse.Proof.Measures.{union::dense-at, equal-range-below}
 use Rattle.equal.proofs.equal_range.Reads as equal-range
 use Rattle.equal.proofs.union.dense.Reads as union::dense
@@ -68,7 +68,7 @@ byte-requires-2 : (t : ℕ) → lts.Need-byte-requires-2 (calls t) (union::dense
 byte-requires-2 t c κs = search rules
 
 returns : (t : ℕ) → lts.Need-returns (calls t) (union::dense-at t) union::dense.Post Inv-loop μ-loop
-returns t c = rows_fail c.before.before.before.before.loop.invariant c.before.before.before.loop-test.true (dense_differs c.before.before.before.before.before.before.before.before.before.before.before.before.before.requires.1.0 c.before.before.before.before.before.before.before.before.before.before.before.before.before.requires.1.1 c.before.before.before.before.loop.k c.before.before.before.loop-test.true (id-read _ _ _ c.before.before.before.before.before.before.before.before.before.before.buffer-place.ensures c.before.before.byte.ensures) (id-read _ _ _ c.before.before.before.before.before.before.before.before.before.buffer-place2.ensures c.before.byte2.ensures) c.if1.true)
+returns t c = rows_fail c.before.before.before.before.loop.invariant c.before.before.before.loop-test.true (dense_differs c.before.before.before.before.before.before.before.before.before.before.before.before.before.requires.1.0 c.before.before.before.before.before.before.before.before.before.before.before.before.before.requires.1.1 c.before.before.before.before.loop.k c.before.before.before.loop-test.true (id_read _ _ _ c.before.before.before.before.before.before.before.before.before.before.buffer-place.ensures c.before.before.byte.ensures) (id_read _ _ _ c.before.before.before.before.before.before.before.before.before.buffer-place2.ensures c.before.byte2.ensures) c.if1.true)
 
 child-with-id-requires : (t : ℕ) → lts.Need-child-with-id-requires (calls t) (union::dense-at t) union::dense.Post Inv-loop μ-loop
 child-with-id-requires t c κs = search rules
@@ -77,25 +77,25 @@ add-nth : (t : ℕ) → lts.Need-overflow-add-nth (calls t) (union::dense-at t) 
 add-nth t c = omega (arith, part_small c.before.before.before.before.before.before.before.before.before.before.before.before.before.before.requires.1.0.left, part_small c.before.before.before.before.before.before.before.before.before.before.before.before.before.before.requires.1.0.right, c.before.before.before.before.loop-test.true, c.before.before.before.before.before.before.before.before.before.before.before.buffer-place.ensures.small, c.before.before.before.before.before.before.before.before.before.before.buffer-place2.ensures.small)
 
 nth-requires : (t : ℕ) → lts.Need-nth-requires (calls t) (union::dense-at t) union::dense.Post Inv-loop μ-loop
-nth-requires t c κs = part-nth c.before.before.before.before.before.before.before.before.before.before.before.before.before.before.requires.1.0.left c.before.before.before.before.before.loop.k (omega (arith, c.before.before.before.before.loop-test.true)) c.before.before.before.before.before.before.before.before.before.buffer-place3.ensures (omega arith)
+nth-requires t c κs = part_nth c.before.before.before.before.before.before.before.before.before.before.before.before.before.before.requires.1.0.left c.before.before.before.before.before.loop.k (omega (arith, c.before.before.before.before.loop-test.true)) c.before.before.before.before.before.before.before.before.before.buffer-place3.ensures (omega arith)
 
 add-nth-2 : (t : ℕ) → lts.Need-overflow-add-nth-2 (calls t) (union::dense-at t) union::dense.Post Inv-loop μ-loop
 add-nth-2 t c = omega (arith, part_small c.before.before.before.before.before.before.before.before.before.before.before.before.before.before.before.requires.1.0.left, part_small c.before.before.before.before.before.before.before.before.before.before.before.before.before.before.before.requires.1.0.right, c.before.before.before.before.before.loop-test.true, c.before.before.before.before.before.before.before.before.before.before.before.before.buffer-place.ensures.small, c.before.before.before.before.before.before.before.before.before.before.before.buffer-place2.ensures.small)
 
 nth-requires-2 : (t : ℕ) → lts.Need-nth-requires-2 (calls t) (union::dense-at t) union::dense.Post Inv-loop μ-loop
-nth-requires-2 t c κs = part-nth c.before.before.before.before.before.before.before.before.before.before.before.before.before.before.before.requires.1.0.right c.before.before.before.before.before.before.loop.k (omega (arith, c.before.before.before.before.before.loop-test.true)) c.before.before.before.before.before.before.before.before.before.buffer-place4.ensures (omega arith)
+nth-requires-2 t c κs = part_nth c.before.before.before.before.before.before.before.before.before.before.before.before.before.before.before.requires.1.0.right c.before.before.before.before.before.before.loop.k (omega (arith, c.before.before.before.before.before.loop-test.true)) c.before.before.before.before.before.before.before.before.before.buffer-place4.ensures (omega arith)
 
 sub-equal-range : (t : ℕ) → lts.Need-overflow-sub-equal-range (calls t) (union::dense-at t) union::dense.Post Inv-loop μ-loop
-sub-equal-range t c = dense-low c.before.before.before.before.before.before.before.before.before.before.before.before.before.before.before.before.requires.1.0 c.before.before.before.before.before.before.before.before.before.before.before.before.before.before.before.before.requires.1.1 c.before.before.before.before.before.before.before.loop.k c.before.before.before.before.before.before.loop-test.true (id-read _ _ _ c.before.before.before.before.before.before.before.before.before.before.before.before.before.buffer-place.ensures c.before.before.before.before.before.byte.ensures) (id-read _ _ _ c.before.before.before.before.before.before.before.before.before.before.before.before.buffer-place2.ensures c.before.before.before.before.byte2.ensures) c.before.before.before.if1.false c.before.before.before.before.before.before.before.before.before.first-child.ensures c.before.before.before.before.before.before.before.before.first-child2.ensures c.before.before.child-with-id.ensures
+sub-equal-range t c = dense_low c.before.before.before.before.before.before.before.before.before.before.before.before.before.before.before.before.requires.1.0 c.before.before.before.before.before.before.before.before.before.before.before.before.before.before.before.before.requires.1.1 c.before.before.before.before.before.before.before.loop.k c.before.before.before.before.before.before.loop-test.true (id_read _ _ _ c.before.before.before.before.before.before.before.before.before.before.before.before.before.buffer-place.ensures c.before.before.before.before.before.byte.ensures) (id_read _ _ _ c.before.before.before.before.before.before.before.before.before.before.before.before.buffer-place2.ensures c.before.before.before.before.byte2.ensures) c.before.before.before.if1.false c.before.before.before.before.before.before.before.before.before.first_child_lem.ensures c.before.before.before.before.before.before.before.before.first-child2.ensures c.before.before.child-with-id.ensures
 
 add-equal-range : (t : ℕ) → lts.Need-overflow-add-equal-range (calls t) (union::dense-at t) union::dense.Post Inv-loop μ-loop
 add-equal-range t c = omega (arith, c.before.before.before.before.before.before.before.before.first-child2.ensures.small, c.before.before.child-with-id.ensures.small)
 
 equal-range-requires : (t : ℕ) → lts.Need-equal-range-requires (calls t) (union::dense-at t) union::dense.Post Inv-loop μ-loop
-equal-range-requires t c κs = (search rules, dense_requires c.before.before.before.before.before.before.before.before.before.before.before.before.before.before.before.before.requires.1.0 c.before.before.before.before.before.before.before.before.before.before.before.before.before.before.before.before.requires.1.1 c.before.before.before.before.before.before.before.loop.k c.before.before.before.before.before.before.loop-test.true (id-read _ _ _ c.before.before.before.before.before.before.before.before.before.before.before.before.before.buffer-place.ensures c.before.before.before.before.before.byte.ensures) (id-read _ _ _ c.before.before.before.before.before.before.before.before.before.before.before.before.buffer-place2.ensures c.before.before.before.before.byte2.ensures) c.before.before.before.if1.false c.before.before.before.before.before.before.before.before.before.first-child.ensures c.before.before.before.before.before.before.before.before.first-child2.ensures c.before.before.child-with-id.ensures (dense_offset-read _ _ _ c.before.before.before.before.before.before.before.before.before.before.before.buffer-place3.ensures c.before.nth.ensures) (dense_offset-read _ _ _ c.before.before.before.before.before.before.before.before.before.before.buffer-place4.ensures c.nth2.ensures))
+equal-range-requires t c κs = (search rules, dense_requires c.before.before.before.before.before.before.before.before.before.before.before.before.before.before.before.before.requires.1.0 c.before.before.before.before.before.before.before.before.before.before.before.before.before.before.before.before.requires.1.1 c.before.before.before.before.before.before.before.loop.k c.before.before.before.before.before.before.loop-test.true (id_read _ _ _ c.before.before.before.before.before.before.before.before.before.before.before.before.before.buffer-place.ensures c.before.before.before.before.before.byte.ensures) (id_read _ _ _ c.before.before.before.before.before.before.before.before.before.before.before.before.buffer-place2.ensures c.before.before.before.before.byte2.ensures) c.before.before.before.if1.false c.before.before.before.before.before.before.before.before.before.first_child_lem.ensures c.before.before.before.before.before.before.before.before.first-child2.ensures c.before.before.child-with-id.ensures (dense_offset_read _ _ _ c.before.before.before.before.before.before.before.before.before.before.before.buffer-place3.ensures c.before.nth.ensures) (dense_offset_read _ _ _ c.before.before.before.before.before.before.before.before.before.before.buffer-place4.ensures c.nth2.ensures))
 
 returns-2 : (t : ℕ) → lts.Need-returns-2 (calls t) (union::dense-at t) union::dense.Post Inv-loop μ-loop
-returns-2 t c = rows_fail c.before.before.before.before.before.before.before.before.before.loop.invariant c.before.before.before.before.before.before.before.before.loop-test.true (sym (dense-answer c.before.before.before.before.before.before.before.before.before.before.before.before.before.before.before.before.before.before.requires.1.0 c.before.before.before.before.before.before.before.before.before.before.before.before.before.before.before.before.before.before.requires.1.1 c.before.before.before.before.before.before.before.before.before.loop.k c.before.before.before.before.before.before.before.before.loop-test.true (id-read _ _ _ c.before.before.before.before.before.before.before.before.before.before.before.before.before.before.before.buffer-place.ensures c.before.before.before.before.before.before.before.byte.ensures) (id-read _ _ _ c.before.before.before.before.before.before.before.before.before.before.before.before.before.before.buffer-place2.ensures c.before.before.before.before.before.before.byte2.ensures) c.before.before.before.before.before.if1.false c.before.before.before.before.before.before.before.before.before.before.before.first-child.ensures c.before.before.before.before.before.before.before.before.before.before.first-child2.ensures c.before.before.before.before.child-with-id.ensures (dense_offset-read _ _ _ c.before.before.before.before.before.before.before.before.before.before.before.before.before.buffer-place3.ensures c.before.before.before.nth.ensures) (dense_offset-read _ _ _ c.before.before.before.before.before.before.before.before.before.before.before.before.buffer-place4.ensures c.before.before.nth2.ensures)) ∙ sym c.before.equal-range.ensures ∙ not-true c.before.equal-range.result c.if2.true)
+returns-2 t c = rows_fail c.before.before.before.before.before.before.before.before.before.loop.invariant c.before.before.before.before.before.before.before.before.loop-test.true (sym (dense_answer c.before.before.before.before.before.before.before.before.before.before.before.before.before.before.before.before.before.before.requires.1.0 c.before.before.before.before.before.before.before.before.before.before.before.before.before.before.before.before.before.before.requires.1.1 c.before.before.before.before.before.before.before.before.before.loop.k c.before.before.before.before.before.before.before.before.loop-test.true (id_read _ _ _ c.before.before.before.before.before.before.before.before.before.before.before.before.before.before.before.buffer-place.ensures c.before.before.before.before.before.before.before.byte.ensures) (id_read _ _ _ c.before.before.before.before.before.before.before.before.before.before.before.before.before.before.buffer-place2.ensures c.before.before.before.before.before.before.byte2.ensures) c.before.before.before.before.before.if1.false c.before.before.before.before.before.before.before.before.before.before.before.first_child_lem.ensures c.before.before.before.before.before.before.before.before.before.before.first-child2.ensures c.before.before.before.before.child-with-id.ensures (dense_offset_read _ _ _ c.before.before.before.before.before.before.before.before.before.before.before.before.before.buffer-place3.ensures c.before.before.before.nth.ensures) (dense_offset_read _ _ _ c.before.before.before.before.before.before.before.before.before.before.before.before.buffer-place4.ensures c.before.before.nth2.ensures)) ∙ sym c.before.equal-range.ensures ∙ not-true c.before.equal-range.result c.if2.true)
 
 add-k : (t : ℕ) → lts.Need-overflow-add-k (calls t) (union::dense-at t) union::dense.Post Inv-loop μ-loop
 add-k t c = omega (arith, part_small c.before.before.before.before.before.before.before.before.before.before.before.before.before.before.before.before.before.before.requires.1.0.left, part_small c.before.before.before.before.before.before.before.before.before.before.before.before.before.before.before.before.before.before.requires.1.0.right, c.before.before.before.before.before.before.before.before.loop-test.true, c.before.before.before.before.before.before.before.before.before.before.before.before.before.before.before.buffer-place.ensures.small, c.before.before.before.before.before.before.before.before.before.before.before.before.before.before.buffer-place2.ensures.small)
@@ -104,10 +104,10 @@ loop-less : (t : ℕ) → lts.Need-loop-smaller (calls t) (union::dense-at t) un
 loop-less t c = search rules
 
 loop-again : (t : ℕ) → lts.Need-loop-preserved (calls t) (union::dense-at t) union::dense.Post Inv-loop μ-loop
-loop-again t c = rows_more c.before.before.before.before.before.before.before.before.before.loop.invariant c.before.before.before.before.before.before.before.before.loop-test.true (sym (dense-answer c.before.before.before.before.before.before.before.before.before.before.before.before.before.before.before.before.before.before.requires.1.0 c.before.before.before.before.before.before.before.before.before.before.before.before.before.before.before.before.before.before.requires.1.1 c.before.before.before.before.before.before.before.before.before.loop.k c.before.before.before.before.before.before.before.before.loop-test.true (id-read _ _ _ c.before.before.before.before.before.before.before.before.before.before.before.before.before.before.before.buffer-place.ensures c.before.before.before.before.before.before.before.byte.ensures) (id-read _ _ _ c.before.before.before.before.before.before.before.before.before.before.before.before.before.before.buffer-place2.ensures c.before.before.before.before.before.before.byte2.ensures) c.before.before.before.before.before.if1.false c.before.before.before.before.before.before.before.before.before.before.before.first-child.ensures c.before.before.before.before.before.before.before.before.before.before.first-child2.ensures c.before.before.before.before.child-with-id.ensures (dense_offset-read _ _ _ c.before.before.before.before.before.before.before.before.before.before.before.before.before.buffer-place3.ensures c.before.before.before.nth.ensures) (dense_offset-read _ _ _ c.before.before.before.before.before.before.before.before.before.before.before.before.buffer-place4.ensures c.before.before.nth2.ensures)) ∙ sym c.before.equal-range.ensures ∙ not-false c.before.equal-range.result c.if2.false)
+loop-again t c = rows_more c.before.before.before.before.before.before.before.before.before.loop.invariant c.before.before.before.before.before.before.before.before.loop-test.true (sym (dense_answer c.before.before.before.before.before.before.before.before.before.before.before.before.before.before.before.before.before.before.requires.1.0 c.before.before.before.before.before.before.before.before.before.before.before.before.before.before.before.before.before.before.requires.1.1 c.before.before.before.before.before.before.before.before.before.loop.k c.before.before.before.before.before.before.before.before.loop-test.true (id_read _ _ _ c.before.before.before.before.before.before.before.before.before.before.before.before.before.before.before.buffer-place.ensures c.before.before.before.before.before.before.before.byte.ensures) (id_read _ _ _ c.before.before.before.before.before.before.before.before.before.before.before.before.before.before.buffer-place2.ensures c.before.before.before.before.before.before.byte2.ensures) c.before.before.before.before.before.if1.false c.before.before.before.before.before.before.before.before.before.before.before.first_child_lem.ensures c.before.before.before.before.before.before.before.before.before.before.first-child2.ensures c.before.before.before.before.child-with-id.ensures (dense_offset_read _ _ _ c.before.before.before.before.before.before.before.before.before.before.before.before.before.buffer-place3.ensures c.before.before.before.nth.ensures) (dense_offset_read _ _ _ c.before.before.before.before.before.before.before.before.before.before.before.before.buffer-place4.ensures c.before.before.nth2.ensures)) ∙ sym c.before.equal-range.ensures ∙ not-false c.before.equal-range.result c.if2.false)
 
 returns-3 : (t : ℕ) → lts.Need-returns-3 (calls t) (union::dense-at t) union::dense.Post Inv-loop μ-loop
-returns-3 t c = rows-done c.before.loop.invariant c.loop-test.false
+returns-3 t c = rows_done c.before.loop.invariant c.loop-test.false
 
 pub proof : {M : Type 1} (t : ℕ) → lts.Closed (calls t) (union::dense-at t) union::dense.Post M
 proof t =

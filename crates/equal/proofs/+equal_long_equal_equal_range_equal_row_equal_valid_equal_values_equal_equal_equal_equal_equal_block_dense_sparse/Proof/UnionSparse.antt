@@ -5,8 +5,8 @@ use Prim.Native.Nat.{ℕ, ◌-◌}
 use borrow.Author.Tests.{not-true, not-false}
 use Rattle.image.specs.Row.{sparse_row, row_at}
 use Rattle.accepted.proofs.Nodes.{part_small}
-use Rattle.equal.proofs.Rows.{RowsLeft, rows_none, rows_jump, rows_jump_fail, rows-rest}
-use Rattle.equal.proofs.Child.{parts-inside}
+use Rattle.equal.proofs.Rows.{RowsLeft, rows_none, rows_jump, rows_jump_fail, rows_rest}
+use Rattle.equal.proofs.Child.{parts_inside}
 use native.Mathlib.Omega.{arith}
 use borrow.Author.Rules.{rules}
 use Rattle.equal.proofs.union.block.Reads as union::block
@@ -36,7 +36,7 @@ add-block-2 : (t : ℕ) → lts.Need-overflow-add-block-2 (calls t) (union::spar
 add-block-2 t c = omega (arith, c.loop-test.true, part_small c.before.before.before.before.requires.1.0.right)
 
 block-requires : (t : ℕ) → lts.Need-block-requires (calls t) (union::sparse-at t) union::sparse.Post Inv-loop μ-loop
-block-requires t c κs = (search rules, (parts-inside c.before.before.before.before.requires.1.0 _ _ (omega (arith, c.loop-test.true)), c.before.before.before.before.requires.1.1))
+block-requires t c κs = (search rules, (parts_inside c.before.before.before.before.requires.1.0 _ _ (omega (arith, c.loop-test.true)), c.before.before.before.before.requires.1.1))
 
 returns : (t : ℕ) → lts.Need-returns (calls t) (union::sparse-at t) union::sparse.Post Inv-loop μ-loop
 returns t c = rows_jump_fail c.before.before.before.loop.invariant _ (omega (arith, c.before.before.loop-test.true)) (sym c.before.block.ensures ∙ not-true _ c.if1.true)
@@ -60,10 +60,10 @@ sub-block : (t : ℕ) → lts.Need-overflow-sub-block (calls t) (union::sparse-a
 sub-block t c = omega (arith, c.before.loop.invariant.pairs.within)
 
 block-requires-2 : (t : ℕ) → lts.Need-block-requires-2 (calls t) (union::sparse-at t) union::sparse.Post Inv-loop μ-loop
-block-requires-2 t c κs = (search rules, (parts-inside c.before.before.before.before.requires.1.0 _ _ (omega (arith, c.before.loop.invariant.pairs.within)), c.before.before.before.before.requires.1.1))
+block-requires-2 t c κs = (search rules, (parts_inside c.before.before.before.before.requires.1.0 _ _ (omega (arith, c.before.loop.invariant.pairs.within)), c.before.before.before.before.requires.1.1))
 
 returns-2 : (t : ℕ) → lts.Need-returns-2 (calls t) (union::sparse-at t) union::sparse.Post Inv-loop μ-loop
-returns-2 t c = rows-rest c.before.before.loop.invariant c.block2.ensures
+returns-2 t c = rows_rest c.before.before.loop.invariant c.block2.ensures
 
 pub proof : {M : Type 1} (t : ℕ) → lts.Closed (calls t) (union::sparse-at t) union::sparse.Post M
 proof t =

@@ -38,7 +38,7 @@ same_length : (t : ℕ) → lts.Need-same-length (calls t) (fill-gap-at t) fill-
 same_length t c = c.before.before.before.before.before.before.before.before.put-gap.ensures.rows_long
 
 same-length-2 : (t : ℕ) → lts.Need-same-length-2 (calls t) (fill-gap-at t) fill-gap.Post Inv-loop μ-loop
-same-length-2 t c = c.before.before.before.before.before.before.before.before.put-gap.ensures.spans-long
+same-length-2 t c = c.before.before.before.before.before.before.before.before.put-gap.ensures.spans_long
 
 same-length-3 : (t : ℕ) → lts.Need-same-length-3 (calls t) (fill-gap-at t) fill-gap.Post Inv-loop μ-loop
 same-length-3 t c = c.before.before.before.before.before.before.before.before.put-gap.ensures.long
@@ -53,16 +53,16 @@ child-count-requires : (t : ℕ) → lts.Need-child-count-requires (calls t) (fi
 child-count-requires t c κs = search rules
 
 loop-holds : (t : ℕ) → lts.Need-loop-init (calls t) (fill-gap-at t) fill-gap.Post Inv-loop μ-loop
-loop-holds t c = gap_loop c.before.before.before.before.before.before.before.before.before.before.before.before.before.before.before.before.before.before.before.before.requires.1.0.1 c.before.before.before.before.before.before.before.before.before.before.before.before.before.before.before.before.before.before.before.before.requires.1.0.0 (deep_told c.before.before.before.before.before.before.before.before.before.before.before.before.before.before.if1.false) c.before.before.before.before.before.before.before.before.before.before.before.before.before.before.before.before.before.before.before.before.requires.1.1 (sym c.before.before.before.code.ensures.value ∙ c.before.before.if2.false) c.before.first-child.ensures.value c.child-count.ensures.value c.before.before.before.before.before.before.before.before.before.before.put-gap.ensures
+loop-holds t c = gap_loop c.before.before.before.before.before.before.before.before.before.before.before.before.before.before.before.before.before.before.before.before.requires.1.0.1 c.before.before.before.before.before.before.before.before.before.before.before.before.before.before.before.before.before.before.before.before.requires.1.0.0 (deep_told c.before.before.before.before.before.before.before.before.before.before.before.before.before.before.if1.false) c.before.before.before.before.before.before.before.before.before.before.before.before.before.before.before.before.before.before.before.before.requires.1.1 (sym c.before.before.before.code.ensures.value ∙ c.before.before.if2.false) c.before.first_child_lem.ensures.value c.child-count.ensures.value c.before.before.before.before.before.before.before.before.before.before.put-gap.ensures
 
 add-fill-gap : (t : ℕ) → lts.Need-overflow-add-fill-gap (calls t) (fill-gap-at t) fill-gap.Post Inv-loop μ-loop
-add-fill-gap t c = omega (arith, c.before.before.before.first-child.ensures.small, c.before.before.child-count.ensures.small, c.loop-test.true)
+add-fill-gap t c = omega (arith, c.before.before.before.first_child_lem.ensures.small, c.before.before.child-count.ensures.small, c.loop-test.true)
 
 sub-fill-gap : (t : ℕ) → lts.Need-overflow-sub-fill-gap (calls t) (fill-gap-at t) fill-gap.Post Inv-loop μ-loop
 sub-fill-gap t c = omega (arith, deep_told c.before.before.before.before.before.before.before.before.before.before.before.before.before.before.before.before.if1.false)
 
 fill-gap-requires : (t : ℕ) → lts.Need-fill-gap-requires (calls t) (fill-gap-at t) fill-gap.Post Inv-loop μ-loop
-fill-gap-requires t c κs = (omega (arith, c.before.before.before.before.before.before.before.before.before.before.before.before.before.before.before.before.before.before.before.before.before.before.before.before.before.requires.0, deep_told c.before.before.before.before.before.before.before.before.before.before.before.before.before.before.before.before.before.before.before.if1.false), ((gap_child c.before.before.before.before.before.before.before.before.before.before.before.before.before.before.before.before.before.before.before.before.before.before.before.before.before.requires.1.0.1 c.before.before.before.before.before.before.before.before.before.before.before.before.before.before.before.before.before.before.before.before.before.before.before.before.before.requires.1.0.0 (deep_told c.before.before.before.before.before.before.before.before.before.before.before.before.before.before.before.before.before.before.before.if1.false) c.before.before.before.before.before.before.before.before.before.before.before.before.before.before.before.before.before.before.before.before.before.before.before.before.before.requires.1.1 (sym c.before.before.before.before.before.before.before.before.code.ensures.value ∙ c.before.before.before.before.before.before.before.if2.false) c.before.before.before.before.before.before.first-child.ensures.value c.before.before.before.before.before.child-count.ensures.value c.before.before.before.before.before.before.before.before.before.before.before.before.before.before.before.put-gap.ensures c.before.before.before.loop-test.true, c.before.before.before.before.loop.invariant.ready), gap_rooms c.before.before.before.before.loop.invariant c.before.before.before.loop-test.true))
+fill-gap-requires t c κs = (omega (arith, c.before.before.before.before.before.before.before.before.before.before.before.before.before.before.before.before.before.before.before.before.before.before.before.before.before.requires.0, deep_told c.before.before.before.before.before.before.before.before.before.before.before.before.before.before.before.before.before.before.before.if1.false), ((gap_child c.before.before.before.before.before.before.before.before.before.before.before.before.before.before.before.before.before.before.before.before.before.before.before.before.before.requires.1.0.1 c.before.before.before.before.before.before.before.before.before.before.before.before.before.before.before.before.before.before.before.before.before.before.before.before.before.requires.1.0.0 (deep_told c.before.before.before.before.before.before.before.before.before.before.before.before.before.before.before.before.before.before.before.if1.false) c.before.before.before.before.before.before.before.before.before.before.before.before.before.before.before.before.before.before.before.before.before.before.before.before.before.requires.1.1 (sym c.before.before.before.before.before.before.before.before.code.ensures.value ∙ c.before.before.before.before.before.before.before.if2.false) c.before.before.before.before.before.before.first_child_lem.ensures.value c.before.before.before.before.before.child-count.ensures.value c.before.before.before.before.before.before.before.before.before.before.before.before.before.before.before.put-gap.ensures c.before.before.before.loop-test.true, c.before.before.before.before.loop.invariant.ready), gap_rooms c.before.before.before.before.loop.invariant c.before.before.before.loop-test.true))
 
 add-c : (t : ℕ) → lts.Need-overflow-add-c (calls t) (fill-gap-at t) fill-gap.Post Inv-loop μ-loop
 add-c t c = omega (arith, c.before.before.before.before.before.before.before.before.before.before.before.before.child-count.ensures.small, c.before.before.before.before.before.before.before.before.before.before.loop-test.true)
@@ -74,16 +74,16 @@ loop-again : (t : ℕ) → lts.Need-loop-preserved (calls t) (fill-gap-at t) fil
 loop-again t c = gaps_more c.before.before.before.before.before.before.before.before.before.before.before.loop.invariant c.before.before.before.before.before.before.before.before.before.before.loop-test.true c.before.before.before.before.before.before.fill-gap.ensures
 
 same-length-4 : (t : ℕ) → lts.Need-same-length-4 (calls t) (fill-gap-at t) fill-gap.Post Inv-loop μ-loop
-same-length-4 t c = (gap_end c.before.before.before.before.before.before.before.before.before.before.before.before.before.before.before.before.before.before.before.before.before.before.requires.1.0.1 c.before.before.before.before.before.before.before.before.before.before.before.before.before.before.before.before.before.before.before.before.before.before.requires.1.0.0 (deep_told c.before.before.before.before.before.before.before.before.before.before.before.before.before.before.before.before.if1.false) c.before.before.before.before.before.before.before.before.before.before.before.before.before.before.before.before.before.before.before.before.before.before.requires.1.1 (sym c.before.before.before.before.before.code.ensures.value ∙ c.before.before.before.before.if2.false) c.before.before.before.first-child.ensures.value c.before.before.child-count.ensures.value c.before.before.before.before.before.before.before.before.before.before.before.before.put-gap.ensures c.before.loop.invariant c.loop-test.false).rows_long
+same-length-4 t c = (gap_end c.before.before.before.before.before.before.before.before.before.before.before.before.before.before.before.before.before.before.before.before.before.before.requires.1.0.1 c.before.before.before.before.before.before.before.before.before.before.before.before.before.before.before.before.before.before.before.before.before.before.requires.1.0.0 (deep_told c.before.before.before.before.before.before.before.before.before.before.before.before.before.before.before.before.if1.false) c.before.before.before.before.before.before.before.before.before.before.before.before.before.before.before.before.before.before.before.before.before.before.requires.1.1 (sym c.before.before.before.before.before.code.ensures.value ∙ c.before.before.before.before.if2.false) c.before.before.before.first_child_lem.ensures.value c.before.before.child-count.ensures.value c.before.before.before.before.before.before.before.before.before.before.before.before.put-gap.ensures c.before.loop.invariant c.loop-test.false).rows_long
 
 same-length-5 : (t : ℕ) → lts.Need-same-length-5 (calls t) (fill-gap-at t) fill-gap.Post Inv-loop μ-loop
-same-length-5 t c = (gap_end c.before.before.before.before.before.before.before.before.before.before.before.before.before.before.before.before.before.before.before.before.before.before.requires.1.0.1 c.before.before.before.before.before.before.before.before.before.before.before.before.before.before.before.before.before.before.before.before.before.before.requires.1.0.0 (deep_told c.before.before.before.before.before.before.before.before.before.before.before.before.before.before.before.before.if1.false) c.before.before.before.before.before.before.before.before.before.before.before.before.before.before.before.before.before.before.before.before.before.before.requires.1.1 (sym c.before.before.before.before.before.code.ensures.value ∙ c.before.before.before.before.if2.false) c.before.before.before.first-child.ensures.value c.before.before.child-count.ensures.value c.before.before.before.before.before.before.before.before.before.before.before.before.put-gap.ensures c.before.loop.invariant c.loop-test.false).spans-long
+same-length-5 t c = (gap_end c.before.before.before.before.before.before.before.before.before.before.before.before.before.before.before.before.before.before.before.before.before.before.requires.1.0.1 c.before.before.before.before.before.before.before.before.before.before.before.before.before.before.before.before.before.before.before.before.before.before.requires.1.0.0 (deep_told c.before.before.before.before.before.before.before.before.before.before.before.before.before.before.before.before.if1.false) c.before.before.before.before.before.before.before.before.before.before.before.before.before.before.before.before.before.before.before.before.before.before.requires.1.1 (sym c.before.before.before.before.before.code.ensures.value ∙ c.before.before.before.before.if2.false) c.before.before.before.first_child_lem.ensures.value c.before.before.child-count.ensures.value c.before.before.before.before.before.before.before.before.before.before.before.before.put-gap.ensures c.before.loop.invariant c.loop-test.false).spans_long
 
 same-length-6 : (t : ℕ) → lts.Need-same-length-6 (calls t) (fill-gap-at t) fill-gap.Post Inv-loop μ-loop
-same-length-6 t c = (gap_end c.before.before.before.before.before.before.before.before.before.before.before.before.before.before.before.before.before.before.before.before.before.before.requires.1.0.1 c.before.before.before.before.before.before.before.before.before.before.before.before.before.before.before.before.before.before.before.before.before.before.requires.1.0.0 (deep_told c.before.before.before.before.before.before.before.before.before.before.before.before.before.before.before.before.if1.false) c.before.before.before.before.before.before.before.before.before.before.before.before.before.before.before.before.before.before.before.before.before.before.requires.1.1 (sym c.before.before.before.before.before.code.ensures.value ∙ c.before.before.before.before.if2.false) c.before.before.before.first-child.ensures.value c.before.before.child-count.ensures.value c.before.before.before.before.before.before.before.before.before.before.before.before.put-gap.ensures c.before.loop.invariant c.loop-test.false).long
+same-length-6 t c = (gap_end c.before.before.before.before.before.before.before.before.before.before.before.before.before.before.before.before.before.before.before.before.before.before.requires.1.0.1 c.before.before.before.before.before.before.before.before.before.before.before.before.before.before.before.before.before.before.before.before.before.before.requires.1.0.0 (deep_told c.before.before.before.before.before.before.before.before.before.before.before.before.before.before.before.before.if1.false) c.before.before.before.before.before.before.before.before.before.before.before.before.before.before.before.before.before.before.before.before.before.before.requires.1.1 (sym c.before.before.before.before.before.code.ensures.value ∙ c.before.before.before.before.if2.false) c.before.before.before.first_child_lem.ensures.value c.before.before.child-count.ensures.value c.before.before.before.before.before.before.before.before.before.before.before.before.put-gap.ensures c.before.loop.invariant c.loop-test.false).long
 
 returns-3 : (t : ℕ) → lts.Need-returns-3 (calls t) (fill-gap-at t) fill-gap.Post Inv-loop μ-loop
-returns-3 t c = gap_end c.before.before.before.before.before.before.before.before.before.before.before.before.before.before.before.before.before.before.before.before.before.before.requires.1.0.1 c.before.before.before.before.before.before.before.before.before.before.before.before.before.before.before.before.before.before.before.before.before.before.requires.1.0.0 (deep_told c.before.before.before.before.before.before.before.before.before.before.before.before.before.before.before.before.if1.false) c.before.before.before.before.before.before.before.before.before.before.before.before.before.before.before.before.before.before.before.before.before.before.requires.1.1 (sym c.before.before.before.before.before.code.ensures.value ∙ c.before.before.before.before.if2.false) c.before.before.before.first-child.ensures.value c.before.before.child-count.ensures.value c.before.before.before.before.before.before.before.before.before.before.before.before.put-gap.ensures c.before.loop.invariant c.loop-test.false
+returns-3 t c = gap_end c.before.before.before.before.before.before.before.before.before.before.before.before.before.before.before.before.before.before.before.before.before.before.requires.1.0.1 c.before.before.before.before.before.before.before.before.before.before.before.before.before.before.before.before.before.before.before.before.before.before.requires.1.0.0 (deep_told c.before.before.before.before.before.before.before.before.before.before.before.before.before.before.before.before.if1.false) c.before.before.before.before.before.before.before.before.before.before.before.before.before.before.before.before.before.before.before.before.before.before.requires.1.1 (sym c.before.before.before.before.before.code.ensures.value ∙ c.before.before.before.before.if2.false) c.before.before.before.first_child_lem.ensures.value c.before.before.child-count.ensures.value c.before.before.before.before.before.before.before.before.before.before.before.before.put-gap.ensures c.before.loop.invariant c.loop-test.false
 
 pub proof : {M : Type 1} (t : ℕ) → lts.Closed (calls t) (fill-gap-at t) fill-gap.Post M
 proof t =

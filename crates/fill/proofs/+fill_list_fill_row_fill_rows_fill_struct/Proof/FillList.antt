@@ -34,19 +34,19 @@ add-fill-rows : (t : ℕ) → lts.Need-overflow-add-fill-rows (calls t) (fill-li
 add-fill-rows t c = omega (arith, listed_inside c.before.before.before.before.before.before.before.before.before.before.before.before.before.before.before.before.before.before.requires.1.1 c.before.before.before.before.before.before.before.before.before.before.before.before.before.before.before.before.before.before.requires.1.0.0 c.before.before.before.before.before.before.before.before.before.before.before.before.before.before.before.before.before.before.requires.1.0.1 c.before.before.before.before.before.before.before.before.before.before.before.le32.ensures.value, c.before.before.before.before.before.before.before.before.before.before.before.before.before.before.before.before.before.before.well-formed.1.1.1.0.1)
 
 fill-rows-requires : (t : ℕ) → lts.Need-fill-rows-requires (calls t) (fill-list-at t) fill-list.Post
-fill-rows-requires t c κs = (omega (arith, c.before.before.before.before.before.before.before.before.before.before.before.before.before.before.before.before.before.before.before.before.before.requires.0, row_deep c.before.before.before.before.before.before.before.before.before.before.before.before.before.before.before.before.before.before.before.before.before.requires.1.1), listed_walk c.before.before.before.before.before.before.before.before.before.before.before.before.before.before.before.before.before.before.before.before.before.requires.1.1 c.before.before.before.before.before.before.before.before.before.before.before.before.before.before.before.before.before.before.before.before.before.requires.1.0.0 c.before.before.before.before.before.before.before.before.before.before.before.before.before.before.before.before.before.before.before.before.before.requires.1.0.1 c.before.before.before.before.before.before.before.before.before.before.before.before.before.before.le32.ensures.value c.before.before.before.first-child.ensures.value c.before.before.before.before.before.before.before.before.before.before.put-list.ensures)
+fill-rows-requires t c κs = (omega (arith, c.before.before.before.before.before.before.before.before.before.before.before.before.before.before.before.before.before.before.before.before.before.requires.0, row_deep c.before.before.before.before.before.before.before.before.before.before.before.before.before.before.before.before.before.before.before.before.before.requires.1.1), listed_walk c.before.before.before.before.before.before.before.before.before.before.before.before.before.before.before.before.before.before.before.before.before.requires.1.1 c.before.before.before.before.before.before.before.before.before.before.before.before.before.before.before.before.before.before.before.before.before.requires.1.0.0 c.before.before.before.before.before.before.before.before.before.before.before.before.before.before.before.before.before.before.before.before.before.requires.1.0.1 c.before.before.before.before.before.before.before.before.before.before.before.before.before.before.le32.ensures.value c.before.before.before.first_child_lem.ensures.value c.before.before.before.before.before.before.before.before.before.before.put-list.ensures)
 
 same_length : (t : ℕ) → lts.Need-same-length (calls t) (fill-list-at t) fill-list.Post
-same_length t c = (listed_walked c.before.before.before.before.before.before.before.before.before.before.before.before.before.before.before.before.before.before.before.before.before.before.before.before.before.before.before.before.requires.1.1 c.before.before.before.before.before.before.before.before.before.before.before.before.before.before.before.before.before.before.before.before.before.before.before.before.before.before.before.before.requires.1.0.0 c.before.before.before.before.before.before.before.before.before.before.before.before.before.before.before.before.before.before.before.before.before.before.before.before.before.before.before.before.requires.1.0.1 c.before.before.before.before.before.before.before.before.before.before.before.before.before.before.before.before.before.before.before.before.before.le32.ensures.value c.before.before.before.before.before.before.before.before.before.before.first-child.ensures.value c.before.before.before.before.before.before.before.before.before.before.before.before.before.before.before.before.before.put-list.ensures c.before.before.before.before.before.before.fill-rows.ensures).done.filled.rows_long
+same_length t c = (listed_walked c.before.before.before.before.before.before.before.before.before.before.before.before.before.before.before.before.before.before.before.before.before.before.before.before.before.before.before.before.requires.1.1 c.before.before.before.before.before.before.before.before.before.before.before.before.before.before.before.before.before.before.before.before.before.before.before.before.before.before.before.before.requires.1.0.0 c.before.before.before.before.before.before.before.before.before.before.before.before.before.before.before.before.before.before.before.before.before.before.before.before.before.before.before.before.requires.1.0.1 c.before.before.before.before.before.before.before.before.before.before.before.before.before.before.before.before.before.before.before.before.before.le32.ensures.value c.before.before.before.before.before.before.before.before.before.before.first_child_lem.ensures.value c.before.before.before.before.before.before.before.before.before.before.before.before.before.before.before.before.before.put-list.ensures c.before.before.before.before.before.before.fill-rows.ensures).done.filled.rows_long
 
 same-length-2 : (t : ℕ) → lts.Need-same-length-2 (calls t) (fill-list-at t) fill-list.Post
-same-length-2 t c = (listed_walked c.before.before.before.before.before.before.before.before.before.before.before.before.before.before.before.before.before.before.before.before.before.before.before.before.before.before.before.before.requires.1.1 c.before.before.before.before.before.before.before.before.before.before.before.before.before.before.before.before.before.before.before.before.before.before.before.before.before.before.before.before.requires.1.0.0 c.before.before.before.before.before.before.before.before.before.before.before.before.before.before.before.before.before.before.before.before.before.before.before.before.before.before.before.before.requires.1.0.1 c.before.before.before.before.before.before.before.before.before.before.before.before.before.before.before.before.before.before.before.before.before.le32.ensures.value c.before.before.before.before.before.before.before.before.before.before.first-child.ensures.value c.before.before.before.before.before.before.before.before.before.before.before.before.before.before.before.before.before.put-list.ensures c.before.before.before.before.before.before.fill-rows.ensures).done.filled.spans-long
+same-length-2 t c = (listed_walked c.before.before.before.before.before.before.before.before.before.before.before.before.before.before.before.before.before.before.before.before.before.before.before.before.before.before.before.before.requires.1.1 c.before.before.before.before.before.before.before.before.before.before.before.before.before.before.before.before.before.before.before.before.before.before.before.before.before.before.before.before.requires.1.0.0 c.before.before.before.before.before.before.before.before.before.before.before.before.before.before.before.before.before.before.before.before.before.before.before.before.before.before.before.before.requires.1.0.1 c.before.before.before.before.before.before.before.before.before.before.before.before.before.before.before.before.before.before.before.before.before.le32.ensures.value c.before.before.before.before.before.before.before.before.before.before.first_child_lem.ensures.value c.before.before.before.before.before.before.before.before.before.before.before.before.before.before.before.before.before.put-list.ensures c.before.before.before.before.before.before.fill-rows.ensures).done.filled.spans_long
 
 same-length-3 : (t : ℕ) → lts.Need-same-length-3 (calls t) (fill-list-at t) fill-list.Post
-same-length-3 t c = (listed_walked c.before.before.before.before.before.before.before.before.before.before.before.before.before.before.before.before.before.before.before.before.before.before.before.before.before.before.before.before.requires.1.1 c.before.before.before.before.before.before.before.before.before.before.before.before.before.before.before.before.before.before.before.before.before.before.before.before.before.before.before.before.requires.1.0.0 c.before.before.before.before.before.before.before.before.before.before.before.before.before.before.before.before.before.before.before.before.before.before.before.before.before.before.before.before.requires.1.0.1 c.before.before.before.before.before.before.before.before.before.before.before.before.before.before.before.before.before.before.before.before.before.le32.ensures.value c.before.before.before.before.before.before.before.before.before.before.first-child.ensures.value c.before.before.before.before.before.before.before.before.before.before.before.before.before.before.before.before.before.put-list.ensures c.before.before.before.before.before.before.fill-rows.ensures).done.filled.long
+same-length-3 t c = (listed_walked c.before.before.before.before.before.before.before.before.before.before.before.before.before.before.before.before.before.before.before.before.before.before.before.before.before.before.before.before.requires.1.1 c.before.before.before.before.before.before.before.before.before.before.before.before.before.before.before.before.before.before.before.before.before.before.before.before.before.before.before.before.requires.1.0.0 c.before.before.before.before.before.before.before.before.before.before.before.before.before.before.before.before.before.before.before.before.before.before.before.before.before.before.before.before.requires.1.0.1 c.before.before.before.before.before.before.before.before.before.before.before.before.before.before.before.before.before.before.before.before.before.le32.ensures.value c.before.before.before.before.before.before.before.before.before.before.first_child_lem.ensures.value c.before.before.before.before.before.before.before.before.before.before.before.before.before.before.before.before.before.put-list.ensures c.before.before.before.before.before.before.fill-rows.ensures).done.filled.long
 
 returns : (t : ℕ) → lts.Need-returns (calls t) (fill-list-at t) fill-list.Post
-returns t c = listed_walked c.before.before.before.before.before.before.before.before.before.before.before.before.before.before.before.before.before.before.before.before.before.before.before.before.before.before.before.before.requires.1.1 c.before.before.before.before.before.before.before.before.before.before.before.before.before.before.before.before.before.before.before.before.before.before.before.before.before.before.before.before.requires.1.0.0 c.before.before.before.before.before.before.before.before.before.before.before.before.before.before.before.before.before.before.before.before.before.before.before.before.before.before.before.before.requires.1.0.1 c.before.before.before.before.before.before.before.before.before.before.before.before.before.before.before.before.before.before.before.before.before.le32.ensures.value c.before.before.before.before.before.before.before.before.before.before.first-child.ensures.value c.before.before.before.before.before.before.before.before.before.before.before.before.before.before.before.before.before.put-list.ensures c.before.before.before.before.before.before.fill-rows.ensures
+returns t c = listed_walked c.before.before.before.before.before.before.before.before.before.before.before.before.before.before.before.before.before.before.before.before.before.before.before.before.before.before.before.before.requires.1.1 c.before.before.before.before.before.before.before.before.before.before.before.before.before.before.before.before.before.before.before.before.before.before.before.before.before.before.before.before.requires.1.0.0 c.before.before.before.before.before.before.before.before.before.before.before.before.before.before.before.before.before.before.before.before.before.before.before.before.before.before.before.before.requires.1.0.1 c.before.before.before.before.before.before.before.before.before.before.before.before.before.before.before.before.before.before.before.before.before.le32.ensures.value c.before.before.before.before.before.before.before.before.before.before.first_child_lem.ensures.value c.before.before.before.before.before.before.before.before.before.before.before.before.before.before.before.before.before.put-list.ensures c.before.before.before.before.before.before.fill-rows.ensures
 
 pub proof : {M : Type 1} (t : ℕ) → lts.Closed (calls t) (fill-list-at t) fill-list.Post M
 proof t =

@@ -4,7 +4,7 @@ use Prim.Native.Nat.{ℕ, ◌+◌, ◌-◌, ◌*◌, ◌<◌, ◌≤◌}
 use lib.ListN.{length, get_or}
 use native.Mathlib.Omega.{arith}
 use Rattle.fill.specs.Filling.{filling}
-use Rattle.fill.proofs.Walks.{RowsLeft, rows_start, rows_row, rows_more, rows-done}
+use Rattle.fill.proofs.Walks.{RowsLeft, rows_start, rows_row, rows_more, rows_done}
 use borrow.Author.Rules.{rules}
 use Rattle.fill.proofs.fill_row.Reads as fill-row
 use Rattle.fill.proofs.fill_rows.Reads as fill-rows
@@ -36,16 +36,16 @@ loop-again : (t : ℕ) → lts.Need-loop-preserved (calls t) (fill-rows-at t) fi
 loop-again t c = rows_more c.before.before.before.before.before.before.before.before.before.before.before.loop.invariant c.before.before.before.before.before.before.before.before.before.before.loop-test.true c.before.before.before.before.before.before.fill-row.ensures
 
 same_length : (t : ℕ) → lts.Need-same-length (calls t) (fill-rows-at t) fill-rows.Post Inv-loop μ-loop
-same_length t c = (rows-done c.before.loop.invariant c.loop-test.false).done.filled.rows_long
+same_length t c = (rows_done c.before.loop.invariant c.loop-test.false).done.filled.rows_long
 
 same-length-2 : (t : ℕ) → lts.Need-same-length-2 (calls t) (fill-rows-at t) fill-rows.Post Inv-loop μ-loop
-same-length-2 t c = (rows-done c.before.loop.invariant c.loop-test.false).done.filled.spans-long
+same-length-2 t c = (rows_done c.before.loop.invariant c.loop-test.false).done.filled.spans_long
 
 same-length-3 : (t : ℕ) → lts.Need-same-length-3 (calls t) (fill-rows-at t) fill-rows.Post Inv-loop μ-loop
-same-length-3 t c = (rows-done c.before.loop.invariant c.loop-test.false).done.filled.long
+same-length-3 t c = (rows_done c.before.loop.invariant c.loop-test.false).done.filled.long
 
 returns : (t : ℕ) → lts.Need-returns (calls t) (fill-rows-at t) fill-rows.Post Inv-loop μ-loop
-returns t c = rows-done c.before.loop.invariant c.loop-test.false
+returns t c = rows_done c.before.loop.invariant c.loop-test.false
 
 pub proof : {M : Type 1} (t : ℕ) → lts.Closed (calls t) (fill-rows-at t) fill-rows.Post M
 proof t =

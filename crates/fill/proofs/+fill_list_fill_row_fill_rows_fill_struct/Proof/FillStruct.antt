@@ -4,7 +4,7 @@ use Prim.Native.Nat.{ℕ, ◌+◌, ◌-◌, ◌*◌, ◌<◌, ◌≤◌}
 use lib.ListN.{length, get_or}
 use native.Mathlib.Omega.{arith}
 use Rattle.fill.specs.Filling.{filling}
-use Rattle.fill.proofs.Arms.{row_inside, row_deep, struct_getting, one_mark, FieldsLeft, fields_start, field-walk, field-more, fields_done}
+use Rattle.fill.proofs.Arms.{row_inside, row_deep, struct_getting, one_mark, FieldsLeft, fields_start, field_walk, field_more, fields_done}
 use borrow.Author.Rules.{rules}
 use Rattle.fill.proofs.fill_row.Reads as fill-row
 use Rattle.fill.proofs.fill_struct.Reads as fill-struct
@@ -36,16 +36,16 @@ add-next : (t : ℕ) → lts.Need-overflow-add-next (calls t) (fill-struct-at t)
 add-next t c = omega (arith, row_inside c.before.before.before.before.before.before.before.before.before.before.before.before.before.before.before.before.before.before.requires.1.1, c.before.before.before.before.before.before.before.before.before.before.before.before.before.before.before.before.before.before.well-formed.1.1.1.0.1)
 
 loop-holds : (t : ℕ) → lts.Need-loop-init (calls t) (fill-struct-at t) fill-struct.Post Inv-loop μ-loop
-loop-holds t c = fields_start c.before.before.before.before.before.before.before.before.before.before.before.before.before.before.before.before.before.before.requires.1.1 c.before.before.before.before.before.before.before.before.before.before.before.before.before.before.before.before.before.before.requires.1.0.0 c.before.before.before.before.before.before.before.before.before.before.before.before.before.before.before.before.before.before.requires.1.0.1 c.before.first-child.ensures.value c.child-count.ensures.value c.before.before.before.before.before.before.before.before.put-struct.ensures
+loop-holds t c = fields_start c.before.before.before.before.before.before.before.before.before.before.before.before.before.before.before.before.before.before.requires.1.1 c.before.before.before.before.before.before.before.before.before.before.before.before.before.before.before.before.before.before.requires.1.0.0 c.before.before.before.before.before.before.before.before.before.before.before.before.before.before.before.before.before.before.requires.1.0.1 c.before.first_child_lem.ensures.value c.child-count.ensures.value c.before.before.before.before.before.before.before.before.put-struct.ensures
 
 add-fill-row : (t : ℕ) → lts.Need-overflow-add-fill-row (calls t) (fill-struct-at t) fill-struct.Post Inv-loop μ-loop
-add-fill-row t c = omega (arith, c.before.before.before.first-child.ensures.small, c.before.before.child-count.ensures.small, c.loop-test.true)
+add-fill-row t c = omega (arith, c.before.before.before.first_child_lem.ensures.small, c.before.before.child-count.ensures.small, c.loop-test.true)
 
 sub-fill-row : (t : ℕ) → lts.Need-overflow-sub-fill-row (calls t) (fill-struct-at t) fill-struct.Post Inv-loop μ-loop
 sub-fill-row t c = omega (arith, row_deep c.before.before.before.before.before.before.before.before.before.before.before.before.before.before.before.before.before.before.before.before.requires.1.1)
 
 fill-row-requires : (t : ℕ) → lts.Need-fill-row-requires (calls t) (fill-struct-at t) fill-struct.Post Inv-loop μ-loop
-fill-row-requires t c κs = (omega (arith, c.before.before.before.before.before.before.before.before.before.before.before.before.before.before.before.before.before.before.before.before.before.before.before.requires.0, row_deep c.before.before.before.before.before.before.before.before.before.before.before.before.before.before.before.before.before.before.before.before.before.before.before.requires.1.1), field-walk c.before.before.before.before.before.before.before.before.before.before.before.before.before.before.before.before.before.before.before.before.before.before.before.requires.1.1 c.before.before.before.before.before.before.before.before.before.before.before.before.before.before.before.before.before.before.before.before.before.before.before.requires.1.0.0 c.before.before.before.before.before.before.before.before.before.before.before.before.before.before.before.before.before.before.before.before.before.before.before.requires.1.0.1 c.before.before.before.before.before.before.first-child.ensures.value c.before.before.before.before.before.child-count.ensures.value c.before.before.before.before.before.before.before.before.before.before.before.before.before.put-struct.ensures c.before.before.before.before.loop.invariant c.before.before.before.loop-test.true)
+fill-row-requires t c κs = (omega (arith, c.before.before.before.before.before.before.before.before.before.before.before.before.before.before.before.before.before.before.before.before.before.before.before.requires.0, row_deep c.before.before.before.before.before.before.before.before.before.before.before.before.before.before.before.before.before.before.before.before.before.before.before.requires.1.1), field_walk c.before.before.before.before.before.before.before.before.before.before.before.before.before.before.before.before.before.before.before.before.before.before.before.requires.1.1 c.before.before.before.before.before.before.before.before.before.before.before.before.before.before.before.before.before.before.before.before.before.before.before.requires.1.0.0 c.before.before.before.before.before.before.before.before.before.before.before.before.before.before.before.before.before.before.before.before.before.before.before.requires.1.0.1 c.before.before.before.before.before.before.first_child_lem.ensures.value c.before.before.before.before.before.child-count.ensures.value c.before.before.before.before.before.before.before.before.before.before.before.before.before.put-struct.ensures c.before.before.before.before.loop.invariant c.before.before.before.loop-test.true)
 
 add-c : (t : ℕ) → lts.Need-overflow-add-c (calls t) (fill-struct-at t) fill-struct.Post Inv-loop μ-loop
 add-c t c = omega (arith, c.before.before.before.before.before.before.before.before.before.before.before.before.child-count.ensures.small, c.before.before.before.before.before.before.before.before.before.before.loop-test.true)
@@ -54,19 +54,19 @@ loop-less : (t : ℕ) → lts.Need-loop-smaller (calls t) (fill-struct-at t) fil
 loop-less t c = omega (arith, c.before.before.before.before.before.before.before.before.before.before.loop-test.true)
 
 loop-again : (t : ℕ) → lts.Need-loop-preserved (calls t) (fill-struct-at t) fill-struct.Post Inv-loop μ-loop
-loop-again t c = field-more c.before.before.before.before.before.before.before.before.before.before.before.loop.invariant c.before.before.before.before.before.before.before.before.before.before.loop-test.true c.before.before.before.before.before.before.fill-row.ensures
+loop-again t c = field_more c.before.before.before.before.before.before.before.before.before.before.before.loop.invariant c.before.before.before.before.before.before.before.before.before.before.loop-test.true c.before.before.before.before.before.before.fill-row.ensures
 
 same_length : (t : ℕ) → lts.Need-same-length (calls t) (fill-struct-at t) fill-struct.Post Inv-loop μ-loop
-same_length t c = (fields_done c.before.before.before.before.before.before.before.before.before.before.before.before.before.before.before.before.before.before.before.before.requires.1.1 c.before.before.before.before.before.before.before.before.before.before.before.before.before.before.before.before.before.before.before.before.requires.1.0.0 c.before.before.before.before.before.before.before.before.before.before.before.before.before.before.before.before.before.before.before.before.requires.1.0.1 c.before.before.before.first-child.ensures.value c.before.before.child-count.ensures.value c.before.before.before.before.before.before.before.before.before.before.put-struct.ensures c.before.loop.invariant c.loop-test.false).done.filled.rows_long
+same_length t c = (fields_done c.before.before.before.before.before.before.before.before.before.before.before.before.before.before.before.before.before.before.before.before.requires.1.1 c.before.before.before.before.before.before.before.before.before.before.before.before.before.before.before.before.before.before.before.before.requires.1.0.0 c.before.before.before.before.before.before.before.before.before.before.before.before.before.before.before.before.before.before.before.before.requires.1.0.1 c.before.before.before.first_child_lem.ensures.value c.before.before.child-count.ensures.value c.before.before.before.before.before.before.before.before.before.before.put-struct.ensures c.before.loop.invariant c.loop-test.false).done.filled.rows_long
 
 same-length-2 : (t : ℕ) → lts.Need-same-length-2 (calls t) (fill-struct-at t) fill-struct.Post Inv-loop μ-loop
-same-length-2 t c = (fields_done c.before.before.before.before.before.before.before.before.before.before.before.before.before.before.before.before.before.before.before.before.requires.1.1 c.before.before.before.before.before.before.before.before.before.before.before.before.before.before.before.before.before.before.before.before.requires.1.0.0 c.before.before.before.before.before.before.before.before.before.before.before.before.before.before.before.before.before.before.before.before.requires.1.0.1 c.before.before.before.first-child.ensures.value c.before.before.child-count.ensures.value c.before.before.before.before.before.before.before.before.before.before.put-struct.ensures c.before.loop.invariant c.loop-test.false).done.filled.spans-long
+same-length-2 t c = (fields_done c.before.before.before.before.before.before.before.before.before.before.before.before.before.before.before.before.before.before.before.before.requires.1.1 c.before.before.before.before.before.before.before.before.before.before.before.before.before.before.before.before.before.before.before.before.requires.1.0.0 c.before.before.before.before.before.before.before.before.before.before.before.before.before.before.before.before.before.before.before.before.requires.1.0.1 c.before.before.before.first_child_lem.ensures.value c.before.before.child-count.ensures.value c.before.before.before.before.before.before.before.before.before.before.put-struct.ensures c.before.loop.invariant c.loop-test.false).done.filled.spans_long
 
 same-length-3 : (t : ℕ) → lts.Need-same-length-3 (calls t) (fill-struct-at t) fill-struct.Post Inv-loop μ-loop
-same-length-3 t c = (fields_done c.before.before.before.before.before.before.before.before.before.before.before.before.before.before.before.before.before.before.before.before.requires.1.1 c.before.before.before.before.before.before.before.before.before.before.before.before.before.before.before.before.before.before.before.before.requires.1.0.0 c.before.before.before.before.before.before.before.before.before.before.before.before.before.before.before.before.before.before.before.before.requires.1.0.1 c.before.before.before.first-child.ensures.value c.before.before.child-count.ensures.value c.before.before.before.before.before.before.before.before.before.before.put-struct.ensures c.before.loop.invariant c.loop-test.false).done.filled.long
+same-length-3 t c = (fields_done c.before.before.before.before.before.before.before.before.before.before.before.before.before.before.before.before.before.before.before.before.requires.1.1 c.before.before.before.before.before.before.before.before.before.before.before.before.before.before.before.before.before.before.before.before.requires.1.0.0 c.before.before.before.before.before.before.before.before.before.before.before.before.before.before.before.before.before.before.before.before.requires.1.0.1 c.before.before.before.first_child_lem.ensures.value c.before.before.child-count.ensures.value c.before.before.before.before.before.before.before.before.before.before.put-struct.ensures c.before.loop.invariant c.loop-test.false).done.filled.long
 
 returns : (t : ℕ) → lts.Need-returns (calls t) (fill-struct-at t) fill-struct.Post Inv-loop μ-loop
-returns t c = fields_done c.before.before.before.before.before.before.before.before.before.before.before.before.before.before.before.before.before.before.before.before.requires.1.1 c.before.before.before.before.before.before.before.before.before.before.before.before.before.before.before.before.before.before.before.before.requires.1.0.0 c.before.before.before.before.before.before.before.before.before.before.before.before.before.before.before.before.before.before.before.before.requires.1.0.1 c.before.before.before.first-child.ensures.value c.before.before.child-count.ensures.value c.before.before.before.before.before.before.before.before.before.before.put-struct.ensures c.before.loop.invariant c.loop-test.false
+returns t c = fields_done c.before.before.before.before.before.before.before.before.before.before.before.before.before.before.before.before.before.before.before.before.requires.1.1 c.before.before.before.before.before.before.before.before.before.before.before.before.before.before.before.before.before.before.before.before.requires.1.0.0 c.before.before.before.before.before.before.before.before.before.before.before.before.before.before.before.before.before.before.before.before.requires.1.0.1 c.before.before.before.first_child_lem.ensures.value c.before.before.child-count.ensures.value c.before.before.before.before.before.before.before.before.before.before.put-struct.ensures c.before.loop.invariant c.loop-test.false
 
 pub proof : {M : Type 1} (t : ℕ) → lts.Closed (calls t) (fill-struct-at t) fill-struct.Post M
 proof t =

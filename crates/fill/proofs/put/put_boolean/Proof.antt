@@ -3,7 +3,7 @@
 use mathlib.Core.Path.{◌≡◌}
 use native.Mathlib.Omega.{arith}
 use borrow.Author.Rules.{rules}
-use Rattle.fill.proofs.Events.{spot_requires, bit_requires, count_requires, value_requires, true-filled, false-filled}
+use Rattle.fill.proofs.Events.{spot_requires, bit_requires, count_requires, value_requires, true_filled, false_filled}
 use Rattle.fill.proofs.put.put_boolean.Statement.{statement}
 use Rattle.fill.proofs.put.put_boolean.Tie as tie
 
@@ -29,7 +29,7 @@ same-length-3 : tie.Need-same-length-3
 same-length-3 c = search rules
 
 returns : tie.Need-returns
-returns c = (rw c.before.before.before.before.if1.true (true-filled c.before.before.before.before.before.before.before.before.before.before.before.before.before.before.before.before.before.before.before.before.before.before.before.before.requires.1.1 c.before.before.before.before.before.before.before.before.before.before.before.before.before.before.before.before.spot_of_lem.ensures c.before.before.before.before.before.before.before.before.before.before.before.before.before.before.before.before.before.before.before.before.before.before.before.before.requires.0 c.before.before.before.before.before.before.before.before.before.before.before.before.before.before.set-bit.ensures c.before.before.set-bit2.ensures c.before.before.before.before.before.before.before.before.before.count-row.ensures))
+returns c = (rw c.before.before.before.before.if1.true (true_filled c.before.before.before.before.before.before.before.before.before.before.before.before.before.before.before.before.before.before.before.before.before.before.before.before.requires.1.1 c.before.before.before.before.before.before.before.before.before.before.before.before.before.before.before.before.spot_of_lem.ensures c.before.before.before.before.before.before.before.before.before.before.before.before.before.before.before.before.before.before.before.before.before.before.before.before.requires.0 c.before.before.before.before.before.before.before.before.before.before.before.before.before.before.set-bit.ensures c.before.before.set-bit2.ensures c.before.before.before.before.before.before.before.before.before.count-row.ensures))
 
 same-length-4 : tie.Need-same-length-4
 same-length-4 c = search rules
@@ -41,7 +41,7 @@ same-length-6 : tie.Need-same-length-6
 same-length-6 c = search rules
 
 returns-2 : tie.Need-returns-2
-returns-2 c = (let zero_bit : c.before.before.before.before.before.before.before.before.before.before.before.before.before.before.before.before.before.before.before.before.args.x ≡ 0 = omega (arith, c.before.before.before.before.before.before.before.before.before.before.before.before.before.before.before.before.before.before.before.before.requires.1.0, c.if1.false) in rw zero_bit (false-filled c.before.before.before.before.before.before.before.before.before.before.before.before.before.before.before.before.before.before.before.before.requires.1.1 c.before.before.before.before.before.before.before.before.before.before.before.before.spot_of_lem.ensures c.before.before.before.before.before.before.before.before.before.before.before.before.before.before.before.before.before.before.before.before.requires.0 c.before.before.before.before.before.before.before.before.before.before.set-bit.ensures c.before.before.before.before.before.count-row.ensures))
+returns-2 c = (let zero_bit : c.before.before.before.before.before.before.before.before.before.before.before.before.before.before.before.before.before.before.before.before.args.x ≡ 0 = omega (arith, c.before.before.before.before.before.before.before.before.before.before.before.before.before.before.before.before.before.before.before.before.requires.1.0, c.if1.false) in rw zero_bit (false_filled c.before.before.before.before.before.before.before.before.before.before.before.before.before.before.before.before.before.before.before.before.requires.1.1 c.before.before.before.before.before.before.before.before.before.before.before.before.spot_of_lem.ensures c.before.before.before.before.before.before.before.before.before.before.before.before.before.before.before.before.before.before.before.before.requires.0 c.before.before.before.before.before.before.before.before.before.before.set-bit.ensures c.before.before.before.before.before.count-row.ensures))
 
 pub put-boolean-spec : {M : Type 1} → statement M
 put-boolean-spec =

@@ -2,7 +2,7 @@
 -- Its bit is set and its count goes on; the other parts are empty.
 use native.Mathlib.Omega.{arith}
 use borrow.Author.Rules.{rules}
-use Rattle.fill.proofs.Events.{spot_requires, bit_requires, count_requires, struct-filled}
+use Rattle.fill.proofs.Events.{spot_requires, bit_requires, count_requires, struct_filled}
 use Rattle.fill.proofs.put.put_struct.Statement.{statement}
 use Rattle.fill.proofs.put.put_struct.Tie as tie
 
@@ -25,7 +25,7 @@ same-length-3 : tie.Need-same-length-3
 same-length-3 c = search rules
 
 returns : tie.Need-returns
-returns c = struct-filled c.before.before.before.before.before.before.before.before.before.before.before.before.before.before.before.before.before.before.before.requires.1 c.before.before.before.before.before.before.before.before.before.before.before.spot_of_lem.ensures c.before.before.before.before.before.before.before.before.before.before.before.before.before.before.before.before.before.before.before.requires.0 c.before.before.before.before.before.before.before.before.before.set-bit.ensures c.before.before.before.before.count-row.ensures
+returns c = struct_filled c.before.before.before.before.before.before.before.before.before.before.before.before.before.before.before.before.before.before.before.requires.1 c.before.before.before.before.before.before.before.before.before.before.before.spot_of_lem.ensures c.before.before.before.before.before.before.before.before.before.before.before.before.before.before.before.before.before.before.before.requires.0 c.before.before.before.before.before.before.before.before.before.set-bit.ensures c.before.before.before.before.count-row.ensures
 
 pub put-struct-spec : {M : Type 1} → statement M
 put-struct-spec =

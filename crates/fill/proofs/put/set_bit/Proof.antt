@@ -3,7 +3,7 @@
 use Prim.Native.Nat.{◌+◌, ◌/◌}
 use native.Mathlib.Omega.{arith}
 use borrow.Author.Rules.{rules}
-use Rattle.rows.proofs.Over.{over-one}
+use Rattle.rows.proofs.Over.{over_one}
 use Rattle.fill.proofs.BitsSet.{bit_small, bit_value}
 use Rattle.fill.proofs.put.set_bit.Statement.{statement}
 use Rattle.fill.proofs.put.set_bit.Tie as tie
@@ -33,7 +33,7 @@ same_length : tie.Need-same-length
 same_length c = search rules
 
 returns : tie.Need-returns
-returns c = rw (bit_value c.before.before.before.args.j, c.wide.ensures.value) (over-one c.before.before.before.args.out.now (c.before.before.before.args.place + c.before.before.before.args.j / 8) _ c.before.before.before.requires.0)
+returns c = rw (bit_value c.before.before.before.args.j, c.wide.ensures.value) (over_one c.before.before.before.args.out.now (c.before.before.before.args.place + c.before.before.before.args.j / 8) _ c.before.before.before.requires.0)
 
 pub set-bit-spec : {M : Type 1} → statement M
 set-bit-spec =

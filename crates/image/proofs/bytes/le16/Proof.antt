@@ -1,6 +1,6 @@
 -- `image::bytes::le16` meets its contract.
 -- The definition is rewritten by what the calls ensure and by the tests on the way.
-use Rattle.image.proofs.Numbers.{read_past, number-two}
+use Rattle.image.proofs.Numbers.{read_past, number_two}
 use native.Mathlib.Omega.{arith}
 use borrow.Author.Rules.{rules}
 use Rattle.image.proofs.bytes.le16.Statement.{statement}
@@ -31,7 +31,7 @@ add-result : tie.Need-overflow-add-result
 add-result c = search rules
 
 returns-2 : tie.Need-returns-2
-returns-2 c = record { value = rw (number-two, ← c.before.byte.ensures.value, ← c.byte2.ensures.value); small = omega arith }
+returns-2 c = record { value = rw (number_two, ← c.before.byte.ensures.value, ← c.byte2.ensures.value); small = omega arith }
 
 pub le16-spec : {M : Type 1} → statement M
 le16-spec =

@@ -1,6 +1,6 @@
 -- `nth_inside` gives number j of those that lie side by side inside.
 -- The last byte of number j is the last of the first j + 1 numbers; a width that is none of the others is 1.
-use Rattle.image.proofs.Numbers.{packed-last, width_some, width_one, read_byte, read_as}
+use Rattle.image.proofs.Numbers.{packed_last, width_some, width_one, read_byte, read_as}
 use mathlib.Core.Path.{refl}
 use native.Mathlib.Omega.{arith}
 use borrow.Author.Rules.{rules}
@@ -32,7 +32,7 @@ returns-3 : tie.Need-returns-3
 returns-3 c = read_as _ _ c.before.if3.true c.pair.ensures
 
 shared-slice-read-wide : tie.Need-shared-slice-read-wide
-shared-slice-read-wide c = omega (arith, packed-last c.before.before.before.before.before.args.j c.before.before.before.before.before.requires, width_some c.before.before.before.before.before.args.w c.before.before.before.before.before.requires.width)
+shared-slice-read-wide c = omega (arith, packed_last c.before.before.before.before.before.args.j c.before.before.before.before.before.requires, width_some c.before.before.before.before.before.args.w c.before.before.before.before.before.requires.width)
 
 wide-requires : tie.Need-wide-requires
 wide-requires c κs = search rules

@@ -1,6 +1,6 @@
 -- `pair` gives the number of the two bytes at a place.
 -- The two bytes, written out, are the number's.
-use Rattle.image.proofs.Numbers.{number-two}
+use Rattle.image.proofs.Numbers.{number_two}
 use native.Mathlib.Omega.{arith}
 use borrow.Author.Rules.{rules}
 use Rattle.image.proofs.bytes.pair.Statement.{statement}
@@ -28,7 +28,7 @@ add-result : tie.Need-overflow-add-result
 add-result c = search rules
 
 returns : tie.Need-returns
-returns c = record { value = rw (number-two, ← c.before.before.wide.ensures.value, ← c.wide2.ensures.value); small = omega (arith, c.before.before.wide.ensures.small, c.wide2.ensures.small) }
+returns c = record { value = rw (number_two, ← c.before.before.wide.ensures.value, ← c.wide2.ensures.value); small = omega (arith, c.before.before.wide.ensures.small, c.wide2.ensures.small) }
 
 pub pair_spec : {M : Type 1} → statement M
 pair_spec =

@@ -6,7 +6,7 @@ use mathlib.Core.List.{List}
 use mathlib.Core.Bool.{true, false}
 use Rattle.image.specs.Reads.{Read}
 use mathlib.Core.Path.{◌∙◌}
-use Rattle.image.proofs.Loops.{Rest, rest-none, first_more, first_found, first_done}
+use Rattle.image.proofs.Loops.{Rest, rest_none, first_more, first_found, first_done}
 use Rattle.image.specs.Element.{has_id, child_with_id}
 use Rattle.image.specs.Record.{id_of}
 use Rattle.image.specs.Ranges
@@ -37,7 +37,7 @@ child-count-requires : tie.Need-child-count-requires invariant-loop decreases-lo
 child-count-requires c κs = search rules
 
 loop-holds : tie.Need-loop-init invariant-loop decreases-loop
-loop-holds c = rest-none _ _ _
+loop-holds c = rest_none _ _ _
 
 add-type-id : tie.Need-overflow-add-type-id invariant-loop decreases-loop
 add-type-id c = search rules
@@ -51,8 +51,8 @@ add-result c = search rules
 returns : tie.Need-returns invariant-loop decreases-loop
 unfolding child_with_id
 returns c = record {
-  value = first_found _ _ _ _ c.before.before.loop-test.true c.before.before.before.loop.invariant (same_id _ _ _ c.before.type-id.ensures c.if1.true) ∙ ap₂ (Ranges.first (has_id _ _)) c.before.before.before.before.before.first-child.ensures.value c.before.before.before.before.child-count.ensures.value;
-  small = omega (arith, c.before.before.before.before.before.first-child.ensures.small, c.before.before.before.before.child-count.ensures.small);
+  value = first_found _ _ _ _ c.before.before.loop-test.true c.before.before.before.loop.invariant (same_id _ _ _ c.before.type-id.ensures c.if1.true) ∙ ap₂ (Ranges.first (has_id _ _)) c.before.before.before.before.before.first_child_lem.ensures.value c.before.before.before.before.child-count.ensures.value;
+  small = omega (arith, c.before.before.before.before.before.first_child_lem.ensures.small, c.before.before.before.before.child-count.ensures.small);
 }
 
 add-k : tie.Need-overflow-add-k invariant-loop decreases-loop
@@ -70,8 +70,8 @@ add-result-2 c = search rules
 returns-2 : tie.Need-returns-2 invariant-loop decreases-loop
 unfolding child_with_id
 returns-2 c = record {
-  value = first_done _ _ _ _ c.loop-test.false c.before.loop.invariant ∙ ap₂ (Ranges.first (has_id _ _)) c.before.before.before.first-child.ensures.value c.before.before.child-count.ensures.value;
-  small = omega (arith, c.before.before.before.first-child.ensures.small, c.before.before.child-count.ensures.small);
+  value = first_done _ _ _ _ c.loop-test.false c.before.loop.invariant ∙ ap₂ (Ranges.first (has_id _ _)) c.before.before.before.first_child_lem.ensures.value c.before.before.child-count.ensures.value;
+  small = omega (arith, c.before.before.before.first_child_lem.ensures.small, c.before.before.child-count.ensures.small);
 }
 
 pub child-with-id-spec : {M : Type 1} → statement M

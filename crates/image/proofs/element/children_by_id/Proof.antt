@@ -1,7 +1,7 @@
 -- `image::element::children_by_id` meets its contract.
 -- The loop keeps that what is left to look at gives the answer; the measure is how much is left.
 use mathlib.Core.Path.{◌∙◌}
-use Rattle.image.proofs.ById.{filled-all}
+use Rattle.image.proofs.ById.{filled_all}
 use Rattle.image.proofs.ById.{Filled, filled_none, filled_more}
 use Prim.Native.Nat.{◌-◌}
 use native.Mathlib.Omega.{arith}
@@ -55,7 +55,7 @@ loop-again : tie.Need-loop-preserved invariant-loop decreases-loop
 loop-again c = filled_more _ _ _ _ _ _ c.before.before.loop-test.true c.before.before.before.loop.invariant (c.wide.ensures.value ∙ c.before.type-id.ensures.value) c.wide.ensures.small
 
 returns : tie.Need-returns invariant-loop decreases-loop
-returns c = filled-all _ _ _ _ _ _ c.loop-test.false c.before.loop.invariant c.before.before.before.first-child.ensures c.before.before.child-count.ensures
+returns c = filled_all _ _ _ _ _ _ c.loop-test.false c.before.loop.invariant c.before.before.before.first_child_lem.ensures c.before.before.child-count.ensures
 
 pub children-by-id-spec : {M : Type 1} → statement M
 children-by-id-spec =

@@ -16,7 +16,7 @@ entry-place-requires c κs = search rules
 
 returns : tie.Need-returns
 unfolding tables_end
-returns c = rw (← c.before.buffer-total.ensures.value) c.entry_IsPlace.ensures
+returns c = rw (← c.before.buffers_total.ensures.value) c.entry_IsPlace.ensures
 
 pub tables-end-spec : {M : Type 1} → statement M
 tables-end-spec =

@@ -13,7 +13,7 @@ is-text-requires : tie.Need-is-text-requires
 is-text-requires c κs = search rules
 
 returns : tie.Need-returns
-returns c = c.is-text.ensures ∙ sym (⊎_elim (λ h. of_characters c.before.before.before.args.code (bytes_at c.before.before.before.args.b.now c.before.before.before.args.at c.before.before.before.args.n) (inl h.taken)) (λ h. of_characters c.before.before.before.args.code (bytes_at c.before.before.before.args.b.now c.before.before.before.args.at c.before.before.before.args.n) (inr (eqb-true _ 28 h.1.taken))) c.before.if1.branch)
+returns c = c.is_text_lem.ensures ∙ sym (⊎_elim (λ h. of_characters c.before.before.before.args.code (bytes_at c.before.before.before.args.b.now c.before.before.before.args.at c.before.before.before.args.n) (inl h.taken)) (λ h. of_characters c.before.before.before.args.code (bytes_at c.before.before.before.args.b.now c.before.before.before.args.at c.before.before.before.args.n) (inr (eqb-true _ 28 h.1.taken))) c.before.if1.branch)
 
 returns-2 : tie.Need-returns-2
 returns-2 c = sym (of_others c.before.before.before.args.code (bytes_at c.before.before.before.args.b.now c.before.before.before.args.at c.before.before.before.args.n) c.before.if1.false (eqb-false _ 28 c.if2.false))

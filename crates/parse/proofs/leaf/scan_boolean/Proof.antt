@@ -1,13 +1,13 @@
 -- `scan_boolean` reads a byte that is 00 or 01.
 -- Its tests are those of the definition.
-use Rattle.parse.proofs.Leaves.{boolean-none, boolean_other, boolean_go}
+use Rattle.parse.proofs.Leaves.{boolean_none, boolean_other, boolean_go}
 use native.Mathlib.Omega.{arith}
 use borrow.Author.Rules.{rules}
 use Rattle.parse.proofs.leaf.scan_boolean.Statement.{statement}
 use Rattle.parse.proofs.leaf.scan_boolean.Tie as tie
 
 returns : tie.Need-returns
-returns c = boolean-none _ _ _ c.if1.true (omega (arith, c.before.well-formed.0.1))
+returns c = boolean_none _ _ _ c.if1.true (omega (arith, c.before.well-formed.0.1))
 
 shared-slice-read-if2 : tie.Need-shared-slice-read-if2
 shared-slice-read-if2 c = search rules

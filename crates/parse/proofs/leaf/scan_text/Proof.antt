@@ -2,7 +2,7 @@
 -- Its tests are those of the definition: the length and the bytes lie inside, and the code allows the text.
 use mathlib.Core.Path.{sym, ◌∙◌}
 use borrow.Author.Tests.{not-true, not-false}
-use Rattle.parse.proofs.Leaves.{text-short, text_cut, text-ill, text_go}
+use Rattle.parse.proofs.Leaves.{text_short, text_cut, text_ill, text_go}
 use native.Mathlib.Omega.{arith}
 use borrow.Author.Rules.{rules}
 use Rattle.parse.proofs.leaf.scan_text.Statement.{statement}
@@ -12,7 +12,7 @@ sub-if1 : tie.Need-overflow-sub-if1
 sub-if1 c = omega (arith, c.before.before.requires.0.inside)
 
 returns : tie.Need-returns
-returns c = text-short _ _ _ _ c.before.before.before.requires.0 c.if1.true
+returns c = text_short _ _ _ _ c.before.before.before.requires.0 c.if1.true
 
 quad-requires : tie.Need-quad-requires
 quad-requires c κs = omega (arith, c.before.before.before.requires.0.inside, c.if1.false)
@@ -30,7 +30,7 @@ is-allowed-requires : tie.Need-is-allowed-requires
 is-allowed-requires c κs = (omega (arith, c.before.before.before.before.before.requires.0.inside, c.before.before.if1.false, c.if2.false), c.before.before.before.before.before.requires.0.states)
 
 returns-3 : tie.Need-returns-3
-returns-3 c = text-ill _ _ _ _ c.before.before.before.before.before.before.before.requires.0 c.before.before.before.quad.ensures c.before.before.before.before.if1.false c.before.before.if2.false (sym c.before.is-allowed.ensures ∙ not-true _ c.if3.true)
+returns-3 c = text_ill _ _ _ _ c.before.before.before.before.before.before.before.requires.0 c.before.before.before.quad.ensures c.before.before.before.before.if1.false c.before.before.if2.false (sym c.before.is-allowed.ensures ∙ not-true _ c.if3.true)
 
 add-span-requires : tie.Need-add-span-requires
 add-span-requires c κs = (omega (arith, c.before.before.before.before.before.before.before.before.requires.0.sized, c.before.before.before.before.before.before.before.before.requires.1), omega (arith, c.before.before.before.before.before.before.before.before.requires.0.low _ c.before.before.before.before.before.before.before.before.requires.1, c.before.before.before.before.before.before.before.before.requires.0.short, c.before.before.before.before.before.if1.false, c.before.before.before.if2.false))

@@ -1,7 +1,7 @@
 -- `put_again` puts bytes of the buffer over it once more, behind them.
 -- The loop keeps that the bytes from byte k on, put after those that were put, give the whole; what is read stands before.
 use mathlib.Core.Path.{refl}
-use Rattle.rows.proofs.Over.{BytesToPut, bytes-start, bytes-done, again_more}
+use Rattle.rows.proofs.Over.{BytesToPut, bytes_start, bytes_done, again_more}
 use Prim.Native.Nat.{◌-◌}
 use native.Mathlib.Omega.{arith}
 use borrow.Author.Rules.{rules}
@@ -15,7 +15,7 @@ abbrev decreases-loop : tie.decreases-loop
 decreases-loop out₀ at from size k₀ out k = size - k
 
 loop-holds : tie.Need-loop-init invariant-loop decreases-loop
-loop-holds c = bytes-start c.requires.1
+loop-holds c = bytes_start c.requires.1
 
 add-out : tie.Need-overflow-add-out invariant-loop decreases-loop
 add-out c = search rules
@@ -45,7 +45,7 @@ same_length : tie.Need-same-length invariant-loop decreases-loop
 same_length c = c.before.loop.invariant.put.put.long
 
 returns : tie.Need-returns invariant-loop decreases-loop
-returns c = (refl, bytes-done c.before.loop.invariant c.loop-test.false)
+returns c = (refl, bytes_done c.before.loop.invariant c.loop-test.false)
 
 pub put-again-spec : {M : Type 1} → statement M
 put-again-spec =

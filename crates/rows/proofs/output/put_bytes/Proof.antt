@@ -4,7 +4,7 @@ use mathlib.Core.Path.{refl}
 use Prim.Native.Nat.{◌-◌}
 use native.Mathlib.Omega.{arith}
 use borrow.Author.Rules.{rules}
-use Rattle.rows.proofs.Over.{BytesToPut, bytes-start, bytes-more, bytes-done}
+use Rattle.rows.proofs.Over.{BytesToPut, bytes_start, bytes_more, bytes_done}
 use Rattle.rows.proofs.output.put_bytes.Statement.{statement}
 use Rattle.rows.proofs.output.put_bytes.Tie as tie
 
@@ -15,7 +15,7 @@ abbrev decreases-loop : tie.decreases-loop
 decreases-loop out₀ at s place n k₀ out k = n - k
 
 loop-holds : tie.Need-loop-init invariant-loop decreases-loop
-loop-holds c = bytes-start c.requires.0
+loop-holds c = bytes_start c.requires.0
 
 add-out : tie.Need-overflow-add-out invariant-loop decreases-loop
 add-out c = search rules
@@ -36,7 +36,7 @@ loop-less : tie.Need-loop-smaller invariant-loop decreases-loop
 loop-less c = search rules
 
 loop-again : tie.Need-loop-preserved invariant-loop decreases-loop
-loop-again c = bytes-more c.before.before.loop.invariant c.before.loop-test.true
+loop-again c = bytes_more c.before.before.loop.invariant c.before.loop-test.true
 
 add-result : tie.Need-overflow-add-result invariant-loop decreases-loop
 add-result c = search rules
@@ -45,7 +45,7 @@ same_length : tie.Need-same-length invariant-loop decreases-loop
 same_length c = c.before.loop.invariant.put.put.long
 
 returns : tie.Need-returns invariant-loop decreases-loop
-returns c = (refl, bytes-done c.before.loop.invariant c.loop-test.false)
+returns c = (refl, bytes_done c.before.loop.invariant c.loop-test.false)
 
 pub put-bytes-spec : {M : Type 1} → statement M
 put-bytes-spec =

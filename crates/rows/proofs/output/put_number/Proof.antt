@@ -4,7 +4,7 @@ use mathlib.Core.Path.{refl}
 use Prim.Native.Nat.{◌-◌}
 use native.Mathlib.Omega.{arith}
 use borrow.Author.Rules.{rules}
-use Rattle.rows.proofs.Over.{NumberToPut, number-start, number_more, number-done}
+use Rattle.rows.proofs.Over.{NumberToPut, number_start, number_more, number_done}
 use Rattle.rows.proofs.output.put_number.Statement.{statement}
 use Rattle.rows.proofs.output.put_number.Tie as tie
 
@@ -15,7 +15,7 @@ abbrev decreases-loop : tie.decreases-loop
 decreases-loop out₀ at x w rest₀ k₀ out rest k = w - k
 
 loop-holds : tie.Need-loop-init invariant-loop decreases-loop
-loop-holds c = number-start c.requires
+loop-holds c = number_start c.requires
 
 cast-out : tie.Need-overflow-cast-out invariant-loop decreases-loop
 cast-out c = search rules
@@ -42,7 +42,7 @@ same_length : tie.Need-same-length invariant-loop decreases-loop
 same_length c = c.before.loop.invariant.put.long
 
 returns : tie.Need-returns invariant-loop decreases-loop
-returns c = (refl, number-done c.before.loop.invariant c.loop-test.false)
+returns c = (refl, number_done c.before.loop.invariant c.loop-test.false)
 
 pub put-number-spec : {M : Type 1} → statement M
 put-number-spec =

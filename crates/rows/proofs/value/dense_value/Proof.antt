@@ -2,8 +2,8 @@
 -- The id of a row names a child.
 use native.Mathlib.Omega.{arith}
 use borrow.Author.Rules.{rules}
-use Rattle.accepted.proofs.Nodes.{dense_offset-read, part_small}
-use Rattle.accepted.proofs.ChildRows.{dense-known}
+use Rattle.accepted.proofs.Nodes.{dense_offset_read, part_small}
+use Rattle.accepted.proofs.ChildRows.{dense_known}
 use Rattle.rows.proofs.value.dense_value.Statement.{statement}
 use Rattle.rows.proofs.value.dense_value.Tie as tie
 
@@ -14,10 +14,10 @@ nth-requires : tie.Need-nth-requires
 nth-requires c κs = record { near = omega (arith, c.buffer-place.ensures.small); narrow = omega arith; few = omega (arith, part_small c.before.before.requires.0) }
 
 union-value-requires : tie.Need-union-value-requires
-union-value-requires c κs = (c.before.before.before.requires.0, dense-known c.before.before.before.requires.0 c.before.before.before.requires.1)
+union-value-requires c κs = (c.before.before.before.requires.0, dense_known c.before.before.before.requires.0 c.before.before.before.requires.1)
 
 returns : tie.Need-returns
-returns c = rw (← dense_offset-read _ _ _ c.before.before.buffer-place.ensures c.before.nth.ensures) c.union-value.ensures
+returns c = rw (← dense_offset_read _ _ _ c.before.before.buffer-place.ensures c.before.nth.ensures) c.union-value.ensures
 
 pub dense-value-spec : {M : Type 1} → statement M
 dense-value-spec =

@@ -3,7 +3,7 @@
 use native.Mathlib.Omega.{arith}
 use borrow.Author.Rules.{rules}
 use Rattle.image.specs.Element.{element_place}
-use Rattle.rows.proofs.ValuePlaces.{fixed-small}
+use Rattle.rows.proofs.ValuePlaces.{fixed_small}
 use Rattle.rows.proofs.value.fixed_value.Statement.{statement}
 use Rattle.rows.proofs.value.fixed_value.Tie as tie
 
@@ -14,10 +14,10 @@ buffer-place-requires : tie.Need-buffer-place-requires
 buffer-place-requires c κs = search rules
 
 mul-leaf : tie.Need-overflow-mul-leaf
-mul-leaf c = omega (arith, fixed-small c.before.before.before.requires.0 c.before.before.before.requires.1 c.before.element-width.ensures c.buffer-place.ensures.value)
+mul-leaf c = omega (arith, fixed_small c.before.before.before.requires.0 c.before.before.before.requires.1 c.before.element-width.ensures c.buffer-place.ensures.value)
 
 add-leaf : tie.Need-overflow-add-leaf
-add-leaf c = omega (arith, fixed-small c.before.before.before.requires.0 c.before.before.before.requires.1 c.before.element-width.ensures c.buffer-place.ensures.value)
+add-leaf c = omega (arith, fixed_small c.before.before.before.requires.0 c.before.before.before.requires.1 c.before.element-width.ensures c.buffer-place.ensures.value)
 
 leaf-requires : tie.Need-leaf-requires
 leaf-requires c κs = search rules

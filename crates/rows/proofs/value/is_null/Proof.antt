@@ -2,7 +2,7 @@
 -- By the depth, and then by the row's bit, if there is a bitmap.
 use mathlib.Core.Path.{sym, ◌∙◌}
 use borrow.Author.Tests.{not-true, not-false}
-use Rattle.rows.proofs.RowParts.{ended_null, bit_null, no_bitmap, by-bitmap}
+use Rattle.rows.proofs.RowParts.{ended_null, bit_null, no_bitmap, by_bitmap}
 use native.Mathlib.Omega.{arith}
 use borrow.Author.Rules.{rules}
 use Rattle.rows.proofs.value.is_null.Statement.{statement}
@@ -30,7 +30,7 @@ bit_requires : tie.Need-bit-requires
 bit_requires c κs = search rules
 
 returns-3 : tie.Need-returns-3
-returns-3 c = bit_null _ _ _ _ c.before.before.before.before.before.if1.false (by-bitmap _ _ _ (sym c.before.before.before.before.has-bitmap.ensures ∙ not-false c.before.before.before.before.has-bitmap.result c.before.before.before.if2.false) c.before.before.bitmap-place.ensures c.before.first_bit.ensures c.bit.ensures)
+returns-3 c = bit_null _ _ _ _ c.before.before.before.before.before.if1.false (by_bitmap _ _ _ (sym c.before.before.before.before.has-bitmap.ensures ∙ not-false c.before.before.before.before.has-bitmap.result c.before.before.before.if2.false) c.before.before.bitmap-place.ensures c.before.first_bit.ensures c.bit.ensures)
 
 pub is_null_spec : {M : Type 1} → statement M
 is_null_spec =

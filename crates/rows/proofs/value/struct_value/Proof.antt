@@ -14,7 +14,7 @@ nested-requires : tie.Need-nested-requires
 nested-requires c κs = search rules
 
 returns : tie.Need-returns
-returns c = rw (c.nested.ensures, c.before.before.first-child.ensures.value, c.before.child-count.ensures.value)
+returns c = rw (c.nested.ensures, c.before.before.first_child_lem.ensures.value, c.before.child-count.ensures.value)
 
 pub struct-value-spec : {M : Type 1} → statement M
 struct-value-spec =

@@ -3,7 +3,7 @@
 use native.Mathlib.Omega.{arith}
 use borrow.Author.Rules.{rules}
 use borrow.Author.Tests.{lt-ltb}
-use Rattle.accepted.proofs.Nodes.{id-read, part_small}
+use Rattle.accepted.proofs.Nodes.{id_read, part_small}
 use Rattle.rows.proofs.value.union_value.Statement.{statement}
 use Rattle.rows.proofs.value.union_value.Tie as tie
 
@@ -26,7 +26,7 @@ nested-requires : tie.Need-nested-requires
 nested-requires c κs = search rules
 
 returns : tie.Need-returns
-returns c = rw (c.nested.ensures, c.before.before.wide.ensures.value, c.before.child-with-id.ensures.value, id-read _ _ _ c.before.before.before.before.buffer-place.ensures c.before.before.before.byte.ensures, lt-ltb _ _ c.before.before.before.before.before.before.requires.1.high)
+returns c = rw (c.nested.ensures, c.before.before.wide.ensures.value, c.before.child-with-id.ensures.value, id_read _ _ _ c.before.before.before.before.buffer-place.ensures c.before.before.before.byte.ensures, lt-ltb _ _ c.before.before.before.before.before.before.requires.1.high)
 
 pub union-value-spec : {M : Type 1} → statement M
 union-value-spec =

@@ -5,7 +5,7 @@ use mathlib.Core.Path.{◌≡◌, sym}
 use Rattle.image.specs.declared.type_code.Layout.TheVariants.{Runs}
 use Rattle.image.specs.Record.{code_of}
 use Rattle.image.specs.TypeCode.{layout_of}
-use Rattle.accepted.proofs.Columns.{kept_run_lem, layout-runs}
+use Rattle.accepted.proofs.Columns.{kept_run_lem, layout_runs}
 use Rattle.accepted.proofs.Nodes.{layout_is}
 use Rattle.rows.proofs.value.value_at.Statement.{statement}
 use Rattle.rows.proofs.value.value_at.Tie as tie
@@ -98,10 +98,10 @@ returns : tie.Need-returns
 returns c = rw (layout_is c.before.before.before.before.code.ensures c.before.before.before.layout.ensures (sym c.before.enum_told.given.1)) c.leaf.ensures
 
 returns-2 : tie.Need-returns-2
-returns-2 c = rw (layout_is c.before.before.before.before.code.ensures c.before.before.before.layout.ensures (sym c.before.enum-told2.given.1)) c.boolean-value.ensures
+returns-2 c = rw (layout_is c.before.before.before.before.code.ensures c.before.before.before.layout.ensures (sym c.before.enum-told2.given.1)) c.boolean_value.ensures
 
 returns-3 : tie.Need-returns-3
-returns-3 c = rw (layout_is c.before.before.before.before.code.ensures c.before.before.before.layout.ensures (sym c.before.enum-told3.given.1)) c.fixed-value.ensures
+returns-3 c = rw (layout_is c.before.before.before.before.code.ensures c.before.before.before.layout.ensures (sym c.before.enum-told3.given.1)) c.fixed_value.ensures
 
 returns-4 : tie.Need-returns-4
 returns-4 c = rw (layout_is c.before.before.before.before.code.ensures c.before.before.before.layout.ensures (sym c.before.enum-told4.given.1)) c.variable-value.ensures
@@ -110,7 +110,7 @@ returns-5 : tie.Need-returns-5
 returns-5 c = rw (layout_is c.before.before.before.before.code.ensures c.before.before.before.layout.ensures (sym c.before.enum-told5.given.1)) c.view-value.ensures
 
 returns-6 : tie.Need-returns-6
-returns-6 c = rw (layout_is c.before.before.before.before.code.ensures c.before.before.before.layout.ensures (sym c.before.enum-told6.given.1)) c.list-value.ensures
+returns-6 c = rw (layout_is c.before.before.before.before.code.ensures c.before.before.before.layout.ensures (sym c.before.enum-told6.given.1)) c.list_value_lem.ensures
 
 returns-7 : tie.Need-returns-7
 returns-7 c = rw (layout_is c.before.before.before.before.code.ensures c.before.before.before.layout.ensures (sym c.before.enum-told7.given.1)) c.list-view-value.ensures
@@ -119,7 +119,7 @@ returns-8 : tie.Need-returns-8
 returns-8 c = rw (layout_is c.before.before.before.before.code.ensures c.before.before.before.layout.ensures (sym c.before.enum-told8.given.1)) c.fixed-list-value.ensures
 
 returns-9 : tie.Need-returns-9
-returns-9 c = rw (layout_is c.before.before.before.before.code.ensures c.before.before.before.layout.ensures (sym c.before.enum-told9.given.1)) c.struct-value.ensures
+returns-9 c = rw (layout_is c.before.before.before.before.code.ensures c.before.before.before.layout.ensures (sym c.before.enum-told9.given.1)) c.struct_value.ensures
 
 returns-10 : tie.Need-returns-10
 returns-10 c = rw (layout_is c.before.before.before.before.code.ensures c.before.before.before.layout.ensures (sym c.before.enum-told10.given.1)) c.dense-value.ensures
@@ -133,7 +133,7 @@ returns-12 c = rw (layout_is c.before.before.before.before.code.ensures c.before
 returns-13 : tie.Need-returns-13
 returns-13 c =
     let runs : layout_of (code_of c.before.before.before.before.before.before.args.s.now c.before.before.before.before.before.before.args.node) ≡ Runs = layout_is c.before.before.before.before.code.ensures c.before.before.before.layout.ensures (sym c.before.enum-told13.given.1) in
-    rw (runs, ← kept_run_lem _ _ _ (layout-runs _ _ runs), ← c.before.before.before.before.before.before.requires.1) c.run_value.ensures
+    rw (runs, ← kept_run_lem _ _ _ (layout_runs _ _ runs), ← c.before.before.before.before.before.before.requires.1) c.run_value.ensures
 
 pub value-at-spec : {M : Type 1} → statement M
 value-at-spec =

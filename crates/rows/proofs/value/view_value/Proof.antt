@@ -4,7 +4,7 @@ use native.Mathlib.Omega.{arith}
 use borrow.Author.Rules.{rules}
 use Rattle.image.specs.Element.{view_length}
 use Rattle.accepted.proofs.Nodes.{part_small}
-use Rattle.accepted.proofs.Views.{viewed, view-place}
+use Rattle.accepted.proofs.Views.{viewed, view_place_lem}
 use Rattle.rows.proofs.value.view_value.Statement.{statement}
 use Rattle.rows.proofs.value.view_value.Tie as tie
 
@@ -28,7 +28,7 @@ leaf-requires c κs = search rules
 
 returns : tie.Need-returns
 unfolding view_length
-returns c = rw (c.leaf.ensures, c.before.data-place.ensures.place, c.before.before.le32.ensures.value, view-place c.before.before.before.before.before.requires.0 c.before.before.before.before.before.requires.1 c.before.before.before.buffer-place.ensures.value)
+returns c = rw (c.leaf.ensures, c.before.data-place.ensures.place, c.before.before.le32.ensures.value, view_place_lem c.before.before.before.before.before.requires.0 c.before.before.before.before.before.requires.1 c.before.before.before.buffer-place.ensures.value)
 
 pub view-value-spec : {M : Type 1} → statement M
 view-value-spec =

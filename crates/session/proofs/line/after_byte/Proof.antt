@@ -1,6 +1,6 @@
 -- The next byte begins past one space, if something follows it.
 -- By how many characters are left, and whether the first is a space.
-use Rattle.session.proofs.Lines.{next-none, next_space, next_other}
+use Rattle.session.proofs.Lines.{next_none, next_space, next_other}
 use borrow.Author.Rules.{rules}
 use Rattle.session.proofs.line.after_byte.Statement.{statement}
 use Rattle.session.proofs.line.after_byte.Tie as tie
@@ -9,7 +9,7 @@ sub-if1 : tie.Need-overflow-sub-if1
 sub-if1 c = search rules
 
 returns : tie.Need-returns
-returns c = next-none _ _ c.before.requires c.if1.true
+returns c = next_none _ _ c.before.requires c.if1.true
 
 shared-slice-read-if2 : tie.Need-shared-slice-read-if2
 shared-slice-read-if2 c = search rules

@@ -1,6 +1,6 @@
 -- The bytes that a line stands for stand in the frame.
 -- The loop keeps that they are those in the frame so far, with what is found from the place on.
-use Rattle.session.proofs.Lines.{Decoded, decoded_none, decoded_bad, decoded_full, decoded_more, decoded_done, rest-short, rest-high, rest-low, digit_small}
+use Rattle.session.proofs.Lines.{Decoded, decoded_none, decoded_bad, decoded_full, decoded_more, decoded_done, rest_short, rest_high, rest_low, digit_small}
 use Prim.Native.Nat.{◌-◌}
 use lib.ListN.{length}
 use native.Mathlib.Omega.{arith}
@@ -21,7 +21,7 @@ sub-if1 : tie.Need-overflow-sub-if1 invariant-loop decreases-loop
 sub-if1 c = search rules
 
 returns : tie.Need-returns invariant-loop decreases-loop
-returns c = decoded_bad _ _ _ _ c.before.before.loop.invariant (rest-short _ _ c.before.loop-test.true c.if1.true)
+returns c = decoded_bad _ _ _ _ c.before.before.loop.invariant (rest_short _ _ c.before.loop-test.true c.if1.true)
 
 shared-slice-read-digit : tie.Need-shared-slice-read-digit invariant-loop decreases-loop
 shared-slice-read-digit c = search rules
@@ -30,7 +30,7 @@ digit-requires : tie.Need-digit-requires invariant-loop decreases-loop
 digit-requires c κs = search rules
 
 returns-2 : tie.Need-returns-2 invariant-loop decreases-loop
-returns-2 c = decoded_bad _ _ _ _ c.before.before.before.before.before.loop.invariant (rest-high _ _ c.before.before.before.before.loop-test.true _ c.before.digit.ensures c.if2.true)
+returns-2 c = decoded_bad _ _ _ _ c.before.before.before.before.before.loop.invariant (rest_high _ _ c.before.before.before.before.loop-test.true _ c.before.digit.ensures c.if2.true)
 
 add-digit : tie.Need-overflow-add-digit invariant-loop decreases-loop
 add-digit c = search rules
@@ -42,7 +42,7 @@ digit-requires-2 : tie.Need-digit-requires-2 invariant-loop decreases-loop
 digit-requires-2 c κs = search rules
 
 returns-3 : tie.Need-returns-3 invariant-loop decreases-loop
-returns-3 c = decoded_bad _ _ _ _ c.before.before.before.before.before.before.before.before.loop.invariant (rest-low c.before.before.before.before.before.before.before.before.before.before.before.args.line.now c.before.before.before.before.before.before.before.before.loop.at c.before.before.before.before.before.before.if1.false _ c.before.digit2.ensures c.if3.true)
+returns-3 c = decoded_bad _ _ _ _ c.before.before.before.before.before.before.before.before.loop.invariant (rest_low c.before.before.before.before.before.before.before.before.before.before.before.args.line.now c.before.before.before.before.before.before.before.before.loop.at c.before.before.before.before.before.before.if1.false _ c.before.digit2.ensures c.if3.true)
 
 returns-4 : tie.Need-returns-4 invariant-loop decreases-loop
 returns-4 c = decoded_full _ _ _ _ c.before.before.before.before.before.before.before.before.before.loop.invariant _ _ (record { more = c.before.before.before.before.before.before.before.if1.false; first = c.before.before.before.before.before.digit.ensures; second = c.before.before.digit2.ensures; high_small = digit_small _ _ c.before.before.before.before.before.digit.ensures c.before.before.before.before.if2.false; low_small = digit_small _ _ c.before.before.digit2.ensures c.before.if3.false }) c.if4.true

@@ -1,6 +1,6 @@
 -- The characters of bytes and a line feed stand at the front of the text.
 -- The loop keeps that the text begins with the characters of the bytes so far.
-use Rattle.session.proofs.Texts.{Printed, printed-none, printed-more, printed-done}
+use Rattle.session.proofs.Texts.{Printed, printed_none, printed_more, printed_done}
 use mathlib.Core.Path.{◌∙◌}
 use Prim.Native.Nat.{◌-◌, ◌*◌}
 use lib.ListN.{length, length-set}
@@ -16,7 +16,7 @@ abbrev decreases-loop : tie.decreases-loop
 decreases-loop bytes text₀ k₀ text k = length bytes - k
 
 loop-holds : tie.Need-loop-init invariant-loop decreases-loop
-loop-holds c = printed-none _ _
+loop-holds c = printed_none _ _
 
 shared-slice-read-x : tie.Need-shared-slice-read-x invariant-loop decreases-loop
 shared-slice-read-x c = search rules
@@ -49,7 +49,7 @@ loop-less : tie.Need-loop-smaller invariant-loop decreases-loop
 loop-less c = search rules
 
 loop-again : tie.Need-loop-preserved invariant-loop decreases-loop
-loop-again c = printed-more _ _ _ _ c.before.before.before.before.loop.invariant _ _ c.before.before.before.loop-test.true (omega (arith, c.before.before.before.before.before.before.before.requires.0, c.before.before.before.before.before.before.before.requires.1)) c.before.digit-text.ensures c.digit-text2.ensures
+loop-again c = printed_more _ _ _ _ c.before.before.before.before.loop.invariant _ _ c.before.before.before.loop-test.true (omega (arith, c.before.before.before.before.before.before.before.requires.0, c.before.before.before.before.before.before.before.requires.1)) c.before.digit-text.ensures c.digit-text2.ensures
 
 mul-text-3 : tie.Need-overflow-mul-text-3 invariant-loop decreases-loop
 mul-text-3 c = record { fits = omega (arith, c.before.loop.invariant.within, c.before.before.before.before.requires.0) }
@@ -67,7 +67,7 @@ same_length : tie.Need-same-length invariant-loop decreases-loop
 same_length c = length-set c.before.loop.text (2 * c.before.loop.k) 10 ∙ c.before.loop.invariant.sized
 
 returns : tie.Need-returns invariant-loop decreases-loop
-returns c = printed-done _ _ _ _ c.before.loop.invariant c.loop-test.false (omega (arith, c.before.loop.invariant.within, c.before.before.before.before.requires.0, c.before.before.before.before.requires.1))
+returns c = printed_done _ _ _ _ c.before.loop.invariant c.loop-test.false (omega (arith, c.before.loop.invariant.within, c.before.before.before.before.requires.0, c.before.before.before.before.requires.1))
 
 pub print-spec : {M : Type 1} → statement M
 print-spec =

@@ -1,6 +1,6 @@
 -- A close answers 41 for a closed side, and else what the check of its image says.
 -- By the ways of the test and the check's variants.
-use Rattle.session.proofs.Sides.{image-length, close_accepts, close_refuses}
+use Rattle.session.proofs.Sides.{image_length, close_accepts, close_refuses}
 use Rattle.session.specs.Steps.{close_side}
 use borrow.Author.Rules.{rules}
 use Rattle.session.proofs.step.close.Statement.{statement}
@@ -14,7 +14,7 @@ filled-requires : tie.Need-filled-requires
 filled-requires c κs = search rules
 
 slice-aggregate-check : tie.Need-slice-aggregate-check
-slice-aggregate-check c = image-length _ _ _ c.before.filled.ensures
+slice-aggregate-check c = image_length _ _ _ c.before.filled.ensures
 
 check-requires : tie.Need-check-requires
 check-requires c κs = search rules

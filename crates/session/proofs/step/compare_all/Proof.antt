@@ -1,6 +1,6 @@
 -- Both sides compared: 42 where one is open, else the reply to the comparison.
 -- By the ways of the tests; the lent parts are the images.
-use Rattle.session.proofs.Sides.{image-length, front-image, side_open, both_closed_lem}
+use Rattle.session.proofs.Sides.{image_length, front_image, side_open, both_closed_lem}
 use Rattle.session.specs.Steps.{compares_reply}
 use borrow.Author.Tests.{not-true, not-false}
 use mathlib.Core.Path.{◌∙◌}
@@ -22,10 +22,10 @@ filled-requires-2 : tie.Need-filled-requires-2
 filled-requires-2 c κs = search rules
 
 slice-aggregate-compare : tie.Need-slice-aggregate-compare
-slice-aggregate-compare c = image-length _ _ _ c.before.before.filled.ensures
+slice-aggregate-compare c = image_length _ _ _ c.before.before.filled.ensures
 
 slice-aggregate-compare-2 : tie.Need-slice-aggregate-compare-2
-slice-aggregate-compare-2 c = image-length _ _ _ c.before.before.filled2.ensures
+slice-aggregate-compare-2 c = image_length _ _ _ c.before.before.filled2.ensures
 
 compare-requires : tie.Need-compare-requires
 compare-requires c κs = search rules
@@ -35,7 +35,7 @@ compared-reply-requires c κs = search rules
 
 returns-2 : tie.Need-returns-2
 unfolding compares_reply
-returns-2 c = c.compared-reply.ensures ∙ rw (c.before.compare.ensures, front-image _ _ _ c.before.before.before.before.before.filled.ensures, front-image _ _ _ c.before.before.before.before.filled2.ensures) (both_closed_lem _ _ c.before.before.before.before.before.before.before.both_closed_lem.ensures (not-false _ c.before.before.before.before.before.before.if1.false))
+returns-2 c = c.compared-reply.ensures ∙ rw (c.before.compare.ensures, front_image _ _ _ c.before.before.before.before.before.filled.ensures, front_image _ _ _ c.before.before.before.before.filled2.ensures) (both_closed_lem _ _ c.before.before.before.before.before.before.before.both_closed_lem.ensures (not-false _ c.before.before.before.before.before.before.if1.false))
 
 pub compare-all-spec : {M : Type 1} → statement M
 compare-all-spec =

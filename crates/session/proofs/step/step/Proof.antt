@@ -1,6 +1,6 @@
 -- One line: its bytes are decoded, and the frame that they are is obeyed.
 -- From what the two calls give.
-use Rattle.session.proofs.Fronts.{front-within}
+use Rattle.session.proofs.Fronts.{front_within}
 use Rattle.session.specs.Steps.{after_line}
 use lib.ListN.{length}
 use mathlib.Core.Path.{◌∙◌, sym, ap}
@@ -12,7 +12,7 @@ decode-requires : tie.Need-decode-requires
 decode-requires c κs = search rules
 
 array-share-prefix-frame : tie.Need-array-share-prefix-frame
-array-share-prefix-frame c = front-within _ _ _ c.decode.ensures.0 c.decode.ensures.1
+array-share-prefix-frame c = front_within _ _ _ c.decode.ensures.0 c.decode.ensures.1
 
 slice-aggregate-obey : tie.Need-slice-aggregate-obey
 slice-aggregate-obey c = c.before.decode.ensures.0 ∙ ap length (sym c.before.decode.ensures.1)

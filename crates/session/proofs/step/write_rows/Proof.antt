@@ -1,6 +1,6 @@
 -- Rows of a side written: 42 where it is open, else the reply to the write, and the output that it leaves.
 -- By the ways of the test; the lent part is the image.
-use Rattle.session.proofs.Sides.{image-length, front-image}
+use Rattle.session.proofs.Sides.{image_length, front_image}
 use Rattle.session.specs.Steps.{write_reply, write_out}
 use borrow.Author.Tests.{not-true, not-false}
 use mathlib.Core.Path.{◌∙◌, refl}
@@ -16,7 +16,7 @@ filled-requires : tie.Need-filled-requires
 filled-requires c κs = search rules
 
 slice-aggregate-write : tie.Need-slice-aggregate-write
-slice-aggregate-write c = image-length _ _ _ c.before.filled.ensures
+slice-aggregate-write c = image_length _ _ _ c.before.filled.ensures
 
 write-requires : tie.Need-write-requires
 write-requires c κs = search rules
@@ -31,7 +31,7 @@ returns-2 : tie.Need-returns-2
 unfolding write_reply write_out
 returns-2 c =
     let closed = not-false c.before.before.before.before.before.before.before.before.before.before.before.args.side-state.closed c.before.before.before.before.before.before.before.if1.false in
-    let image = front-image _ c.before.before.before.before.before.before.before.before.before.before.before.args.side-state _ c.before.before.before.before.before.before.filled.ensures in
+    let image = front_image _ c.before.before.before.before.before.before.before.before.before.before.before.args.side-state _ c.before.before.before.before.before.before.filled.ensures in
     (c.written-reply.ensures ∙ rw (c.before.before.before.write.ensures.0, image, closed), c.before.before.before.write.ensures.1 ∙ rw (image, closed))
 
 pub write-rows-spec : {M : Type 1} → statement M

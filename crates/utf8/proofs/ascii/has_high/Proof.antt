@@ -2,9 +2,9 @@
 -- Both loops keep that what is left to look at gives the answer; the measure is how much is left.
 use mathlib.Core.Path.{sym, ◌∙◌}
 use Rattle.image.specs.Ranges.{any}
-use Rattle.image.proofs.Loops.{Rest, rest-none, any_jump, jump_found}
+use Rattle.image.proofs.Loops.{Rest, rest_none, any_jump, jump_found}
 use Rattle.utf8.specs.Ascii.{high}
-use Rattle.utf8.proofs.Ends.{rest-last}
+use Rattle.utf8.proofs.Ends.{rest_last}
 use Prim.Native.Nat.{◌-◌}
 use native.Mathlib.Omega.{arith}
 use borrow.Author.Rules.{rules}
@@ -30,7 +30,7 @@ returns : tie.Need-returns invariant-loop decreases-loop invariant-loop2 decreas
 returns c = search rules
 
 loop-holds : tie.Need-loop-init invariant-loop decreases-loop invariant-loop2 decreases-loop2
-loop-holds c = rest-none _ _ _
+loop-holds c = rest_none _ _ _
 
 sub-loop : tie.Need-overflow-sub-loop invariant-loop decreases-loop invariant-loop2 decreases-loop2
 sub-loop c = search rules
@@ -84,7 +84,7 @@ high-among-requires-3 : tie.Need-high-among-requires-3 invariant-loop decreases-
 high-among-requires-3 c κs = search rules
 
 returns-4 : tie.Need-returns-4 invariant-loop decreases-loop invariant-loop2 decreases-loop2
-returns-4 c = c.high-among3.ensures ∙ rest-last _ _ _ _ 16 c.before.before.loop2.invariant (omega (arith, c.before.loop2-test.false)) c.before.before.before.before.before.if1.false
+returns-4 c = c.high-among3.ensures ∙ rest_last _ _ _ _ 16 c.before.before.loop2.invariant (omega (arith, c.before.loop2-test.false)) c.before.before.before.before.before.if1.false
 
 pub has-high-spec : {M : Type 1} → statement M
 has-high-spec =

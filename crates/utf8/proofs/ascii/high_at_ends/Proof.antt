@@ -1,7 +1,7 @@
 -- `utf8::ascii::high_at_ends` meets its contract: the first m bytes and the last m are all of them.
 -- Where the first have no byte above 7F, the last answer for all.
 use mathlib.Core.Path.{sym, ◌∙◌}
-use Rattle.utf8.proofs.Ends.{part-found, both_ends}
+use Rattle.utf8.proofs.Ends.{part_found, both_ends}
 use native.Mathlib.Omega.{arith}
 use borrow.Author.Rules.{rules}
 use Rattle.utf8.proofs.ascii.high_at_ends.Statement.{statement}
@@ -11,7 +11,7 @@ high-among-requires : tie.Need-high-among-requires
 high-among-requires c κs = search rules
 
 returns : tie.Need-returns
-returns c = part-found _ _ _ _ _ (omega arith) (omega (arith, c.before.before.before.requires.0)) (sym c.before.high-among.ensures ∙ c.if1.true)
+returns c = part_found _ _ _ _ _ (omega arith) (omega (arith, c.before.before.before.requires.0)) (sym c.before.high-among.ensures ∙ c.if1.true)
 
 sub-high-among : tie.Need-overflow-sub-high-among
 sub-high-among c = search rules

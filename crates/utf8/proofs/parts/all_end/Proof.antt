@@ -5,7 +5,7 @@ use Prim.Native.Nat.{◌-◌, ◌≤◌}
 use native.Mathlib.Omega.{arith}
 use borrow.Author.Rules.{rules}
 use Rattle.utf8.specs.Parts.{Both, Further}
-use Rattle.utf8.proofs.FourParts.{each_none, each_then, each_after, each-rest, each_same, ill-ends}
+use Rattle.utf8.proofs.FourParts.{each_none, each_then, each_after, each_rest, each_same, ill_ends}
 use Rattle.utf8.proofs.parts.all_end.Statement.{statement}
 use Rattle.utf8.proofs.parts.all_end.Tie as tie
 
@@ -28,7 +28,7 @@ is-ill-requires : tie.Need-is-ill-requires invariant-loop decreases-loop
 is-ill-requires c κs = search rules
 
 returns : tie.Need-returns invariant-loop decreases-loop
-returns c = sym (ill-ends _ _ (sym c.before.is-ill.ensures ∙ c.if1.true)) ∙ each_same _ (each_then _ c.before.before.before.before.loop.invariant.1 c.before.before.walk-blocks.ensures)
+returns c = sym (ill_ends _ _ (sym c.before.is-ill.ensures ∙ c.if1.true)) ∙ each_same _ (each_then _ c.before.before.before.before.loop.invariant.1 c.before.before.walk-blocks.ensures)
 
 add-i : tie.Need-overflow-add-i invariant-loop decreases-loop
 add-i c = omega (arith, c.before.before.before.before.loop.invariant.0)
@@ -46,7 +46,7 @@ walk-each-requires : tie.Need-walk-each-requires invariant-loop decreases-loop
 walk-each-requires c κs = (each_after _ (omega (arith, c.before.loop.invariant.0)) c.before.before.before.requires.0 c.before.loop.invariant.1, c.before.before.before.requires.1)
 
 each-ends-requires : tie.Need-each-ends-requires invariant-loop decreases-loop
-each-ends-requires c κs = (each-rest _ c.before.before.loop.invariant.0 c.before.before.before.before.requires.0 c.before.before.loop.invariant.1 c.walk-each.ensures, c.before.before.before.before.requires.1)
+each-ends-requires c κs = (each_rest _ c.before.before.loop.invariant.0 c.before.before.before.before.requires.0 c.before.before.loop.invariant.1 c.walk-each.ensures, c.before.before.before.before.requires.1)
 
 returns-2 : tie.Need-returns-2 invariant-loop decreases-loop
 returns-2 c = c.each-ends.ensures ∙ each_same _ (each_then _ c.before.before.before.loop.invariant.1 c.before.walk-each.ensures)

@@ -5,7 +5,7 @@ use mathlib.Core.Bool.{not}
 use Prim.Native.Nat.{◌-◌}
 use borrow.Author.Rules.{rules}
 use Rattle.image.specs.Ranges.{first}
-use Rattle.image.proofs.Loops.{Rest, rest-none, first_more, first_found, first_done}
+use Rattle.image.proofs.Loops.{Rest, rest_none, first_more, first_found, first_done}
 use Rattle.utf8.specs.Cuts.{begins}
 use Rattle.utf8.proofs.parts.cut.Statement.{statement}
 use Rattle.utf8.proofs.parts.cut.Tie as tie
@@ -17,7 +17,7 @@ abbrev decreases-loop : tie.decreases-loop
 decreases-loop s at i₀ i = 3 - i
 
 loop-holds : tie.Need-loop-init invariant-loop decreases-loop
-loop-holds c = rest-none _ _ _
+loop-holds c = rest_none _ _ _
 
 add-is-tail : tie.Need-overflow-add-is-tail invariant-loop decreases-loop
 add-is-tail c = search rules

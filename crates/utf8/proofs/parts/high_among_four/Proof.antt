@@ -6,7 +6,7 @@ use native.Mathlib.Omega.{arith}
 use borrow.Author.Rules.{rules}
 use Rattle.utf8.specs.Ascii.{high}
 use Rattle.utf8.specs.Parts.{any_high}
-use Rattle.utf8.proofs.FourParts.{high-none, high-more}
+use Rattle.utf8.proofs.FourParts.{high_none, high_more}
 use Rattle.utf8.proofs.parts.high_among_four.Statement.{statement}
 use Rattle.utf8.proofs.parts.high_among_four.Tie as tie
 
@@ -17,7 +17,7 @@ abbrev decreases-loop : tie.decreases-loop
 decreases-loop s a b c d n found₀ i₀ found i = n - i
 
 loop-holds : tie.Need-loop-init invariant-loop decreases-loop
-loop-holds c = (search rules, high-none _ _ _ _ _)
+loop-holds c = (search rules, high_none _ _ _ _ _)
 
 add-found : tie.Need-overflow-add-found invariant-loop decreases-loop
 add-found c = search rules
@@ -51,7 +51,7 @@ loop-less c = search rules
 
 loop-again : tie.Need-loop-preserved invariant-loop decreases-loop
 unfolding high
-loop-again c = (search rules, rw (high-more, ← c.before.before.before.before.before.loop.invariant.1))
+loop-again c = (search rules, rw (high_more, ← c.before.before.before.before.before.loop.invariant.1))
 
 returns : tie.Need-returns invariant-loop decreases-loop
 returns c = let e : c.before.before.args.n ≡ c.before.loop.i = omega arith in rw e c.before.loop.invariant.1

@@ -4,7 +4,7 @@ use mathlib.Core.Path.{sym, ◌∙◌}
 use native.Mathlib.Omega.{arith}
 use borrow.Author.Rules.{rules}
 use Rattle.utf8.proofs.Cutting.{cut_near}
-use Rattle.utf8.proofs.FourParts.{cut_left, cut_ends, none-holds}
+use Rattle.utf8.proofs.FourParts.{cut_left, cut_ends, none_holds}
 use Rattle.utf8.proofs.parts.in_parts.Statement.{statement}
 use Rattle.utf8.proofs.parts.in_parts.Tie as tie
 
@@ -74,7 +74,7 @@ returns-2 c =
     let x = cut_near _ _ c.before.before.before.before.before.before.before.before.before.before.cut.ensures in
     let y = cut_near _ _ c.before.before.before.before.before.before.before.before.before.cut2.ensures in
     let z = cut_near _ _ c.before.before.before.before.before.before.before.before.cut3.ensures in
-    let tails = none-holds c.before.before.before.before.before.before.is-tail.ensures c.before.before.before.before.is-tail2.ensures c.before.before.is-tail3.ensures c.before.if1.false in
+    let tails = none_holds c.before.before.before.before.before.before.is-tail.ensures c.before.before.before.before.is-tail2.ensures c.before.before.is-tail3.ensures c.before.if1.false in
     c.all-end.ensures
     ∙ sym (cut_ends _ _ _ _ _ _ (omega arith) (omega arith) (omega arith) (omega arith) (λ lt. tails.0) (λ lt. tails.1) (λ lt. tails.2))
 

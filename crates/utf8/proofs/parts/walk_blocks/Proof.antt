@@ -5,7 +5,7 @@ use Prim.Native.Nat.{◌-◌, ◌%◌, ◌≤◌}
 use native.Mathlib.Omega.{arith}
 use borrow.Author.Rules.{rules}
 use Rattle.utf8.specs.Parts.{Both, Further}
-use Rattle.utf8.proofs.FourParts.{each-plain, each_none, each_then, each_after}
+use Rattle.utf8.proofs.FourParts.{each_plain, each_none, each_then, each_after}
 use Rattle.utf8.proofs.parts.walk_blocks.Statement.{statement}
 use Rattle.utf8.proofs.parts.walk_blocks.Tie as tie
 
@@ -22,7 +22,7 @@ pass-each-requires : tie.Need-pass-each-requires invariant-loop decreases-loop
 pass-each-requires c κs = search rules
 
 returns : tie.Need-returns invariant-loop decreases-loop
-returns c = each-plain _ c.before.before.before.before.requires.0 (sym c.before.before.are-plain.ensures ∙ c.before.if1.true) c.pass-each.ensures
+returns c = each_plain _ c.before.before.before.before.requires.0 (sym c.before.before.are-plain.ensures ∙ c.before.if1.true) c.pass-each.ensures
 
 loop-holds : tie.Need-loop-init invariant-loop decreases-loop
 loop-holds c = (search rules, search rules, each_none _ c.before.before.before.requires.0)

@@ -2,7 +2,7 @@
 -- Assumes nothing.
 use mathlib.Core.Path.{sym, ◌∙◌}
 use borrow.Author.Rules.{rules}
-use Rattle.utf8.proofs.FourParts.{each-plain}
+use Rattle.utf8.proofs.FourParts.{each_plain}
 use Rattle.utf8.proofs.parts.walk_small_blocks.Statement.{statement}
 use Rattle.utf8.proofs.parts.walk_small_blocks.Tie as tie
 
@@ -13,7 +13,7 @@ pass-each-requires : tie.Need-pass-each-requires
 pass-each-requires c κs = search rules
 
 returns : tie.Need-returns
-returns c = each-plain _ c.before.before.before.before.requires.0 (sym c.before.before.are-plain.ensures ∙ c.before.if1.true) c.pass-each.ensures
+returns c = each_plain _ c.before.before.before.before.requires.0 (sym c.before.before.are-plain.ensures ∙ c.before.if1.true) c.pass-each.ensures
 
 walk-each-requires : tie.Need-walk-each-requires
 walk-each-requires c κs = search rules

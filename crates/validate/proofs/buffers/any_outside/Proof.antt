@@ -9,7 +9,7 @@ use borrow.Author.Rules.{rules}
 use Rattle.image.specs.Ranges.{any}
 use Rattle.image.specs.Record.{buffer_place, buffer_length}
 use Rattle.image.specs.Faults.{outside, buffer_outside}
-use Rattle.image.proofs.Loops.{Rest, rest-none, any-more, any_found, any-done}
+use Rattle.image.proofs.Loops.{Rest, rest_none, any_more, any_found, any_done}
 use Rattle.validate.proofs.buffers.any_outside.Statement.{statement}
 use Rattle.validate.proofs.buffers.any_outside.Tie as tie
 
@@ -27,7 +27,7 @@ buffer-count-requires : tie.Need-buffer-count-requires invariant-loop decreases-
 buffer-count-requires c κs = search rules
 
 loop-holds : tie.Need-loop-init invariant-loop decreases-loop
-loop-holds c = rest-none _ _ _
+loop-holds c = rest_none _ _ _
 
 buffer-place-requires : tie.Need-buffer-place-requires invariant-loop decreases-loop
 buffer-place-requires c κs = search rules
@@ -48,10 +48,10 @@ loop-less : tie.Need-loop-smaller invariant-loop decreases-loop
 loop-less c = search rules
 
 loop-again : tie.Need-loop-preserved invariant-loop decreases-loop
-loop-again c = any-more _ _ _ _ c.before.before.before.before.loop-test.true c.before.before.before.before.before.loop.invariant (told _ _ _ _ _ _ _ c.before.before.before.buffer-place.ensures.value c.before.before.buffer-length.ensures.value c.before.is-outside.ensures c.if1.false)
+loop-again c = any_more _ _ _ _ c.before.before.before.before.loop-test.true c.before.before.before.before.before.loop.invariant (told _ _ _ _ _ _ _ c.before.before.before.buffer-place.ensures.value c.before.before.buffer-length.ensures.value c.before.is-outside.ensures c.if1.false)
 
 returns-2 : tie.Need-returns-2 invariant-loop decreases-loop
-returns-2 c = rw (← c.before.before.buffer-count.ensures.value) (any-done _ _ _ _ c.loop-test.false c.before.loop.invariant)
+returns-2 c = rw (← c.before.before.buffer-count.ensures.value) (any_done _ _ _ _ c.loop-test.false c.before.loop.invariant)
 
 pub any-outside-spec : {M : Type 1} → statement M
 any-outside-spec =

@@ -21,7 +21,7 @@ is-outside-requires : tie.Need-is-outside-requires
 is-outside-requires c κs = search rules
 
 returns-2 : tie.Need-returns-2
-returns-2 c = rw (← c.before.before.before.before.has-bitmap.ensures, not-false c.before.before.before.before.has-bitmap.result c.before.before.before.if1.false, ← c.before.bitmap-length.ensures.value, ← c.before.before.bitmap-place.ensures.value) c.is-outside.ensures
+returns-2 c = rw (← c.before.before.before.before.has-bitmap.ensures, not-false c.before.before.before.before.has-bitmap.result c.before.before.before.if1.false, ← c.before.bitmap_length_lem.ensures.value, ← c.before.before.bitmap-place.ensures.value) c.is-outside.ensures
 
 pub bitmap-outside-spec : {M : Type 1} → statement M
 bitmap-outside-spec =

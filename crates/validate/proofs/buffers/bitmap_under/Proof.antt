@@ -27,7 +27,7 @@ add-result : tie.Need-overflow-add-result
 add-result c = search rules
 
 returns-2 : tie.Need-returns-2
-returns-2 c = rw (← c.before.before.before.before.has-bitmap.ensures, not-false c.before.before.before.before.has-bitmap.result c.before.before.before.if1.false, ← c.before.before.bitmap-length.ensures.value, ← c.before.first_bit.ensures.value, ← c.length.ensures.value)
+returns-2 c = rw (← c.before.before.before.before.has-bitmap.ensures, not-false c.before.before.before.before.has-bitmap.result c.before.before.before.if1.false, ← c.before.before.bitmap_length_lem.ensures.value, ← c.before.first_bit.ensures.value, ← c.length.ensures.value)
 
 pub bitmap-under-spec : {M : Type 1} → statement M
 bitmap-under-spec =

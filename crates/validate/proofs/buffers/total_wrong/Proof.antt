@@ -15,7 +15,7 @@ cast-result : tie.Need-overflow-cast-result
 cast-result c = search rules
 
 returns-2 : tie.Need-returns-2
-returns-2 c = rw (← c.buffer-total.ensures.value, eq-eqb _ _ c.before.if1.false)
+returns-2 c = rw (← c.buffers_total.ensures.value, eq-eqb _ _ c.before.if1.false)
 
 pub total-wrong-spec : {M : Type 1} → statement M
 total-wrong-spec = tie.close (tie.spec returns buffer-total-requires cast-result returns-2)

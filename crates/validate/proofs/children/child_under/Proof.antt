@@ -10,7 +10,7 @@ use borrow.Author.Rules.{rules}
 use Rattle.image.specs.Ranges.{any}
 use Rattle.image.specs.Record.{length_of}
 use Rattle.image.specs.Faults.{rows_under, child_under}
-use Rattle.image.proofs.Loops.{Rest, rest-none, any-more, any_found, any-done}
+use Rattle.image.proofs.Loops.{Rest, rest_none, any_more, any_found, any_done}
 use Rattle.validate.proofs.children.child_under.Statement.{statement}
 use Rattle.validate.proofs.children.child_under.Tie as tie
 
@@ -36,17 +36,17 @@ child-count-requires : tie.Need-child-count-requires invariant-loop decreases-lo
 child-count-requires c κs = search rules
 
 loop-holds : tie.Need-loop-init invariant-loop decreases-loop
-loop-holds c = rest-none _ _ _
+loop-holds c = rest_none _ _ _
 
 add-length : tie.Need-overflow-add-length invariant-loop decreases-loop
-add-length c = omega (arith, c.before.before.before.first-child.ensures.small, c.before.before.child-count.ensures.small)
+add-length c = omega (arith, c.before.before.before.first_child_lem.ensures.small, c.before.before.child-count.ensures.small)
 
 length-requires : tie.Need-length-requires invariant-loop decreases-loop
 length-requires c κs = search rules
 
 returns : tie.Need-returns invariant-loop decreases-loop
 unfolding child_under
-returns c = rw (← c.before.before.before.before.before.first-child.ensures.value, ← c.before.before.before.before.child-count.ensures.value) (any_found _ _ _ _ c.before.before.loop-test.true c.before.before.before.loop.invariant (few _ _ _ _ c.before.length.ensures.value c.if1.true))
+returns c = rw (← c.before.before.before.before.before.first_child_lem.ensures.value, ← c.before.before.before.before.child-count.ensures.value) (any_found _ _ _ _ c.before.before.loop-test.true c.before.before.before.loop.invariant (few _ _ _ _ c.before.length.ensures.value c.if1.true))
 
 add-k : tie.Need-overflow-add-k invariant-loop decreases-loop
 add-k c = search rules
@@ -55,11 +55,11 @@ loop-less : tie.Need-loop-smaller invariant-loop decreases-loop
 loop-less c = search rules
 
 loop-again : tie.Need-loop-preserved invariant-loop decreases-loop
-loop-again c = any-more _ _ _ _ c.before.before.loop-test.true c.before.before.before.loop.invariant (enough _ _ _ _ c.before.length.ensures.value c.if1.false)
+loop-again c = any_more _ _ _ _ c.before.before.loop-test.true c.before.before.before.loop.invariant (enough _ _ _ _ c.before.length.ensures.value c.if1.false)
 
 returns-2 : tie.Need-returns-2 invariant-loop decreases-loop
 unfolding child_under
-returns-2 c = rw (← c.before.before.before.first-child.ensures.value, ← c.before.before.child-count.ensures.value) (any-done _ _ _ _ c.loop-test.false c.before.loop.invariant)
+returns-2 c = rw (← c.before.before.before.first_child_lem.ensures.value, ← c.before.before.child-count.ensures.value) (any_done _ _ _ _ c.loop-test.false c.before.loop.invariant)
 
 pub child-under-spec : {M : Type 1} → statement M
 child-under-spec =

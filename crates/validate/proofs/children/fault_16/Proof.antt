@@ -73,7 +73,7 @@ length-requires-3 c κs = search rules
 
 returns : tie.Need-returns
 unfolding fault16
-returns c = rw (← c.before.before.before.before.before.before.before.before.code.ensures.value, ← c.before.before.before.before.before.before.before.layout.ensures) (c.is-under.ensures ∙ rw (c.before.before.before.length.ensures.value, c.before.before.before.before.before.before.first-child.ensures.value, c.before.before.elements.ensures.value, c.before.p1.ensures.value) (fixed _ _ c.before.before.before.before.before.before.before.layout.result c.before.before.before.before.before.match.keys1))
+returns c = rw (← c.before.before.before.before.before.before.before.before.code.ensures.value, ← c.before.before.before.before.before.before.before.layout.ensures) (c.is-under.ensures ∙ rw (c.before.before.before.length.ensures.value, c.before.before.before.before.before.before.first_child_lem.ensures.value, c.before.before.elements.ensures.value, c.before.p1.ensures.value) (fixed _ _ c.before.before.before.before.before.before.before.layout.result c.before.before.before.before.before.match.keys1))
 
 returns-2 : tie.Need-returns-2
 unfolding fault16
@@ -81,7 +81,7 @@ returns-2 c = rw (← c.before.before.before.before.before.code.ensures.value, �
 
 returns-3 : tie.Need-returns-3
 unfolding fault16
-returns-3 c = rw (← c.before.before.before.before.before.before.code.ensures.value, ← c.before.before.before.before.before.layout.ensures, c.before.length2.ensures.value, c.length3.ensures.value, c.before.before.before.before.first-child.ensures.value) (runs _ _ c.before.before.before.before.before.layout.result c.before.before.before.match.keys3)
+returns-3 c = rw (← c.before.before.before.before.before.before.code.ensures.value, ← c.before.before.before.before.before.layout.ensures, c.before.length2.ensures.value, c.length3.ensures.value, c.before.before.before.before.first_child_lem.ensures.value) (runs _ _ c.before.before.before.before.before.layout.result c.before.before.before.match.keys3)
 
 returns-4 : tie.Need-returns-4
 unfolding fault16

@@ -6,7 +6,7 @@ use mathlib.Core.List.{[], ◌∷◌}
 use Rattle.image.specs.declared.type_code.Layout.TheVariants.{VariableSize, List as Lists, ListView}
 use Rattle.image.specs.Faults.{offset_fault, fault17}
 use Rattle.validate.proofs.Layouts.{at_code, at_place}
-use Rattle.validate.proofs.Lower.{text_offsets, list_offsets, list-views}
+use Rattle.validate.proofs.Lower.{text_offsets, list_offsets, list_views}
 use native.Mathlib.Omega.{arith}
 use borrow.Author.Rules.{rules}
 use Rattle.validate.proofs.offsets.fault_17.Statement.{statement}
@@ -43,7 +43,7 @@ enum-told-3 : tie.Need-enum-told-3
 enum-told-3 c = search rules
 
 lists-outside-requires : tie.Need-lists-outside-requires
-lists-outside-requires c κs = list-views c.before.before.before.before.before.requires.0 (omega arith) _ c.before.before.before.before.before.requires.1 (sym (at_place 6 ListView (λ l. l) refl c.before.before.layout.result c.before.match.keys3 _ _ c.before.before.layout.ensures c.before.before.before.code.ensures.value))
+lists-outside-requires c κs = list_views c.before.before.before.before.before.requires.0 (omega arith) _ c.before.before.before.before.before.requires.1 (sym (at_place 6 ListView (λ l. l) refl c.before.before.layout.result c.before.match.keys3 _ _ c.before.before.layout.ensures c.before.before.before.code.ensures.value))
 
 returns : tie.Need-returns
 unfolding fault17
@@ -51,7 +51,7 @@ returns c = at_place 3 _ (λ l. offset_fault l c.before.before.before.before.bef
 
 returns-2 : tie.Need-returns-2
 unfolding fault17
-returns-2 c = at_place 5 _ (λ l. offset_fault l c.before.before.before.before.before.before.before.before.args.image.now c.before.before.before.before.before.before.before.before.args.node) (c.offsets-fall2.ensures ∙ rw (c.before.length.ensures.value, c.before.before.first-child.ensures.value)) c.before.before.before.before.before.layout.result c.before.before.before.before.match.keys2 _ _ c.before.before.before.before.before.layout.ensures c.before.before.before.before.before.before.code.ensures.value
+returns-2 c = at_place 5 _ (λ l. offset_fault l c.before.before.before.before.before.before.before.before.args.image.now c.before.before.before.before.before.before.before.before.args.node) (c.offsets-fall2.ensures ∙ rw (c.before.length.ensures.value, c.before.before.first_child_lem.ensures.value)) c.before.before.before.before.before.layout.result c.before.before.before.before.match.keys2 _ _ c.before.before.before.before.before.layout.ensures c.before.before.before.before.before.before.code.ensures.value
 
 returns-3 : tie.Need-returns-3
 unfolding fault17

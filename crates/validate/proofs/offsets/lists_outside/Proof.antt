@@ -10,8 +10,8 @@ use Rattle.image.specs.Bytes.{number_at}
 use Rattle.image.specs.Record.{length_of, first_child, buffer_place}
 use Rattle.image.specs.Element.{element_width, element_place, element_at, size_at}
 use Rattle.image.specs.Faults.{list_outside}
-use Rattle.image.proofs.Loops.{Rest, rest-none, any-more, any_found, any-done}
-use Rattle.validate.proofs.Elements.{element-inside}
+use Rattle.image.proofs.Loops.{Rest, rest_none, any_more, any_found, any_done}
+use Rattle.validate.proofs.Elements.{element_inside}
 use Prim.Native.Nat.{ℕ, ◌+◌, ◌-◌, ◌*◌}
 use native.Mathlib.Omega.{arith}
 use borrow.Author.Rules.{rules}
@@ -55,13 +55,13 @@ elements-requires : tie.Need-elements-requires invariant-loop decreases-loop
 elements-requires c κs = search rules
 
 loop-holds : tie.Need-loop-init invariant-loop decreases-loop
-loop-holds c = (record { width = c.before.before.before.before.before.element-width.ensures; first = c.before.before.before.before.buffer-place.ensures.value; second = c.before.before.before.buffer-place2.ensures.value; rows = c.before.length.ensures.value ∙ rw c.before.before.first-child.ensures.value }, rest-none _ _ _)
+loop-holds c = (record { width = c.before.before.before.before.before.element-width.ensures; first = c.before.before.before.before.buffer-place.ensures.value; second = c.before.before.before.buffer-place2.ensures.value; rows = c.before.length.ensures.value ∙ rw c.before.before.first_child_lem.ensures.value }, rest_none _ _ _)
 
 nth-inside-requires : tie.Need-nth-inside-requires invariant-loop decreases-loop
-nth-inside-requires c κs = element-inside _ _ 0 _ c.before.before.before.before.before.before.before.before.before.requires.0 c.before.before.before.before.before.before.before.element-width.ensures c.before.before.before.before.before.before.buffer-place.ensures.value (omega (arith, c.before.before.elements.ensures.value))
+nth-inside-requires c κs = element_inside _ _ 0 _ c.before.before.before.before.before.before.before.before.before.requires.0 c.before.before.before.before.before.before.before.element-width.ensures c.before.before.before.before.before.before.buffer-place.ensures.value (omega (arith, c.before.before.elements.ensures.value))
 
 nth-inside-requires-2 : tie.Need-nth-inside-requires-2 invariant-loop decreases-loop
-nth-inside-requires-2 c κs = element-inside _ _ 1 _ c.before.before.before.before.before.before.before.before.before.before.requires.1 c.before.before.before.before.before.before.before.before.element-width.ensures c.before.before.before.before.before.before.buffer-place2.ensures.value (omega (arith, c.before.before.before.elements.ensures.value))
+nth-inside-requires-2 c κs = element_inside _ _ 1 _ c.before.before.before.before.before.before.before.before.before.before.requires.1 c.before.before.before.before.before.before.before.before.element-width.ensures c.before.before.before.before.before.before.buffer-place2.ensures.value (omega (arith, c.before.before.before.elements.ensures.value))
 
 returns : tie.Need-returns invariant-loop decreases-loop
 returns c = rw (← c.before.before.before.before.before.elements.ensures.value) (any_found _ _ _ _ c.before.before.before.loop-test.true c.before.before.before.before.loop.invariant.1 (listed _ _ _ c.before.before.before.before.loop.invariant.0 c.before.before.nth_inside.ensures.value c.before.nth-inside2.ensures.value ∙ lt-ltb c.before.before.before.before.before.before.length.result (c.before.before.nth_inside.result + c.before.nth-inside2.result) (omega arith)))
@@ -76,10 +76,10 @@ loop-less : tie.Need-loop-smaller invariant-loop decreases-loop
 loop-less c = search rules
 
 loop-again : tie.Need-loop-preserved invariant-loop decreases-loop
-loop-again c = (c.before.before.before.before.before.loop.invariant.0, any-more _ _ _ _ c.before.before.before.before.loop-test.true c.before.before.before.before.before.loop.invariant.1 (listed _ _ _ c.before.before.before.before.before.loop.invariant.0 c.before.before.before.nth_inside.ensures.value c.before.before.nth-inside2.ensures.value ∙ le-ltb c.before.before.before.before.before.before.before.length.result (c.before.before.before.nth_inside.result + c.before.before.nth-inside2.result) (omega arith)))
+loop-again c = (c.before.before.before.before.before.loop.invariant.0, any_more _ _ _ _ c.before.before.before.before.loop-test.true c.before.before.before.before.before.loop.invariant.1 (listed _ _ _ c.before.before.before.before.before.loop.invariant.0 c.before.before.before.nth_inside.ensures.value c.before.before.nth-inside2.ensures.value ∙ le-ltb c.before.before.before.before.before.before.before.length.result (c.before.before.before.nth_inside.result + c.before.before.nth-inside2.result) (omega arith)))
 
 returns-3 : tie.Need-returns-3 invariant-loop decreases-loop
-returns-3 c = rw (← c.before.before.elements.ensures.value) (any-done _ _ _ _ c.loop-test.false c.before.loop.invariant.1)
+returns-3 c = rw (← c.before.before.elements.ensures.value) (any_done _ _ _ _ c.loop-test.false c.before.loop.invariant.1)
 
 pub lists-outside-spec : {M : Type 1} → statement M
 lists-outside-spec =

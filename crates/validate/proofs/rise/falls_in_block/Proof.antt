@@ -3,7 +3,7 @@
 use mathlib.Core.Path.{◌≡◌}
 use Rattle.image.specs.Ranges.{any}
 use Rattle.image.proofs.Loops.{any_empty, any_snoc}
-use Rattle.image.proofs.Numbers.{packed-few, packed_fewer}
+use Rattle.image.proofs.Numbers.{packed_few, packed_fewer}
 use Rattle.validate.specs.Numbers.{number_in, falls}
 use Prim.Native.Nat.{◌-◌, ◌≤◌}
 use native.Mathlib.Omega.{arith}
@@ -21,7 +21,7 @@ loop-holds : tie.Need-loop-init invariant-loop decreases-loop
 loop-holds c = (omega arith, any_empty _ _)
 
 add-falls-at : tie.Need-overflow-add-falls-at invariant-loop decreases-loop
-add-falls-at c = omega (arith, packed-few c.before.before.before.requires.0)
+add-falls-at c = omega (arith, packed_few c.before.before.before.requires.0)
 
 falls-at-requires : tie.Need-falls-at-requires invariant-loop decreases-loop
 falls-at-requires c κs = (packed_fewer _ (omega arith) c.before.before.before.requires.0, c.before.before.before.requires.1)

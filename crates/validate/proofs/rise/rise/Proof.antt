@@ -7,7 +7,7 @@ use Rattle.image.specs.Ranges.{rises}
 use Rattle.image.specs.Bytes.{number_at}
 use Rattle.image.proofs.Numbers.{packed_fewer}
 use Rattle.validate.specs.Numbers.{number_in}
-use Rattle.validate.proofs.Rises.{first_below, last-above, by-falls}
+use Rattle.validate.proofs.Rises.{first_below, last_above, by_falls}
 use Prim.Native.Nat.{ℕ, ◌+◌, ◌*◌}
 use native.Mathlib.Omega.{arith}
 use borrow.Author.Rules.{rules}
@@ -38,13 +38,13 @@ nth-inside-requires-2 : tie.Need-nth-inside-requires-2
 nth-inside-requires-2 c κs = packed_fewer _ (omega arith) c.before.before.before.before.requires.0
 
 returns-3 : tie.Need-returns-3
-returns-3 c = last-above _ _ _ _ _ _ _ (omega arith) (numbered _ _ _ _ c.before.before.before.nth_inside.ensures.value) c.before.before.if2.false (numbered _ _ _ _ c.before.nth-inside2.ensures.value) c.if3.true
+returns-3 c = last_above _ _ _ _ _ _ _ (omega arith) (numbered _ _ _ _ c.before.before.before.nth_inside.ensures.value) c.before.before.if2.false (numbered _ _ _ _ c.before.nth-inside2.ensures.value) c.if3.true
 
 falls-among-requires : tie.Need-falls-among-requires
 falls-among-requires c κs = (packed_fewer _ (omega arith) c.before.before.before.before.before.before.requires.0, c.before.before.before.before.before.before.requires.1)
 
 returns-4 : tie.Need-returns-4
-returns-4 c = by-falls _ _ _ _ _ _ _ (omega arith) (numbered _ _ _ _ c.before.before.before.before.nth_inside.ensures.value) c.before.before.before.if2.false (numbered _ _ _ _ c.before.before.nth-inside2.ensures.value) c.before.if3.false c.falls-among.ensures
+returns-4 c = by_falls _ _ _ _ _ _ _ (omega arith) (numbered _ _ _ _ c.before.before.before.before.nth_inside.ensures.value) c.before.before.before.if2.false (numbered _ _ _ _ c.before.before.nth-inside2.ensures.value) c.before.if3.false c.falls-among.ensures
 
 pub rise-spec : {M : Type 1} → statement M
 rise-spec =

@@ -12,8 +12,8 @@ use Rattle.image.specs.Reads.{Read}
 use Rattle.image.specs.Record.{length_of, buffer_place, elements_of}
 use Rattle.image.specs.Element.{dense_offset_at}
 use Rattle.image.specs.Faults.{dense_row_fault, dense_outside}
-use Rattle.image.proofs.Loops.{Rest, rest-none, any-more, any_found, any-done}
-use Rattle.validate.proofs.Elements.{element-inside}
+use Rattle.image.proofs.Loops.{Rest, rest_none, any_more, any_found, any_done}
+use Rattle.validate.proofs.Elements.{element_inside}
 use Rattle.validate.proofs.Unions.{Union, named, unnamed}
 use Prim.Native.Nat.{ℕ, ◌+◌, ◌-◌, ◌*◌, ◌<◌, ◌≤◌}
 use lib.ListN.{length, get_or}
@@ -65,14 +65,14 @@ length-requires : tie.Need-length-requires invariant-loop decreases-loop
 length-requires c κs = search rules
 
 loop-holds : tie.Need-loop-init invariant-loop decreases-loop
-loop-holds c = (record { by-id = c.before.before.before.before.before.before.children-by-id.ensures; ends = rw (← c.before.before.before.before.before.first-child.ensures.value, ← c.before.before.before.before.child-count.ensures.value); place = c.before.before.before.buffer-place.ensures.value; start = c.before.offset.ensures.value }, c.before.before.buffer-place2.ensures.value, rest-none _ _ _)
+loop-holds c = (record { by_id = c.before.before.before.before.before.before.children-by-id.ensures; ends = rw (← c.before.before.before.before.before.first_child_lem.ensures.value, ← c.before.before.before.before.child-count.ensures.value); place = c.before.before.before.buffer-place.ensures.value; start = c.before.offset.ensures.value }, c.before.before.buffer-place2.ensures.value, rest_none _ _ _)
 
 add-j : tie.Need-overflow-add-j invariant-loop decreases-loop
 add-j c = search rules
 
 nth-inside-requires : tie.Need-nth-inside-requires invariant-loop decreases-loop
 unfolding elements_of
-nth-inside-requires c κs = element-inside _ _ 0 _ c.before.before.before.before.before.before.before.before.before.before.requires.0 refl c.before.before.before.before.before.buffer-place.ensures.value (omega (arith, c.before.before.before.offset.ensures.value, c.before.before.length.ensures.value))
+nth-inside-requires c κs = element_inside _ _ 0 _ c.before.before.before.before.before.before.before.before.before.before.requires.0 refl c.before.before.before.before.before.buffer-place.ensures.value (omega (arith, c.before.before.before.offset.ensures.value, c.before.before.length.ensures.value))
 
 mul-child : tie.Need-overflow-mul-child invariant-loop decreases-loop
 mul-child c = search rules
@@ -88,7 +88,7 @@ length-requires-2 c κs = search rules
 
 nth-inside-requires-2 : tie.Need-nth-inside-requires-2 invariant-loop decreases-loop
 unfolding elements_of
-nth-inside-requires-2 c κs = element-inside _ _ 1 _ c.before.before.before.before.before.before.before.before.before.before.before.before.before.requires.1 refl c.before.before.before.before.before.before.before.buffer-place2.ensures.value (omega (arith, c.before.before.before.before.before.before.offset.ensures.value, c.before.before.before.before.before.length.ensures.value))
+nth-inside-requires-2 c κs = element_inside _ _ 1 _ c.before.before.before.before.before.before.before.before.before.before.before.before.before.requires.1 refl c.before.before.before.before.before.before.before.buffer-place2.ensures.value (omega (arith, c.before.before.before.before.before.before.offset.ensures.value, c.before.before.before.before.before.length.ensures.value))
 
 returns-2 : tie.Need-returns-2 invariant-loop decreases-loop
 returns-2 c = rw (← c.before.before.before.before.before.before.before.length.ensures.value) (any_found _ _ _ _ c.before.before.before.before.before.loop-test.true c.before.before.before.before.before.before.loop.invariant.2 (child-row c.before.before.before.before.before.before.loop.invariant.0 _ c.before.before.before.before.nth_inside.ensures c.before.before.before.if1.false _ _ _ c.before.before.before.before.before.before.loop.invariant.1 c.before.before.length2.ensures.value c.before.nth-inside2.ensures.value ∙ le-leb _ _ c.if2.true))
@@ -100,10 +100,10 @@ loop-less : tie.Need-loop-smaller invariant-loop decreases-loop
 loop-less c = search rules
 
 loop-again : tie.Need-loop-preserved invariant-loop decreases-loop
-loop-again c = (c.before.before.before.before.before.before.loop.invariant.0, c.before.before.before.before.before.before.loop.invariant.1, any-more _ _ _ _ c.before.before.before.before.before.loop-test.true c.before.before.before.before.before.before.loop.invariant.2 (child-row c.before.before.before.before.before.before.loop.invariant.0 _ c.before.before.before.before.nth_inside.ensures c.before.before.before.if1.false _ _ _ c.before.before.before.before.before.before.loop.invariant.1 c.before.before.length2.ensures.value c.before.nth-inside2.ensures.value ∙ lt-leb _ _ c.if2.false))
+loop-again c = (c.before.before.before.before.before.before.loop.invariant.0, c.before.before.before.before.before.before.loop.invariant.1, any_more _ _ _ _ c.before.before.before.before.before.loop-test.true c.before.before.before.before.before.before.loop.invariant.2 (child-row c.before.before.before.before.before.before.loop.invariant.0 _ c.before.before.before.before.nth_inside.ensures c.before.before.before.if1.false _ _ _ c.before.before.before.before.before.before.loop.invariant.1 c.before.before.length2.ensures.value c.before.nth-inside2.ensures.value ∙ lt-leb _ _ c.if2.false))
 
 returns-3 : tie.Need-returns-3 invariant-loop decreases-loop
-returns-3 c = rw (← c.before.before.length.ensures.value) (any-done _ _ _ _ c.loop-test.false c.before.loop.invariant.2)
+returns-3 c = rw (← c.before.before.length.ensures.value) (any_done _ _ _ _ c.loop-test.false c.before.loop.invariant.2)
 
 pub dense-fault-spec : {M : Type 1} → statement M
 dense-fault-spec =

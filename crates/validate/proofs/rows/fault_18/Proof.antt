@@ -6,7 +6,7 @@ use mathlib.Core.List.{[], ◌∷◌}
 use Rattle.image.specs.declared.type_code.Layout.TheVariants.{View, DenseUnion, SparseUnion, Dictionary, Runs}
 use Rattle.image.specs.Faults.{row_fault, fault18}
 use Rattle.validate.proofs.Layouts.{at_code, at_place}
-use Rattle.validate.proofs.Lower.{views, dense-rows, sparse-rows, keys, run_ends_lem}
+use Rattle.validate.proofs.Lower.{views, dense_rows, sparse_rows, keys, run_ends_lem}
 use native.Mathlib.Omega.{arith}
 use borrow.Author.Rules.{rules}
 use Rattle.validate.proofs.rows.fault_18.Statement.{statement}
@@ -28,13 +28,13 @@ enum-told-2 : tie.Need-enum-told-2
 enum-told-2 c = search rules
 
 dense-fault-requires : tie.Need-dense-fault-requires
-dense-fault-requires c κs = dense-rows c.before.before.before.before.before.requires.0 (omega arith) _ c.before.before.before.before.before.requires.1 (sym (at_place 9 DenseUnion (λ l. l) refl c.before.before.layout.result c.before.match.keys2 _ _ c.before.before.layout.ensures c.before.before.before.code.ensures.value))
+dense-fault-requires c κs = dense_rows c.before.before.before.before.before.requires.0 (omega arith) _ c.before.before.before.before.before.requires.1 (sym (at_place 9 DenseUnion (λ l. l) refl c.before.before.layout.result c.before.match.keys2 _ _ c.before.before.layout.ensures c.before.before.before.code.ensures.value))
 
 enum-told-3 : tie.Need-enum-told-3
 enum-told-3 c = search rules
 
 sparse-fault-requires : tie.Need-sparse-fault-requires
-sparse-fault-requires c κs = sparse-rows c.before.before.before.before.before.requires.0 (omega arith) _ c.before.before.before.before.before.requires.1 (sym (at_place 10 SparseUnion (λ l. l) refl c.before.before.layout.result c.before.match.keys3 _ _ c.before.before.layout.ensures c.before.before.before.code.ensures.value))
+sparse-fault-requires c κs = sparse_rows c.before.before.before.before.before.requires.0 (omega arith) _ c.before.before.before.before.before.requires.1 (sym (at_place 10 SparseUnion (λ l. l) refl c.before.before.layout.result c.before.match.keys3 _ _ c.before.before.layout.ensures c.before.before.before.code.ensures.value))
 
 enum-told-4 : tie.Need-enum-told-4
 enum-told-4 c = search rules

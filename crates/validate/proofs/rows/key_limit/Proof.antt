@@ -68,16 +68,16 @@ key-signed-requires : tie.Need-key-signed-requires
 key-signed-requires c κs = search rules
 
 returns : tie.Need-returns
-returns c = unsigned _ _ _ _ _ _ c.before.before.before.before.first-child.ensures.value c.before.before.before.length.ensures.value c.before.before.p1.ensures.value c.before.key-signed.ensures (not-true c.before.key-signed.result c.if1.true)
+returns c = unsigned _ _ _ _ _ _ c.before.before.before.before.first_child_lem.ensures.value c.before.before.before.length.ensures.value c.before.before.p1.ensures.value c.before.key-signed.ensures (not-true c.before.key-signed.result c.if1.true)
 
 sign-bit-requires : tie.Need-sign-bit-requires
 sign-bit-requires c κs = search rules
 
 returns-2 : tie.Need-returns-2
-returns-2 c = low-sign _ _ _ _ _ _ c.before.before.before.before.before.before.first-child.ensures.value c.before.before.before.before.before.length.ensures.value c.before.before.before.before.p1.ensures.value c.before.before.before.key-signed.ensures (not-false c.before.before.before.key-signed.result c.before.before.if1.false) _ _ c.before.before.before.before.before.before.before.before.requires.0 c.before.sign_bit.ensures (omega arith)
+returns-2 c = low-sign _ _ _ _ _ _ c.before.before.before.before.before.before.first_child_lem.ensures.value c.before.before.before.before.before.length.ensures.value c.before.before.before.before.p1.ensures.value c.before.before.before.key-signed.ensures (not-false c.before.before.before.key-signed.result c.before.before.if1.false) _ _ c.before.before.before.before.before.before.before.before.requires.0 c.before.sign_bit.ensures (omega arith)
 
 returns-3 : tie.Need-returns-3
-returns-3 c = low_rows _ _ _ _ _ _ c.before.before.before.before.before.before.first-child.ensures.value c.before.before.before.before.before.length.ensures.value c.before.before.before.before.p1.ensures.value c.before.before.before.key-signed.ensures (not-false c.before.before.before.key-signed.result c.before.before.if1.false) _ _ c.before.before.before.before.before.before.before.before.requires.0 c.before.sign_bit.ensures c.if2.false
+returns-3 c = low_rows _ _ _ _ _ _ c.before.before.before.before.before.before.first_child_lem.ensures.value c.before.before.before.before.before.length.ensures.value c.before.before.before.before.p1.ensures.value c.before.before.before.key-signed.ensures (not-false c.before.before.before.key-signed.result c.before.before.if1.false) _ _ c.before.before.before.before.before.before.before.before.requires.0 c.before.sign_bit.ensures c.if2.false
 
 pub key-limit-spec : {M : Type 1} → statement M
 key-limit-spec =

@@ -5,10 +5,10 @@ use mathlib.Core.Logic.{⊎_elim}
 use borrow.Author.Tests.{le-leb, lt-leb, not-true}
 use Rattle.image.specs.Ranges.{any}
 use Rattle.image.specs.Faults.{key_row_fault}
-use Rattle.image.proofs.Loops.{Rest, rest-none, any-more, any_found, any-done}
-use Rattle.image.proofs.Numbers.{width-most, packed_fewer}
+use Rattle.image.proofs.Loops.{Rest, rest_none, any_more, any_found, any_done}
+use Rattle.image.proofs.Numbers.{width_most, packed_fewer}
 use Rattle.validate.proofs.Elements.{rows_inside}
-use Rattle.validate.proofs.KeyRows.{Keys, null-row, key_row, by-keys}
+use Rattle.validate.proofs.KeyRows.{Keys, null_row, key_row, by_keys}
 use Prim.Native.Nat.{◌-◌}
 use lib.ListN.{length}
 use native.Mathlib.Omega.{arith}
@@ -26,7 +26,7 @@ element-width-requires : tie.Need-element-width-requires invariant-loop decrease
 element-width-requires c κs = search rules
 
 key-limit-requires : tie.Need-key-limit-requires invariant-loop decreases-loop
-key-limit-requires c κs = (c.element-width.ensures, rw c.element-width.ensures (width-most _ c.before.before.requires.width))
+key-limit-requires c κs = (c.element-width.ensures, rw c.element-width.ensures (width_most _ c.before.before.requires.width))
 
 buffer-place-requires : tie.Need-buffer-place-requires invariant-loop decreases-loop
 buffer-place-requires c κs = search rules
@@ -50,13 +50,13 @@ reach-among-requires : tie.Need-reach-among-requires invariant-loop decreases-lo
 reach-among-requires c κs = rows_inside _ _ 0 c.before.before.before.before.before.before.before.before.requires c.before.before.before.before.before.before.element-width.ensures c.before.before.before.before.buffer-place.ensures.value c.before.before.before.offset.ensures.value c.before.before.length.ensures.value
 
 returns : tie.Need-returns invariant-loop decreases-loop
-returns c = by-keys (record { width = c.before.before.before.before.before.before.before.element-width.ensures; limits = c.before.before.before.before.before.before.key-limit.ensures; place = rw (← c.before.before.before.before.before.buffer-place.ensures.value, ← c.before.before.before.before.offset.ensures.value) }) c.before.before.has-bitmap.ensures (not-true _ c.before.if1.true) c.before.before.before.length.ensures.value c.reach-among.ensures
+returns c = by_keys (record { width = c.before.before.before.before.before.before.before.element-width.ensures; limits = c.before.before.before.before.before.before.key-limit.ensures; place = rw (← c.before.before.before.before.before.buffer-place.ensures.value, ← c.before.before.before.before.offset.ensures.value) }) c.before.before.has-bitmap.ensures (not-true _ c.before.if1.true) c.before.before.before.length.ensures.value c.reach-among.ensures
 
 mask-of-requires : tie.Need-mask-of-requires invariant-loop decreases-loop
 mask-of-requires c κs = search rules
 
 loop-holds : tie.Need-loop-init invariant-loop decreases-loop
-loop-holds c = (record { width = c.before.before.before.before.before.before.before.element-width.ensures; limits = c.before.before.before.before.before.before.key-limit.ensures; place = rw (← c.before.before.before.before.before.buffer-place.ensures.value, ← c.before.before.before.before.offset.ensures.value) }, rest-none _ _ _)
+loop-holds c = (record { width = c.before.before.before.before.before.before.before.element-width.ensures; limits = c.before.before.before.before.before.before.key-limit.ensures; place = rw (← c.before.before.before.before.before.buffer-place.ensures.value, ← c.before.before.before.before.offset.ensures.value) }, rest_none _ _ _)
 
 is-kept-requires : tie.Need-is-kept-requires invariant-loop decreases-loop
 is-kept-requires c κs = (c.before.before.mask-of.ensures, omega (arith, c.before.before.before.before.before.length.ensures.small))
@@ -74,10 +74,10 @@ loop-less : tie.Need-loop-smaller invariant-loop decreases-loop
 loop-less c = search rules
 
 loop-again : tie.Need-loop-preserved invariant-loop decreases-loop
-loop-again c = (c.before.before.before.loop.invariant.0, any-more _ _ _ _ c.before.before.loop-test.true c.before.before.before.loop.invariant.1 (⊎_elim (λ w. key_row c.before.before.before.loop.invariant.0 _ _ _ c.before.is-kept.ensures w.0.taken w.1.ensures.value ∙ lt-leb _ _ w.2.left) (λ w. null-row _ _ _ _ c.before.is-kept.ensures w.left) c.if2.branch))
+loop-again c = (c.before.before.before.loop.invariant.0, any_more _ _ _ _ c.before.before.loop-test.true c.before.before.before.loop.invariant.1 (⊎_elim (λ w. key_row c.before.before.before.loop.invariant.0 _ _ _ c.before.is-kept.ensures w.0.taken w.1.ensures.value ∙ lt-leb _ _ w.2.left) (λ w. null_row _ _ _ _ c.before.is-kept.ensures w.left) c.if2.branch))
 
 returns-3 : tie.Need-returns-3 invariant-loop decreases-loop
-returns-3 c = rw (← c.before.before.before.before.before.length.ensures.value) (any-done _ _ _ _ c.loop-test.false c.before.loop.invariant.1)
+returns-3 c = rw (← c.before.before.before.before.before.length.ensures.value) (any_done _ _ _ _ c.loop-test.false c.before.loop.invariant.1)
 
 pub keys-fault-spec : {M : Type 1} → statement M
 keys-fault-spec =

@@ -17,7 +17,7 @@ length-requires c κs = search rules
 
 returns : tie.Need-returns
 unfolding last_end_below
-returns c = rw (← c.before.before.first-child.ensures.value, ← c.before.length.ensures.value, eq-eqb _ _ c.if1.true, ← c.before.before.before.elements.ensures.value)
+returns c = rw (← c.before.before.first_child_lem.ensures.value, ← c.before.length.ensures.value, eq-eqb _ _ c.if1.true, ← c.before.before.before.elements.ensures.value)
 
 ends-of-requires : tie.Need-ends-of-requires
 ends-of-requires c κs = search rules
@@ -30,7 +30,7 @@ run-end-requires c κs = search rules
 
 returns-2 : tie.Need-returns-2
 unfolding last_end_below
-returns-2 c = rw (← c.before.before.before.before.first-child.ensures.value, ← c.before.before.before.length.ensures.value, ne_eqb _ _ c.before.before.if1.false, ← c.before.before.before.before.before.elements.ensures.value, ← c.run-end.ensures)
+returns-2 c = rw (← c.before.before.before.before.first_child_lem.ensures.value, ← c.before.before.before.length.ensures.value, ne_eqb _ _ c.before.before.if1.false, ← c.before.before.before.before.before.elements.ensures.value, ← c.run-end.ensures)
 
 pub last-end-below-spec : {M : Type 1} → statement M
 last-end-below-spec =

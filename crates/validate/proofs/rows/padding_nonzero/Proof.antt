@@ -8,8 +8,8 @@ use borrow.Author.Tests.{eq-eqb, ne_eqb}
 use Rattle.image.specs.Ranges.{any}
 use Rattle.image.specs.Bytes.{byte_at}
 use Rattle.image.specs.Faults.{nonzero, padding_nonzero}
-use Rattle.image.proofs.Loops.{Rest, rest-none, any-more, any_found, any-done}
-use Rattle.validate.proofs.Padding.{front-padded, back_padded}
+use Rattle.image.proofs.Loops.{Rest, rest_none, any_more, any_found, any_done}
+use Rattle.validate.proofs.Padding.{front_padded, back_padded}
 use Prim.Native.Nat.{ℕ, ◌-◌}
 use native.Mathlib.Omega.{arith}
 use borrow.Author.Rules.{rules}
@@ -40,7 +40,7 @@ octet-requires : tie.Need-octet-requires invariant-loop decreases-loop
 octet-requires c κs = search rules
 
 returns : tie.Need-returns invariant-loop decreases-loop
-returns c = front-padded _ _ c.before.before.before.before.requires.1 8 (omega arith) c.before.octet.ensures.value c.if2.true
+returns c = front_padded _ _ c.before.before.before.before.requires.1 8 (omega arith) c.before.octet.ensures.value c.if2.true
 
 add-octet : tie.Need-overflow-add-octet invariant-loop decreases-loop
 add-octet c = search rules
@@ -55,7 +55,7 @@ quad-requires : tie.Need-quad-requires invariant-loop decreases-loop
 quad-requires c κs = search rules
 
 returns-3 : tie.Need-returns-3 invariant-loop decreases-loop
-returns-3 c = front-padded _ _ c.before.before.before.before.before.requires.1 4 (omega arith) c.before.quad.ensures.value c.if4.true
+returns-3 c = front_padded _ _ c.before.before.before.before.before.requires.1 4 (omega arith) c.before.quad.ensures.value c.if4.true
 
 add-quad : tie.Need-overflow-add-quad invariant-loop decreases-loop
 add-quad c = search rules
@@ -70,7 +70,7 @@ sub-count : tie.Need-overflow-sub-count invariant-loop decreases-loop
 sub-count c = search rules
 
 loop-holds : tie.Need-loop-init invariant-loop decreases-loop
-loop-holds c = rest-none _ _ _
+loop-holds c = rest_none _ _ _
 
 add-if5 : tie.Need-overflow-add-if5 invariant-loop decreases-loop
 add-if5 c = search rules
@@ -89,11 +89,11 @@ loop-less : tie.Need-loop-smaller invariant-loop decreases-loop
 loop-less c = search rules
 
 loop-again : tie.Need-loop-preserved invariant-loop decreases-loop
-loop-again c = any-more _ _ _ _ c.before.before.loop-test.true c.before.before.before.loop.invariant (zero-byte _ _ _ refl c.if5.false)
+loop-again c = any_more _ _ _ _ c.before.before.loop-test.true c.before.before.before.loop.invariant (zero-byte _ _ _ refl c.if5.false)
 
 returns-6 : tie.Need-returns-6 invariant-loop decreases-loop
 unfolding padding_nonzero
-returns-6 c = rw (← c.before.before.before.before.before.requires.1) (any-done _ _ _ _ c.loop-test.false c.before.loop.invariant)
+returns-6 c = rw (← c.before.before.before.before.before.requires.1) (any_done _ _ _ _ c.loop-test.false c.before.loop.invariant)
 
 pub padding-nonzero-spec : {M : Type 1} → statement M
 padding-nonzero-spec =

@@ -7,7 +7,7 @@ use lib.Dec.{leb}
 use borrow.Author.Tests.{le-leb, lt-leb}
 use Rattle.image.specs.Bytes.{number_at}
 use Rattle.image.specs.Ranges.{any}
-use Rattle.image.proofs.Loops.{Rest, rest-none, any-more, any_found, any-done, any_jump, jump_found}
+use Rattle.image.proofs.Loops.{Rest, rest_none, any_more, any_found, any_done, any_jump, jump_found}
 use Rattle.image.proofs.Numbers.{packed_fewer}
 use Rattle.validate.specs.Numbers.{number_in, reaches}
 use Prim.Native.Nat.{ℕ, ◌+◌, ◌-◌, ◌*◌}
@@ -34,7 +34,7 @@ unfolding reaches number_in
 at s place w limit k e = rw (zero-add, ← e)
 
 loop-holds : tie.Need-loop-init invariant-loop decreases-loop invariant-loop2 decreases-loop2
-loop-holds c = rest-none _ _ _
+loop-holds c = rest_none _ _ _
 
 sub-loop : tie.Need-overflow-sub-loop invariant-loop decreases-loop invariant-loop2 decreases-loop2
 sub-loop c = omega (arith, c.loop.invariant.within)
@@ -70,10 +70,10 @@ loop2-less : tie.Need-loop2-smaller invariant-loop decreases-loop invariant-loop
 loop2-less c = search rules
 
 loop2-again : tie.Need-loop2-preserved invariant-loop decreases-loop invariant-loop2 decreases-loop2
-loop2-again c = any-more _ _ _ _ c.before.before.loop2-test.true c.before.before.before.loop2.invariant (at _ _ _ _ _ c.before.nth_inside.ensures.value ∙ lt-leb _ _ c.if2.false)
+loop2-again c = any_more _ _ _ _ c.before.before.loop2-test.true c.before.before.before.loop2.invariant (at _ _ _ _ _ c.before.nth_inside.ensures.value ∙ lt-leb _ _ c.if2.false)
 
 returns-3 : tie.Need-returns-3 invariant-loop decreases-loop invariant-loop2 decreases-loop2
-returns-3 c = any-done _ _ _ _ c.loop2-test.false c.before.loop2.invariant
+returns-3 c = any_done _ _ _ _ c.loop2-test.false c.before.loop2.invariant
 
 pub reach-among-spec : {M : Type 1} → statement M
 reach-among-spec =

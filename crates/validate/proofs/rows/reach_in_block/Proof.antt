@@ -3,7 +3,7 @@
 use mathlib.Core.Path.{◌≡◌}
 use Rattle.image.specs.Ranges.{any}
 use Rattle.image.proofs.Loops.{any_empty, any_snoc}
-use Rattle.image.proofs.Numbers.{packed-few, packed_fewer}
+use Rattle.image.proofs.Numbers.{packed_few, packed_fewer}
 use Rattle.validate.specs.Numbers.{number_in, reaches}
 use Prim.Native.Nat.{◌-◌, ◌≤◌}
 use native.Mathlib.Omega.{arith}
@@ -21,7 +21,7 @@ loop-holds : tie.Need-loop-init invariant-loop decreases-loop
 loop-holds c = (omega arith, any_empty _ _)
 
 add-nth-inside : tie.Need-overflow-add-nth-inside invariant-loop decreases-loop
-add-nth-inside c = omega (arith, packed-few c.before.before.before.requires)
+add-nth-inside c = omega (arith, packed_few c.before.before.before.requires)
 
 nth-inside-requires : tie.Need-nth-inside-requires invariant-loop decreases-loop
 nth-inside-requires c κs = packed_fewer _ (omega arith) c.before.before.before.requires

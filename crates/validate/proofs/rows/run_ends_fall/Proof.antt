@@ -4,7 +4,7 @@ use mathlib.Core.Path.{ap, ◌∙◌}
 use mathlib.Core.Bool.{not}
 use native.Mathlib.Omega.{arith}
 use borrow.Author.Rules.{rules}
-use Rattle.validate.proofs.RunEnds.{sign_least, ends-packed, ends-rise}
+use Rattle.validate.proofs.RunEnds.{sign_least, ends_packed, ends_rise}
 use Rattle.validate.proofs.rows.run_ends_fall.Statement.{statement}
 use Rattle.validate.proofs.rows.run_ends_fall.Tie as tie
 
@@ -24,10 +24,10 @@ length-requires : tie.Need-length-requires
 length-requires c κs = search rules
 
 rise-requires : tie.Need-rise-requires
-rise-requires c κs = (ends-packed _ _ _ c.before.before.before.before.before.requires c.before.before.before.ends_of.ensures (rw (← c.before.first-child.ensures.value) c.length.ensures.value), omega arith)
+rise-requires c κs = (ends_packed _ _ _ c.before.before.before.before.before.requires c.before.before.before.ends_of.ensures (rw (← c.before.first_child_lem.ensures.value) c.length.ensures.value), omega arith)
 
 returns : tie.Need-returns
-returns c = ap not (c.rise.ensures ∙ ends-rise _ _ _ c.before.before.before.before.ends_of.ensures c.before.before.before.sign_bit.ensures (rw (← c.before.before.first-child.ensures.value) c.before.length.ensures.value))
+returns c = ap not (c.rise.ensures ∙ ends_rise _ _ _ c.before.before.before.before.ends_of.ensures c.before.before.before.sign_bit.ensures (rw (← c.before.before.first_child_lem.ensures.value) c.before.length.ensures.value))
 
 pub run-ends-fall-spec : {M : Type 1} → statement M
 run-ends-fall-spec =

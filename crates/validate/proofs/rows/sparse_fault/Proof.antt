@@ -9,8 +9,8 @@ use Rattle.image.specs.Bytes.{number_at}
 use Rattle.image.specs.Reads.{Read}
 use Rattle.image.specs.Record.{elements_of}
 use Rattle.image.specs.Faults.{sparse_row_fault}
-use Rattle.image.proofs.Loops.{Rest, rest-none, any-more, any_found, any-done}
-use Rattle.validate.proofs.Elements.{element-inside}
+use Rattle.image.proofs.Loops.{Rest, rest_none, any_more, any_found, any_done}
+use Rattle.validate.proofs.Elements.{element_inside}
 use Rattle.validate.proofs.Unions.{Union, unnamed}
 use Prim.Native.Nat.{ℕ, ◌+◌, ◌-◌, ◌*◌}
 use lib.ListN.{length, get_or}
@@ -52,14 +52,14 @@ length-requires : tie.Need-length-requires invariant-loop decreases-loop
 length-requires c κs = search rules
 
 loop-holds : tie.Need-loop-init invariant-loop decreases-loop
-loop-holds c = (record { by-id = c.before.before.before.before.before.children-by-id.ensures; ends = rw (← c.before.before.before.before.first-child.ensures.value, ← c.before.before.before.child-count.ensures.value); place = c.before.before.buffer-place.ensures.value; start = c.before.offset.ensures.value }, rest-none _ _ _)
+loop-holds c = (record { by_id = c.before.before.before.before.before.children-by-id.ensures; ends = rw (← c.before.before.before.before.first_child_lem.ensures.value, ← c.before.before.before.child-count.ensures.value); place = c.before.before.buffer-place.ensures.value; start = c.before.offset.ensures.value }, rest_none _ _ _)
 
 add-nth-inside : tie.Need-overflow-add-nth-inside invariant-loop decreases-loop
 add-nth-inside c = search rules
 
 nth-inside-requires : tie.Need-nth-inside-requires invariant-loop decreases-loop
 unfolding elements_of
-nth-inside-requires c κs = element-inside _ _ 0 _ c.before.before.before.before.before.before.before.before.before.requires refl c.before.before.before.before.buffer-place.ensures.value (omega (arith, c.before.before.before.offset.ensures.value, c.before.before.length.ensures.value))
+nth-inside-requires c κs = element_inside _ _ 0 _ c.before.before.before.before.before.before.before.before.before.requires refl c.before.before.before.before.buffer-place.ensures.value (omega (arith, c.before.before.before.offset.ensures.value, c.before.before.length.ensures.value))
 
 mul-child : tie.Need-overflow-mul-child invariant-loop decreases-loop
 mul-child c = search rules
@@ -77,10 +77,10 @@ loop-less : tie.Need-loop-smaller invariant-loop decreases-loop
 loop-less c = search rules
 
 loop-again : tie.Need-loop-preserved invariant-loop decreases-loop
-loop-again c = (c.before.before.before.loop.invariant.0, any-more _ _ _ _ c.before.before.loop-test.true c.before.before.before.loop.invariant.1 (sparse-row c.before.before.before.loop.invariant.0 _ c.before.nth_inside.ensures ∙ lt-leb _ _ c.if1.false))
+loop-again c = (c.before.before.before.loop.invariant.0, any_more _ _ _ _ c.before.before.loop-test.true c.before.before.before.loop.invariant.1 (sparse-row c.before.before.before.loop.invariant.0 _ c.before.nth_inside.ensures ∙ lt-leb _ _ c.if1.false))
 
 returns-2 : tie.Need-returns-2 invariant-loop decreases-loop
-returns-2 c = rw (← c.before.before.length.ensures.value) (any-done _ _ _ _ c.loop-test.false c.before.loop.invariant.1)
+returns-2 c = rw (← c.before.before.length.ensures.value) (any_done _ _ _ _ c.loop-test.false c.before.loop.invariant.1)
 
 pub sparse-fault-spec : {M : Type 1} → statement M
 sparse-fault-spec =

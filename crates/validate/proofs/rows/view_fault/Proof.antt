@@ -3,7 +3,7 @@
 use borrow.Author.Tests.{le-leb, lt-leb, lt-ltb, le-ltb}
 use Rattle.image.specs.Element.{view_length, view_buffer, view_offset, view_data}
 use Rattle.image.specs.Faults.{view_fault, long_view_fault}
-use Rattle.validate.proofs.ViewRows.{place_at, length_at, entry-inside, data_inside}
+use Rattle.validate.proofs.ViewRows.{place_at, length_at, entry_inside, data_inside}
 use native.Mathlib.Omega.{arith}
 use borrow.Author.Rules.{rules}
 use Rattle.validate.proofs.rows.view_fault.Statement.{statement}
@@ -37,7 +37,7 @@ mul-entry : tie.Need-overflow-mul-entry
 mul-entry c = omega (arith, c.before.before.before.before.before.requires.known.number.small, c.if2.false)
 
 add-entry : tie.Need-overflow-add-entry
-add-entry c = omega (arith, entry-inside c.before.before.before.before.before.requires.known _ c.if2.false)
+add-entry c = omega (arith, entry_inside c.before.before.before.before.before.requires.known _ c.if2.false)
 
 add-quad-2 : tie.Need-overflow-add-quad-2
 add-quad-2 c = search rules
@@ -46,10 +46,10 @@ quad-requires-3 : tie.Need-quad-requires-3
 quad-requires-3 c κs = search rules
 
 add-quad-3 : tie.Need-overflow-add-quad-3
-add-quad-3 c = omega (arith, entry-inside c.before.before.before.before.before.before.requires.known _ c.before.if2.false)
+add-quad-3 c = omega (arith, entry_inside c.before.before.before.before.before.before.requires.known _ c.before.if2.false)
 
 quad-requires-4 : tie.Need-quad-requires-4
-quad-requires-4 c κs = omega (arith, entry-inside c.before.before.before.before.before.before.requires.known _ c.before.if2.false)
+quad-requires-4 c κs = omega (arith, entry_inside c.before.before.before.before.before.before.requires.known _ c.before.if2.false)
 
 add-if3 : tie.Need-overflow-add-if3
 add-if3 c = search rules
@@ -65,7 +65,7 @@ quad-requires-5 : tie.Need-quad-requires-5
 quad-requires-5 c κs = search rules
 
 quad-requires-6 : tie.Need-quad-requires-6
-quad-requires-6 c κs = omega (arith, entry-inside c.before.before.before.before.before.before.before.before.before.requires.known _ c.before.before.before.before.if2.false)
+quad-requires-6 c κs = omega (arith, entry_inside c.before.before.before.before.before.before.before.before.before.requires.known _ c.before.before.before.before.if2.false)
 
 add-quad-5 : tie.Need-overflow-add-quad-5
 add-quad-5 c = search rules

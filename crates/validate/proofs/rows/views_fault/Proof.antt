@@ -5,8 +5,8 @@ use mathlib.Core.Path.{◌≡◌, ◌∙◌}
 use mathlib.Core.Logic.{⊎_elim}
 use Rattle.image.specs.Ranges.{any}
 use Rattle.image.specs.Faults.{view_row_fault}
-use Rattle.image.proofs.Loops.{Rest, rest-none, any-more, any_found, any-done}
-use Rattle.validate.proofs.ViewRows.{entries-read, null-row, view-row, view_at}
+use Rattle.image.proofs.Loops.{Rest, rest_none, any_more, any_found, any_done}
+use Rattle.validate.proofs.ViewRows.{entries_read, null_row, view_row_lem, view_at}
 use Prim.Native.Nat.{◌+◌, ◌-◌, ◌*◌}
 use lib.ListN.{length}
 use native.Mathlib.Omega.{arith}
@@ -48,16 +48,16 @@ mask-of-requires : tie.Need-mask-of-requires invariant-loop decreases-loop
 mask-of-requires c κs = search rules
 
 loop-holds : tie.Need-loop-init invariant-loop decreases-loop
-loop-holds c = (omega arith, rest-none _ _ _)
+loop-holds c = (omega arith, rest_none _ _ _)
 
 is-kept-requires : tie.Need-is-kept-requires invariant-loop decreases-loop
 is-kept-requires c κs = (c.before.before.mask-of.ensures, omega (arith, c.before.before.before.length.ensures.small))
 
 view-fault-requires : tie.Need-view-fault-requires invariant-loop decreases-loop
-view-fault-requires c κs = view_at (entries-read c.before.before.before.before.before.before.before.before.before.before.before.requires c.before.before.before.before.before.before.before.node-entry.ensures c.before.before.before.before.before.before.buffer-count.ensures) c.before.before.before.before.before.before.before.before.before.buffer-place.ensures c.before.before.before.before.before.before.before.before.offset.ensures _ c.before.before.before.loop.invariant.0 (omega (arith, c.before.before.before.before.before.length.ensures.value))
+view-fault-requires c κs = view_at (entries_read c.before.before.before.before.before.before.before.before.before.before.before.requires c.before.before.before.before.before.before.before.node-entry.ensures c.before.before.before.before.before.before.buffer-count.ensures) c.before.before.before.before.before.before.before.before.before.buffer-place.ensures c.before.before.before.before.before.before.before.before.offset.ensures _ c.before.before.before.loop.invariant.0 (omega (arith, c.before.before.before.before.before.length.ensures.value))
 
 returns : tie.Need-returns invariant-loop decreases-loop
-returns c = rw (← c.before.before.before.before.before.before.before.length.ensures.value) (any_found _ _ _ _ c.before.before.before.before.loop-test.true c.before.before.before.before.before.loop.invariant.1 (view-row (entries-read c.before.before.before.before.before.before.before.before.before.before.before.before.before.requires c.before.before.before.before.before.before.before.before.before.node-entry.ensures c.before.before.before.before.before.before.before.before.buffer-count.ensures) c.before.before.before.before.before.before.before.before.before.before.before.buffer-place.ensures c.before.before.before.before.before.before.before.before.before.before.offset.ensures _ c.before.before.before.before.before.loop.invariant.0 _ _ c.before.before.before.is-kept.ensures c.before.before.if1.true c.before.view-fault.ensures ∙ c.if2.true))
+returns c = rw (← c.before.before.before.before.before.before.before.length.ensures.value) (any_found _ _ _ _ c.before.before.before.before.loop-test.true c.before.before.before.before.before.loop.invariant.1 (view_row_lem (entries_read c.before.before.before.before.before.before.before.before.before.before.before.before.before.requires c.before.before.before.before.before.before.before.before.before.node-entry.ensures c.before.before.before.before.before.before.before.before.buffer-count.ensures) c.before.before.before.before.before.before.before.before.before.before.before.buffer-place.ensures c.before.before.before.before.before.before.before.before.before.before.offset.ensures _ c.before.before.before.before.before.loop.invariant.0 _ _ c.before.before.before.is-kept.ensures c.before.before.if1.true c.before.view-fault.ensures ∙ c.if2.true))
 
 add-view : tie.Need-overflow-add-view invariant-loop decreases-loop
 add-view c = omega (arith, c.before.before.before.loop.invariant.0, c.before.before.before.before.before.length.ensures.small, c.before.before.before.before.before.before.before.before.before.buffer-place.ensures.small, c.before.before.before.before.before.before.before.before.offset.ensures.small)
@@ -69,10 +69,10 @@ loop-less : tie.Need-loop-smaller invariant-loop decreases-loop
 loop-less c = search rules
 
 loop-again : tie.Need-loop-preserved invariant-loop decreases-loop
-loop-again c = (omega (arith, c.before.before.before.loop.invariant.0), any-more _ _ _ _ c.before.before.loop-test.true c.before.before.before.loop.invariant.1 (⊎_elim (λ w. view-row (entries-read c.before.before.before.before.before.before.before.before.before.before.before.requires c.before.before.before.before.before.before.before.node-entry.ensures c.before.before.before.before.before.before.buffer-count.ensures) c.before.before.before.before.before.before.before.before.before.buffer-place.ensures c.before.before.before.before.before.before.before.before.offset.ensures _ c.before.before.before.loop.invariant.0 _ _ c.before.is-kept.ensures w.0.taken w.1.ensures ∙ w.2.left) (λ w. null-row _ _ _ _ c.before.is-kept.ensures w.left) c.if1.branch))
+loop-again c = (omega (arith, c.before.before.before.loop.invariant.0), any_more _ _ _ _ c.before.before.loop-test.true c.before.before.before.loop.invariant.1 (⊎_elim (λ w. view_row_lem (entries_read c.before.before.before.before.before.before.before.before.before.before.before.requires c.before.before.before.before.before.before.before.node-entry.ensures c.before.before.before.before.before.before.buffer-count.ensures) c.before.before.before.before.before.before.before.before.before.buffer-place.ensures c.before.before.before.before.before.before.before.before.offset.ensures _ c.before.before.before.loop.invariant.0 _ _ c.before.is-kept.ensures w.0.taken w.1.ensures ∙ w.2.left) (λ w. null_row _ _ _ _ c.before.is-kept.ensures w.left) c.if1.branch))
 
 returns-2 : tie.Need-returns-2 invariant-loop decreases-loop
-returns-2 c = rw (← c.before.before.before.length.ensures.value) (any-done _ _ _ _ c.loop-test.false c.before.loop.invariant.1)
+returns-2 c = rw (← c.before.before.before.length.ensures.value) (any_done _ _ _ _ c.loop-test.false c.before.loop.invariant.1)
 
 pub views-fault-spec : {M : Type 1} → statement M
 views-fault-spec =

@@ -3,7 +3,7 @@
 use mathlib.Core.Bool.{false≢true}
 use borrow.Author.Tests.{not-false}
 use Rattle.validate.specs.Texts.{EachBuffer, formed_buffer}
-use Rattle.validate.proofs.TextRows.{buffer-none, buffer-more, buffer-all, formed_here, data_inside}
+use Rattle.validate.proofs.TextRows.{buffer_none, buffer_more, buffer_all, formed_here, data_inside}
 use Prim.Native.Nat.{◌-◌, ◌≤◌}
 use native.Mathlib.Omega.{arith}
 use borrow.Author.Rules.{rules}
@@ -23,7 +23,7 @@ buffer-count-requires : tie.Need-buffer-count-requires invariant-loop decreases-
 buffer-count-requires c κs = search rules
 
 loop-holds : tie.Need-loop-init invariant-loop decreases-loop
-loop-holds c = (omega arith, buffer-none _)
+loop-holds c = (omega arith, buffer_none _)
 
 buffer-place-requires : tie.Need-buffer-place-requires invariant-loop decreases-loop
 buffer-place-requires c κs = search rules
@@ -44,10 +44,10 @@ loop-less : tie.Need-loop-smaller invariant-loop decreases-loop
 loop-less c = search rules
 
 loop-again : tie.Need-loop-preserved invariant-loop decreases-loop
-loop-again c = (omega arith, buffer-more c.before.before.before.before.before.before.loop.invariant.1 (formed_here _ _ _ c.before.before.before.before.buffer-place.ensures.value c.before.before.before.buffer-length.ensures.value c.before.is-text.ensures (not-false _ c.if1.false)))
+loop-again c = (omega arith, buffer_more c.before.before.before.before.before.before.loop.invariant.1 (formed_here _ _ _ c.before.before.before.before.buffer-place.ensures.value c.before.before.before.buffer-length.ensures.value c.before.is_text_lem.ensures (not-false _ c.if1.false)))
 
 returns-2 : tie.Need-returns-2 invariant-loop decreases-loop
-returns-2 c = λ e. buffer-all c.before.loop.invariant.1 (omega (arith, c.before.before.buffer-count.ensures.value, c.loop-test.false))
+returns-2 c = λ e. buffer_all c.before.loop.invariant.1 (omega (arith, c.before.before.buffer-count.ensures.value, c.loop-test.false))
 
 pub buffers-formed-spec : {M : Type 1} → statement M
 buffers-formed-spec =

@@ -1,6 +1,6 @@
 -- The lengths of the views are added up, and the sum fits.
 -- The loop keeps that the sum is below 2 ^ 32 for each view.
-use Rattle.validate.proofs.TextRows.{small-image, few-rows, view-fits}
+use Rattle.validate.proofs.TextRows.{small_image, few_rows, view_fits}
 use Prim.Native.Nat.{◌-◌, ◌*◌, ◌≤◌}
 use lib.ListN.{length}
 use native.Mathlib.Omega.{arith}
@@ -21,16 +21,16 @@ loop-holds : tie.Need-loop-init invariant-loop decreases-loop
 loop-holds c = (omega arith, omega arith)
 
 mul-quad : tie.Need-overflow-mul-quad invariant-loop decreases-loop
-mul-quad c = omega (arith, view-fits c.before.before.before.before.requires.0 c.before.before.before.before.requires.1 c.before.before.before.before.requires.2 c.before.loop.i (omega (arith, c.before.before.length.ensures.value)), small-image c.before.before.before.before.requires.0)
+mul-quad c = omega (arith, view_fits c.before.before.before.before.requires.0 c.before.before.before.before.requires.1 c.before.before.before.before.requires.2 c.before.loop.i (omega (arith, c.before.before.length.ensures.value)), small_image c.before.before.before.before.requires.0)
 
 add-quad : tie.Need-overflow-add-quad invariant-loop decreases-loop
-add-quad c = omega (arith, view-fits c.before.before.before.before.before.requires.0 c.before.before.before.before.before.requires.1 c.before.before.before.before.before.requires.2 c.before.before.loop.i (omega (arith, c.before.before.before.length.ensures.value)), small-image c.before.before.before.before.before.requires.0)
+add-quad c = omega (arith, view_fits c.before.before.before.before.before.requires.0 c.before.before.before.before.before.requires.1 c.before.before.before.before.before.requires.2 c.before.before.loop.i (omega (arith, c.before.before.before.length.ensures.value)), small_image c.before.before.before.before.before.requires.0)
 
 quad-requires : tie.Need-quad-requires invariant-loop decreases-loop
-quad-requires c κs = omega (arith, view-fits c.before.before.before.before.before.requires.0 c.before.before.before.before.before.requires.1 c.before.before.before.before.before.requires.2 c.before.before.loop.i (omega (arith, c.before.before.before.length.ensures.value)))
+quad-requires c κs = omega (arith, view_fits c.before.before.before.before.before.requires.0 c.before.before.before.before.before.requires.1 c.before.before.before.before.before.requires.2 c.before.before.loop.i (omega (arith, c.before.before.before.length.ensures.value)))
 
 add-sum : tie.Need-overflow-add-sum invariant-loop decreases-loop
-add-sum c = omega (arith, c.before.before.before.loop.invariant.0, c.quad.ensures.small, c.before.before.before.before.length.ensures.value, few-rows c.before.before.before.before.before.before.requires.0)
+add-sum c = omega (arith, c.before.before.before.loop.invariant.0, c.quad.ensures.small, c.before.before.before.before.length.ensures.value, few_rows c.before.before.before.before.before.before.requires.0)
 
 add-i : tie.Need-overflow-add-i invariant-loop decreases-loop
 add-i c = search rules

@@ -3,35 +3,35 @@
 use mathlib.Core.Path.{sym, ◌∙◌}
 use mathlib.Core.Bool.{false≢true}
 use borrow.Author.Tests.{not-true}
-use Rattle.validate.proofs.TextRows.{small-image, view-fits, viewed, few-buffers, buffer-inside, cut_view}
+use Rattle.validate.proofs.TextRows.{small_image, view_fits, viewed, few_buffers, buffer_inside, cut_view}
 use native.Mathlib.Omega.{arith}
 use borrow.Author.Rules.{rules}
 use Rattle.validate.proofs.texts.cut_well.Statement.{statement}
 use Rattle.validate.proofs.texts.cut_well.Tie as tie
 
 mul-view : tie.Need-overflow-mul-view
-mul-view c = omega (arith, view-fits c.before.requires.0.node c.before.requires.0.read c.before.requires.1 _ c.before.requires.0.row, small-image c.before.requires.0.node)
+mul-view c = omega (arith, view_fits c.before.requires.0.node c.before.requires.0.read c.before.requires.1 _ c.before.requires.0.row, small_image c.before.requires.0.node)
 
 add-view : tie.Need-overflow-add-view
-add-view c = omega (arith, view-fits c.before.before.requires.0.node c.before.before.requires.0.read c.before.before.requires.1 _ c.before.before.requires.0.row, small-image c.before.before.requires.0.node)
+add-view c = omega (arith, view_fits c.before.before.requires.0.node c.before.before.requires.0.read c.before.before.requires.1 _ c.before.before.requires.0.row, small_image c.before.before.requires.0.node)
 
 quad-requires : tie.Need-quad-requires
-quad-requires c κs = omega (arith, view-fits c.before.before.requires.0.node c.before.before.requires.0.read c.before.before.requires.1 _ c.before.before.requires.0.row)
+quad-requires c κs = omega (arith, view_fits c.before.before.requires.0.node c.before.before.requires.0.read c.before.before.requires.1 _ c.before.before.requires.0.row)
 
 returns : tie.Need-returns
 returns c = λ e formed. absurd (false≢true e)
 
 add-quad : tie.Need-overflow-add-quad
-add-quad c = omega (arith, view-fits c.before.before.before.before.requires.0.node c.before.before.before.before.requires.0.read c.before.before.before.before.requires.1 _ c.before.before.before.before.requires.0.row, small-image c.before.before.before.before.requires.0.node)
+add-quad c = omega (arith, view_fits c.before.before.before.before.requires.0.node c.before.before.before.before.requires.0.read c.before.before.before.before.requires.1 _ c.before.before.before.before.requires.0.row, small_image c.before.before.before.before.requires.0.node)
 
 quad-requires-2 : tie.Need-quad-requires-2
-quad-requires-2 c κs = omega (arith, view-fits c.before.before.before.before.requires.0.node c.before.before.before.before.requires.0.read c.before.before.before.before.requires.1 _ c.before.before.before.before.requires.0.row)
+quad-requires-2 c κs = omega (arith, view_fits c.before.before.before.before.requires.0.node c.before.before.before.before.requires.0.read c.before.before.before.before.requires.1 _ c.before.before.before.before.requires.0.row)
 
 add-buffer : tie.Need-overflow-add-buffer
-add-buffer c = omega (arith, few-buffers c.before.before.before.before.before.requires.0.node c.before.before.before.before.before.requires.0.read c.before.before.before.before.before.requires.1 _ c.before.before.quad.ensures.value c.before.before.before.before.before.requires.0.row c.before.before.before.before.before.requires.0.not_null c.before.if1.false c.quad2.ensures.value)
+add-buffer c = omega (arith, few_buffers c.before.before.before.before.before.requires.0.node c.before.before.before.before.before.requires.0.read c.before.before.before.before.before.requires.1 _ c.before.before.quad.ensures.value c.before.before.before.before.before.requires.0.row c.before.before.before.before.before.requires.0.not_null c.before.if1.false c.quad2.ensures.value)
 
 cast-buffer : tie.Need-overflow-cast-buffer
-cast-buffer c = omega (arith, few-buffers c.before.before.before.before.before.requires.0.node c.before.before.before.before.before.requires.0.read c.before.before.before.before.before.requires.1 _ c.before.before.quad.ensures.value c.before.before.before.before.before.requires.0.row c.before.before.before.before.before.requires.0.not_null c.before.if1.false c.quad2.ensures.value)
+cast-buffer c = omega (arith, few_buffers c.before.before.before.before.before.requires.0.node c.before.before.before.before.before.requires.0.read c.before.before.before.before.before.requires.1 _ c.before.before.quad.ensures.value c.before.before.before.before.before.requires.0.row c.before.before.before.before.before.requires.0.not_null c.before.if1.false c.quad2.ensures.value)
 
 buffer-place-requires : tie.Need-buffer-place-requires
 buffer-place-requires c κs = search rules
@@ -55,13 +55,13 @@ returns-2 : tie.Need-returns-2
 returns-2 c = λ e formed. absurd (false≢true e)
 
 add-if3 : tie.Need-overflow-add-if3
-add-if3 c = omega (arith, c.before.before.before.data-place.ensures.inside, small-image c.before.before.before.before.before.before.before.before.before.before.before.requires.0.node)
+add-if3 c = omega (arith, c.before.before.before.data-place.ensures.inside, small_image c.before.before.before.before.before.before.before.before.before.before.before.requires.0.node)
 
 add-is-tail : tie.Need-overflow-add-is-tail
-add-is-tail c = omega (arith, c.before.before.before.before.data-place.ensures.inside, small-image c.before.before.before.before.before.before.before.before.before.before.before.before.requires.0.node)
+add-is-tail c = omega (arith, c.before.before.before.before.data-place.ensures.inside, small_image c.before.before.before.before.before.before.before.before.before.before.before.before.requires.0.node)
 
 shared-slice-read-is-tail-2 : tie.Need-shared-slice-read-is-tail-2
-shared-slice-read-is-tail-2 c = omega (arith, c.before.if3.true, c.before.before.before.before.before.before.before.buffer-place.ensures.value, c.before.before.before.before.before.before.buffer-length.ensures.value, buffer-inside c.before.before.before.before.before.before.before.before.before.before.before.before.before.requires.0.node c.before.before.before.before.before.before.before.before.before.before.before.before.before.requires.0.read c.before.before.before.before.before.before.before.before.before.before.before.before.before.requires.1 _ c.before.before.before.before.before.before.before.before.before.before.quad.ensures.value c.before.before.before.before.before.before.before.before.before.before.before.before.before.requires.0.row c.before.before.before.before.before.before.before.before.before.before.before.before.before.requires.0.not_null c.before.before.before.before.before.before.before.before.before.if1.false c.before.before.before.before.before.before.before.before.quad2.ensures.value)
+shared-slice-read-is-tail-2 c = omega (arith, c.before.if3.true, c.before.before.before.before.before.before.before.buffer-place.ensures.value, c.before.before.before.before.before.before.buffer-length.ensures.value, buffer_inside c.before.before.before.before.before.before.before.before.before.before.before.before.before.requires.0.node c.before.before.before.before.before.before.before.before.before.before.before.before.before.requires.0.read c.before.before.before.before.before.before.before.before.before.before.before.before.before.requires.1 _ c.before.before.before.before.before.before.before.before.before.before.quad.ensures.value c.before.before.before.before.before.before.before.before.before.before.before.before.before.requires.0.row c.before.before.before.before.before.before.before.before.before.before.before.before.before.requires.0.not_null c.before.before.before.before.before.before.before.before.before.if1.false c.before.before.before.before.before.before.before.before.quad2.ensures.value)
 
 is-tail-requires-2 : tie.Need-is-tail-requires-2
 is-tail-requires-2 c κs = search rules

@@ -3,7 +3,7 @@
 use mathlib.Core.Path.{sym, ◌∙◌}
 use mathlib.Core.Bool.{false≢true}
 use borrow.Author.Tests.{not-true, not-false}
-use Rattle.validate.proofs.TextRows.{small-image, plain_together, cut_together}
+use Rattle.validate.proofs.TextRows.{small_image, plain_together, cut_together}
 use native.Mathlib.Omega.{arith}
 use borrow.Author.Rules.{rules}
 use Rattle.validate.proofs.texts.formed_together.Statement.{statement}
@@ -28,7 +28,7 @@ returns-2 : tie.Need-returns-2
 returns-2 c = λ e. absurd (false≢true e)
 
 add-letter-split : tie.Need-overflow-add-letter-split
-add-letter-split c = omega (arith, c.before.before.before.before.before.before.before.stretch-of.ensures.inside, small-image c.before.before.before.before.before.before.before.before.before.requires.0)
+add-letter-split c = omega (arith, c.before.before.before.before.before.before.before.stretch-of.ensures.inside, small_image c.before.before.before.before.before.before.before.before.before.requires.0)
 
 letter-split-requires : tie.Need-letter-split-requires
 letter-split-requires c κs = (c.before.before.before.before.before.before.before.before.before.requires.0, c.before.before.before.before.before.before.before.before.before.requires.1, c.before.before.before.before.before.before.before.before.before.requires.2, omega (arith, c.before.before.before.before.before.before.before.stretch-of.ensures.inside))

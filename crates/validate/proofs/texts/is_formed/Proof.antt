@@ -24,7 +24,7 @@ is-text-requires : tie.Need-is-text-requires
 is-text-requires c κs = (c.text_of.ensures.inside, c.before.before.before.before.requires.1)
 
 returns-3 : tie.Need-returns-3
-returns-3 c = c.is-text.ensures ∙ ap well_formed c.before.text_of.ensures.text
+returns-3 c = c.is_text_lem.ensures ∙ ap well_formed c.before.text_of.ensures.text
 
 pub is-formed-spec : {M : Type 1} → statement M
 is-formed-spec =

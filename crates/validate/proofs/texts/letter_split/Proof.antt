@@ -3,9 +3,9 @@
 use mathlib.Core.Path.{◌∙◌}
 use mathlib.Core.Logic.{⊎_elim}
 use Rattle.image.specs.Ranges.{any}
-use Rattle.image.proofs.Loops.{Rest, rest-none, any-more, any_found, any-done}
+use Rattle.image.proofs.Loops.{Rest, rest_none, any_more, any_found, any_done}
 use Rattle.validate.specs.Texts.{splits}
-use Rattle.validate.proofs.TextRows.{small-image, offset-inside, starts_inside, start-read, split, not_split}
+use Rattle.validate.proofs.TextRows.{small_image, offset_inside, starts_inside, start_read, split, not_split}
 use Prim.Native.Nat.{◌-◌}
 use lib.ListN.{length}
 use native.Mathlib.Omega.{arith}
@@ -23,13 +23,13 @@ length-requires : tie.Need-length-requires invariant-loop decreases-loop
 length-requires c κs = search rules
 
 loop-holds : tie.Need-loop-init invariant-loop decreases-loop
-loop-holds c = rest-none _ _ _
+loop-holds c = rest_none _ _ _
 
 nth-inside-requires : tie.Need-nth-inside-requires invariant-loop decreases-loop
-nth-inside-requires c κs = offset-inside c.before.before.before.before.requires.0 c.before.before.before.before.requires.1 c.before.before.before.before.requires.2 _ (omega (arith, c.before.before.length.ensures.value))
+nth-inside-requires c κs = offset_inside c.before.before.before.before.requires.0 c.before.before.before.before.requires.1 c.before.before.before.before.requires.2 _ (omega (arith, c.before.before.length.ensures.value))
 
 add_start : tie.Need-overflow-add-start invariant-loop decreases-loop
-add_start c = omega (arith, starts_inside c.before.before.before.before.before.before.requires.0 c.before.before.before.before.before.before.requires.1 c.before.before.before.before.before.before.requires.2 {i = c.before.before.before.loop.i} {j = c.before.before.before.loop.i} (omega arith) (omega (arith, c.before.before.before.before.length.ensures.value)) c.before.nth_inside.ensures.value c.before.nth_inside.ensures.value, small-image c.before.before.before.before.before.before.requires.0)
+add_start c = omega (arith, starts_inside c.before.before.before.before.before.before.requires.0 c.before.before.before.before.before.before.requires.1 c.before.before.before.before.before.before.requires.2 {i = c.before.before.before.loop.i} {j = c.before.before.before.loop.i} (omega arith) (omega (arith, c.before.before.before.before.length.ensures.value)) c.before.nth_inside.ensures.value c.before.nth_inside.ensures.value, small_image c.before.before.before.before.before.before.requires.0)
 
 shared-slice-read-is-tail : tie.Need-shared-slice-read-is-tail invariant-loop decreases-loop
 shared-slice-read-is-tail c = search rules
@@ -38,7 +38,7 @@ is-tail-requires : tie.Need-is-tail-requires invariant-loop decreases-loop
 is-tail-requires c κs = search rules
 
 returns : tie.Need-returns invariant-loop decreases-loop
-returns c = rw (← c.before.before.before.before.before.before.before.before.length.ensures.value) (any_found _ _ _ _ c.before.before.before.before.before.before.loop-test.true c.before.before.before.before.before.before.before.loop.invariant (split _ _ _ _ (start-read c.before.before.before.before.before.before.before.before.before.before.requires.0 c.before.before.before.before.before.before.before.before.before.before.requires.1 c.before.before.before.before.before.before.before.before.before.before.requires.2 _ c.before.before.before.before.before.nth_inside.ensures.value) c.before.before.before.if1.true c.before.is-tail.ensures ∙ c.if2.true))
+returns c = rw (← c.before.before.before.before.before.before.before.before.length.ensures.value) (any_found _ _ _ _ c.before.before.before.before.before.before.loop-test.true c.before.before.before.before.before.before.before.loop.invariant (split _ _ _ _ (start_read c.before.before.before.before.before.before.before.before.before.before.requires.0 c.before.before.before.before.before.before.before.before.before.before.requires.1 c.before.before.before.before.before.before.before.before.before.before.requires.2 _ c.before.before.before.before.before.nth_inside.ensures.value) c.before.before.before.if1.true c.before.is-tail.ensures ∙ c.if2.true))
 
 add-i : tie.Need-overflow-add-i invariant-loop decreases-loop
 add-i c = search rules
@@ -47,10 +47,10 @@ loop-less : tie.Need-loop-smaller invariant-loop decreases-loop
 loop-less c = search rules
 
 loop-again : tie.Need-loop-preserved invariant-loop decreases-loop
-loop-again c = any-more _ _ _ _ c.before.before.before.loop-test.true c.before.before.before.before.loop.invariant (⊎_elim (λ w. split _ _ _ _ (start-read c.before.before.before.before.before.before.before.requires.0 c.before.before.before.before.before.before.before.requires.1 c.before.before.before.before.before.before.before.requires.2 _ c.before.before.nth_inside.ensures.value) w.0.taken w.2.ensures ∙ w.3.left) (λ w. not_split _ _ _ _ (start-read c.before.before.before.before.before.before.before.requires.0 c.before.before.before.before.before.before.before.requires.1 c.before.before.before.before.before.before.before.requires.2 _ c.before.before.nth_inside.ensures.value) w.left) c.if1.branch)
+loop-again c = any_more _ _ _ _ c.before.before.before.loop-test.true c.before.before.before.before.loop.invariant (⊎_elim (λ w. split _ _ _ _ (start_read c.before.before.before.before.before.before.before.requires.0 c.before.before.before.before.before.before.before.requires.1 c.before.before.before.before.before.before.before.requires.2 _ c.before.before.nth_inside.ensures.value) w.0.taken w.2.ensures ∙ w.3.left) (λ w. not_split _ _ _ _ (start_read c.before.before.before.before.before.before.before.requires.0 c.before.before.before.before.before.before.before.requires.1 c.before.before.before.before.before.before.before.requires.2 _ c.before.before.nth_inside.ensures.value) w.left) c.if1.branch)
 
 returns-2 : tie.Need-returns-2 invariant-loop decreases-loop
-returns-2 c = rw (← c.before.before.length.ensures.value) (any-done _ _ _ _ c.loop-test.false c.before.loop.invariant)
+returns-2 c = rw (← c.before.before.length.ensures.value) (any_done _ _ _ _ c.loop-test.false c.before.loop.invariant)
 
 pub letter-split-spec : {M : Type 1} → statement M
 letter-split-spec =

@@ -4,8 +4,8 @@ use mathlib.Core.Path.{sym, ◌∙◌}
 use mathlib.Core.Logic.{⊎_elim}
 use Rattle.image.specs.Ranges.{any}
 use Rattle.image.specs.Faults.{text_row_fault}
-use Rattle.image.proofs.Loops.{Rest, rest-none, any-more, any_found, any-done}
-use Rattle.validate.proofs.TextRows.{text-row, null-row}
+use Rattle.image.proofs.Loops.{Rest, rest_none, any_more, any_found, any_done}
+use Rattle.validate.proofs.TextRows.{text_row, null_row}
 use Prim.Native.Nat.{◌-◌}
 use lib.ListN.{length}
 use native.Mathlib.Omega.{arith}
@@ -29,7 +29,7 @@ mask-of-requires : tie.Need-mask-of-requires invariant-loop decreases-loop
 mask-of-requires c κs = search rules
 
 loop-holds : tie.Need-loop-init invariant-loop decreases-loop
-loop-holds c = rest-none _ _ _
+loop-holds c = rest_none _ _ _
 
 is-kept-requires : tie.Need-is-kept-requires invariant-loop decreases-loop
 is-kept-requires c κs = (c.before.before.mask-of.ensures, omega (arith, c.before.before.before.length.ensures.small))
@@ -38,7 +38,7 @@ is-formed-requires : tie.Need-is-formed-requires invariant-loop decreases-loop
 is-formed-requires c κs = (record { node = c.before.before.before.before.before.before.before.before.before.requires.0; read = c.before.before.before.before.before.before.before.before.before.requires.1; row = omega (arith, c.before.before.before.before.before.before.length.ensures.value); not_null = sym c.before.before.is-kept.ensures ∙ c.before.if1.true }, c.before.before.before.before.before.before.before.next-states.ensures, c.before.before.before.before.before.before.before.before.before.requires.2)
 
 returns : tie.Need-returns invariant-loop decreases-loop
-returns c = rw (← c.before.before.before.before.before.before.before.before.length.ensures.value) (any_found _ _ _ _ c.before.before.before.before.before.loop-test.true c.before.before.before.before.before.before.loop.invariant (text-row _ _ _ _ _ c.before.before.before.before.is-kept.ensures c.before.before.before.if1.true c.before.is-formed.ensures ∙ c.if2.true))
+returns c = rw (← c.before.before.before.before.before.before.before.before.length.ensures.value) (any_found _ _ _ _ c.before.before.before.before.before.loop-test.true c.before.before.before.before.before.before.loop.invariant (text_row _ _ _ _ _ c.before.before.before.before.is-kept.ensures c.before.before.before.if1.true c.before.is-formed.ensures ∙ c.if2.true))
 
 add-i : tie.Need-overflow-add-i invariant-loop decreases-loop
 add-i c = search rules
@@ -47,10 +47,10 @@ loop-less : tie.Need-loop-smaller invariant-loop decreases-loop
 loop-less c = search rules
 
 loop-again : tie.Need-loop-preserved invariant-loop decreases-loop
-loop-again c = any-more _ _ _ _ c.before.before.loop-test.true c.before.before.before.loop.invariant (⊎_elim (λ w. text-row _ _ _ _ _ c.before.is-kept.ensures w.0.taken w.2.ensures ∙ w.3.left) (λ w. null-row _ _ _ _ c.before.is-kept.ensures w.left) c.if1.branch)
+loop-again c = any_more _ _ _ _ c.before.before.loop-test.true c.before.before.before.loop.invariant (⊎_elim (λ w. text_row _ _ _ _ _ c.before.is-kept.ensures w.0.taken w.2.ensures ∙ w.3.left) (λ w. null_row _ _ _ _ c.before.is-kept.ensures w.left) c.if1.branch)
 
 returns-2 : tie.Need-returns-2 invariant-loop decreases-loop
-returns-2 c = rw (← c.before.before.before.length.ensures.value) (any-done _ _ _ _ c.loop-test.false c.before.loop.invariant)
+returns-2 c = rw (← c.before.before.before.length.ensures.value) (any_done _ _ _ _ c.loop-test.false c.before.loop.invariant)
 
 pub rows-fault-spec : {M : Type 1} → statement M
 rows-fault-spec =

@@ -1,6 +1,6 @@
 -- What is read once of a node of text.
 -- By the lower numbers the offset or view of row 0 lies inside, so that nothing wraps.
-use Rattle.validate.proofs.TextRows.{rows_start, small-image}
+use Rattle.validate.proofs.TextRows.{rows_start, small_image}
 use native.Mathlib.Omega.{arith}
 use borrow.Author.Rules.{rules}
 use Rattle.validate.proofs.texts.texts_of.Statement.{statement}
@@ -19,10 +19,10 @@ offset-requires : tie.Need-offset-requires
 offset-requires c κs = search rules
 
 mul-t8 : tie.Need-overflow-mul-t8
-mul-t8 c = omega (arith, rw (← c.before.before.before.element-width.ensures, ← c.offset.ensures.value) at (rows_start c.before.before.before.before.before.requires), small-image c.before.before.before.before.before.requires)
+mul-t8 c = omega (arith, rw (← c.before.before.before.element-width.ensures, ← c.offset.ensures.value) at (rows_start c.before.before.before.before.before.requires), small_image c.before.before.before.before.before.requires)
 
 add-t9 : tie.Need-overflow-add-t9
-add-t9 c = omega (arith, rw (← c.before.before.before.element-width.ensures, ← c.offset.ensures.value, ← c.before.buffer-place.ensures.value) at (rows_start c.before.before.before.before.before.requires), small-image c.before.before.before.before.before.requires)
+add-t9 c = omega (arith, rw (← c.before.before.before.element-width.ensures, ← c.offset.ensures.value, ← c.before.buffer-place.ensures.value) at (rows_start c.before.before.before.before.before.requires), small_image c.before.before.before.before.before.requires)
 
 buffer-place-requires-2 : tie.Need-buffer-place-requires-2
 buffer-place-requires-2 c κs = search rules

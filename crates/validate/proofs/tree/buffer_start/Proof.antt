@@ -3,7 +3,7 @@
 use mathlib.Core.Path.{◌≡◌}
 use Rattle.image.specs.Record.{buffer_start}
 use Rattle.validate.specs.Walks.{Sum}
-use Rattle.validate.proofs.Parents.{buffers-none, buffers-more}
+use Rattle.validate.proofs.Parents.{buffers_none, buffers_more}
 use Prim.Native.Nat.{◌-◌, ◌≤◌}
 use native.Mathlib.Omega.{arith}
 use borrow.Author.Rules.{rules}
@@ -17,7 +17,7 @@ abbrev decreases-loop : tie.decreases-loop
 decreases-loop image node sum₀ k₀ sum k = node - k
 
 loop-holds : tie.Need-loop-init invariant-loop decreases-loop
-loop-holds c = (omega arith, buffers-none _)
+loop-holds c = (omega arith, buffers_none _)
 
 cast-loop : tie.Need-overflow-cast-loop invariant-loop decreases-loop
 cast-loop c = search rules
@@ -38,7 +38,7 @@ loop-less : tie.Need-loop-smaller invariant-loop decreases-loop
 loop-less c = search rules
 
 loop-again : tie.Need-loop-preserved invariant-loop decreases-loop
-loop-again c = (omega arith, buffers-more _ c.before.before.loop.invariant.1 c.buffer-count.ensures)
+loop-again c = (omega arith, buffers_more _ c.before.before.loop.invariant.1 c.buffer-count.ensures)
 
 returns : tie.Need-returns invariant-loop decreases-loop
 returns c = let e : c.before.loop.k ≡ c.before.before.before.args.node = omega arith in

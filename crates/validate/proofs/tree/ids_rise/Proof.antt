@@ -35,11 +35,11 @@ wide-requires c κs = search rules
 
 returns : tie.Need-returns invariant-loop decreases-loop
 unfolding ids_rise
-returns c = rw (← c.before.before.before.before.before.before.first-child.ensures.value, ← c.before.before.before.before.before.child-count.ensures.value) (rising_below _ _ _ _ _ _ _ _ _ c.before.before.before.loop-test.true c.before.before.before.before.loop.invariant (c.before.wide.ensures.value ∙ c.before.before.type-id.ensures.value) c.if1.true)
+returns c = rw (← c.before.before.before.before.before.before.first_child_lem.ensures.value, ← c.before.before.before.before.before.child-count.ensures.value) (rising_below _ _ _ _ _ _ _ _ _ c.before.before.before.loop-test.true c.before.before.before.before.loop.invariant (c.before.wide.ensures.value ∙ c.before.before.type-id.ensures.value) c.if1.true)
 
 returns-2 : tie.Need-returns-2 invariant-loop decreases-loop
 unfolding ids_rise
-returns-2 c = rw (← c.before.before.before.before.before.before.before.first-child.ensures.value, ← c.before.before.before.before.before.before.child-count.ensures.value) (rising_above _ _ _ _ _ _ _ _ _ c.before.before.before.before.loop-test.true c.before.before.before.before.before.loop.invariant (c.before.before.wide.ensures.value ∙ c.before.before.before.type-id.ensures.value) c.before.if1.false c.if2.true)
+returns-2 c = rw (← c.before.before.before.before.before.before.before.first_child_lem.ensures.value, ← c.before.before.before.before.before.before.child-count.ensures.value) (rising_above _ _ _ _ _ _ _ _ _ c.before.before.before.before.loop-test.true c.before.before.before.before.before.loop.invariant (c.before.before.wide.ensures.value ∙ c.before.before.before.type-id.ensures.value) c.before.if1.false c.if2.true)
 
 add-least : tie.Need-overflow-add-least invariant-loop decreases-loop
 add-least c = search rules
@@ -55,7 +55,7 @@ loop-again c = rising_more _ _ _ _ _ _ _ _ _ c.before.before.before.before.loop-
 
 returns-3 : tie.Need-returns-3 invariant-loop decreases-loop
 unfolding ids_rise
-returns-3 c = rw (← c.before.before.before.first-child.ensures.value, ← c.before.before.child-count.ensures.value) (rising_done _ _ _ _ _ _ _ _ c.loop-test.false c.before.loop.invariant)
+returns-3 c = rw (← c.before.before.before.first_child_lem.ensures.value, ← c.before.before.child-count.ensures.value) (rising_done _ _ _ _ _ _ _ _ c.loop-test.false c.before.loop.invariant)
 
 pub ids-rise-spec : {M : Type 1} → statement M
 ids-rise-spec =

@@ -20,14 +20,14 @@ code-requires-2 c κs = search rules
 
 returns-2 : tie.Need-returns-2
 unfolding map_entries
-returns-2 c = rw (← c.before.before.before.before.code.ensures.value, eq-eqb _ _ c.before.before.before.if1.false, ← c.before.before.first-child.ensures.value, ← c.before.code2.ensures.value, ne_eqb _ _ c.if2.true)
+returns-2 c = rw (← c.before.before.before.before.code.ensures.value, eq-eqb _ _ c.before.before.before.if1.false, ← c.before.before.first_child_lem.ensures.value, ← c.before.code2.ensures.value, ne_eqb _ _ c.if2.true)
 
 child-count-requires : tie.Need-child-count-requires
 child-count-requires c κs = search rules
 
 returns-3 : tie.Need-returns-3
 unfolding map_entries
-returns-3 c = rw (← c.before.before.before.before.before.code.ensures.value, eq-eqb _ _ c.before.before.before.before.if1.false, ← c.before.before.before.first-child.ensures.value, ← c.before.before.code2.ensures.value, eq-eqb _ _ c.before.if2.false, ← c.child-count.ensures.value)
+returns-3 c = rw (← c.before.before.before.before.before.code.ensures.value, eq-eqb _ _ c.before.before.before.before.if1.false, ← c.before.before.before.first_child_lem.ensures.value, ← c.before.before.code2.ensures.value, eq-eqb _ _ c.before.if2.false, ← c.child-count.ensures.value)
 
 pub map-broken-spec : {M : Type 1} → statement M
 map-broken-spec =

@@ -1,7 +1,7 @@
 -- The parent is the first node whose children end past the node.
 -- The loop keeps that the children of each node before `parent` end at the node or before.
 use Rattle.validate.specs.Walks.{Passed}
-use Rattle.validate.proofs.Parents.{passed-more}
+use Rattle.validate.proofs.Parents.{passed_more}
 use Prim.Native.Nat.{◌-◌}
 use native.Mathlib.Omega.{arith}
 use borrow.Author.Rules.{rules}
@@ -36,7 +36,7 @@ loop-less : tie.Need-loop-smaller invariant-loop decreases-loop
 loop-less c = search rules
 
 loop-again : tie.Need-loop-preserved invariant-loop decreases-loop
-loop-again c = passed-more _ c.before.before.before.loop.invariant c.before.before.loop-test.true c.before.if1.false c.child-count.ensures
+loop-again c = passed_more _ c.before.before.before.loop.invariant c.before.before.loop-test.true c.before.if1.false c.child-count.ensures
 
 returns-2 : tie.Need-returns-2 invariant-loop decreases-loop
 returns-2 c = record { known = c.before.loop.invariant; reached = λ h. absurd (omega (arith, c.loop-test.false)) }

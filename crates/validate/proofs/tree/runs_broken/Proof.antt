@@ -22,18 +22,18 @@ code-requires-2 c κs = search rules
 
 returns-2 : tie.Need-returns-2
 unfolding run_ends
-returns-2 c = rw (← c.before.before.before.before.code.ensures.value, eq-eqb _ _ c.before.before.before.if1.false, ← c.before.before.first-child.ensures.value, ← c.before.code2.ensures.value, lt-leb _ _ c.if2.true)
+returns-2 c = rw (← c.before.before.before.before.code.ensures.value, eq-eqb _ _ c.before.before.before.if1.false, ← c.before.before.first_child_lem.ensures.value, ← c.before.code2.ensures.value, lt-leb _ _ c.if2.true)
 
 returns-3 : tie.Need-returns-3
 unfolding run_ends
-returns-3 c = rw (← c.before.before.before.before.before.code.ensures.value, eq-eqb _ _ c.before.before.before.before.if1.false, ← c.before.before.before.first-child.ensures.value, ← c.before.before.code2.ensures.value, le-leb _ _ c.before.if2.false, lt-leb _ _ c.if3.true)
+returns-3 c = rw (← c.before.before.before.before.before.code.ensures.value, eq-eqb _ _ c.before.before.before.before.if1.false, ← c.before.before.before.first_child_lem.ensures.value, ← c.before.before.code2.ensures.value, le-leb _ _ c.before.if2.false, lt-leb _ _ c.if3.true)
 
 has-bitmap-requires : tie.Need-has-bitmap-requires
 has-bitmap-requires c κs = search rules
 
 returns-4 : tie.Need-returns-4
 unfolding run_ends
-returns-4 c = rw (← c.before.before.before.before.before.before.code.ensures.value, eq-eqb _ _ c.before.before.before.before.before.if1.false, ← c.before.before.before.before.first-child.ensures.value, ← c.before.before.before.code2.ensures.value, le-leb _ _ c.before.before.if2.false, le-leb _ _ c.before.if3.false, ← c.has-bitmap.ensures) (sym (not-not _))
+returns-4 c = rw (← c.before.before.before.before.before.before.code.ensures.value, eq-eqb _ _ c.before.before.before.before.before.if1.false, ← c.before.before.before.before.first_child_lem.ensures.value, ← c.before.before.before.code2.ensures.value, le-leb _ _ c.before.before.if2.false, le-leb _ _ c.before.if3.false, ← c.has-bitmap.ensures) (sym (not-not _))
 
 pub runs-broken-spec : {M : Type 1} → statement M
 runs-broken-spec =

@@ -3,9 +3,9 @@
 use mathlib.Core.Path.{◌≡◌}
 use Prim.Native.Nat.{◌-◌, ◌/◌, ◌^◌}
 use Rattle.values.specs.Pairs.{same_bit_of}
-use Rattle.values.proofs.Steps.{Passed, passed_none, passed-one}
-use Rattle.values.proofs.FirstUnequal.{unequal_here, unequal-end}
-use Rattle.values.proofs.WordBits.{whole-number, half_of, pair_same, pair_differs_lem}
+use Rattle.values.proofs.Steps.{Passed, passed_none, passed_one}
+use Rattle.values.proofs.FirstUnequal.{unequal_here, unequal_end}
+use Rattle.values.proofs.WordBits.{whole_number_lem, half_of, pair_same, pair_differs_lem}
 use native.Mathlib.Omega.{arith}
 use borrow.Author.Rules.{rules}
 use Rattle.values.proofs.bits.first_apart.Statement.{statement}
@@ -18,7 +18,7 @@ abbrev decreases-loop : tie.decreases-loop
 decreases-loop x y n left₀ right₀ bit₀ left right bit = n - bit
 
 loop-holds : tie.Need-loop-init invariant-loop decreases-loop
-loop-holds c = (passed_none _ _ _ _, whole-number _, whole-number _)
+loop-holds c = (passed_none _ _ _ _, whole_number_lem _, whole_number_lem _)
 
 returns : tie.Need-returns invariant-loop decreases-loop
 returns c = unequal_here _ _ _ _ _ c.before.before.loop.invariant.0 (pair_differs_lem _ _ _ c.before.before.loop.invariant.1 c.before.before.loop.invariant.2 c.if1.true)
@@ -30,10 +30,10 @@ loop-less : tie.Need-loop-smaller invariant-loop decreases-loop
 loop-less c = omega (arith, c.before.loop-test.true)
 
 loop-again : tie.Need-loop-preserved invariant-loop decreases-loop
-loop-again c = (passed-one _ _ _ _ _ c.before.loop-test.true c.before.before.loop.invariant.0 (pair_same _ _ _ c.before.before.loop.invariant.1 c.before.before.loop.invariant.2 c.if1.false), half_of _ _ c.before.before.loop.invariant.1, half_of _ _ c.before.before.loop.invariant.2)
+loop-again c = (passed_one _ _ _ _ _ c.before.loop-test.true c.before.before.loop.invariant.0 (pair_same _ _ _ c.before.before.loop.invariant.1 c.before.before.loop.invariant.2 c.if1.false), half_of _ _ c.before.before.loop.invariant.1, half_of _ _ c.before.before.loop.invariant.2)
 
 returns-2 : tie.Need-returns-2 invariant-loop decreases-loop
-returns-2 c = unequal-end _ _ _ _ _ c.before.loop.invariant.0 c.loop-test.false
+returns-2 c = unequal_end _ _ _ _ _ c.before.loop.invariant.0 c.loop-test.false
 
 pub first-apart-spec : {M : Type 1} → statement M
 first-apart-spec =

@@ -3,7 +3,7 @@
 use Prim.Native.Nat.{◌-◌}
 use Rattle.values.specs.Pairs.{same_bit}
 use Rattle.values.proofs.Steps.{Passed, passed_none}
-use Rattle.values.proofs.FirstUnequal.{unequal-front, unequal-passed, unequal-rest, unequal_most}
+use Rattle.values.proofs.FirstUnequal.{unequal_front, unequal_passed, unequal_rest, unequal_most}
 use Rattle.values.proofs.WordBits.{word_passed, word_found}
 use native.Mathlib.Omega.{arith}
 use borrow.Author.Rules.{rules}
@@ -47,7 +47,7 @@ first-unequal-inside-requires : tie.Need-first-unequal-inside-requires invariant
 first-unequal-inside-requires c κs = search rules
 
 returns : tie.Need-returns invariant-loop decreases-loop
-returns c = unequal-front _ _ _ _ _ (omega arith) c.before.first-unequal-inside.ensures c.if3.true
+returns c = unequal_front _ _ _ _ _ (omega arith) c.before.first-unequal-inside.ensures c.if3.true
 
 add-first-unequal-tail : tie.Need-overflow-add-first-unequal-tail invariant-loop decreases-loop
 add-first-unequal-tail c = search rules
@@ -65,7 +65,7 @@ add-result : tie.Need-overflow-add-result invariant-loop decreases-loop
 add-result c = omega (arith, unequal_most _ _ _ _ c.first-unequal-tail.ensures)
 
 returns-2 : tie.Need-returns-2 invariant-loop decreases-loop
-returns-2 c = unequal-rest _ _ _ _ _ (unequal-passed _ _ _ _ _ (omega arith) c.before.before.first-unequal-inside.ensures c.before.if3.false) c.first-unequal-tail.ensures
+returns-2 c = unequal_rest _ _ _ _ _ (unequal_passed _ _ _ _ _ (omega arith) c.before.before.first-unequal-inside.ensures c.before.if3.false) c.first-unequal-tail.ensures
 
 loop-holds : tie.Need-loop-init invariant-loop decreases-loop
 loop-holds c = passed_none _ _ _ _
@@ -119,7 +119,7 @@ add-result-3 : tie.Need-overflow-add-result-3 invariant-loop decreases-loop
 add-result-3 c = omega (arith, unequal_most _ _ _ _ c.first-unequal-tail2.ensures, c.before.before.loop.invariant.within)
 
 returns-4 : tie.Need-returns-4 invariant-loop decreases-loop
-returns-4 c = unequal-rest _ _ _ _ _ c.before.before.loop.invariant c.first-unequal-tail2.ensures
+returns-4 c = unequal_rest _ _ _ _ _ c.before.before.loop.invariant c.first-unequal-tail2.ensures
 
 pub first-unequal-bit-spec : {M : Type 1} → statement M
 first-unequal-bit-spec =

@@ -4,7 +4,7 @@ use mathlib.Core.Path.{◌≡◌}
 use Prim.Native.Nat.{◌+◌, ◌*◌, ◌-◌}
 use Rattle.values.specs.Pairs.{same_bit}
 use Rattle.values.proofs.Steps.{Passed, passed_none}
-use Rattle.values.proofs.FirstUnequal.{unequal-end, unequal_most}
+use Rattle.values.proofs.FirstUnequal.{unequal_end, unequal_most}
 use Rattle.values.proofs.WordBits.{word_passed, word_found}
 use native.Mathlib.Omega.{arith}
 use borrow.Author.Rules.{rules}
@@ -63,7 +63,7 @@ mul-result-2 : tie.Need-overflow-mul-result-2 invariant-loop decreases-loop
 mul-result-2 c = search rules
 
 returns-2 : tie.Need-returns-2 invariant-loop decreases-loop
-returns-2 c = unequal-end _ _ _ _ _ c.before.loop.invariant (omega (arith, c.loop-test.false))
+returns-2 c = unequal_end _ _ _ _ _ c.before.loop.invariant (omega (arith, c.loop-test.false))
 
 pub first-unequal-inside-spec : {M : Type 1} → statement M
 first-unequal-inside-spec =

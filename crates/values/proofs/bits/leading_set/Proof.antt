@@ -2,7 +2,7 @@
 -- The invariant: the bits passed are set.
 use Rattle.image.specs.Bytes.{bit_at}
 use Rattle.image.specs.Ranges.{every}
-use Rattle.values.proofs.Leads.{every-none}
+use Rattle.values.proofs.Leads.{every_none}
 use Rattle.values.proofs.WordBits.{word_stops, word_more, word_ends}
 use mathlib.Core.Path.{◌≡◌}
 use mathlib.Core.Bool.{true}
@@ -19,7 +19,7 @@ abbrev decreases-loop : tie.decreases-loop
 decreases-loop s place i n k₀ k = n - k
 
 loop-holds : tie.Need-loop-init invariant-loop decreases-loop
-loop-holds c = (omega arith, every-none _ _)
+loop-holds c = (omega arith, every_none _ _)
 
 sub-loop : tie.Need-overflow-sub-loop invariant-loop decreases-loop
 sub-loop c = c.loop.invariant.0

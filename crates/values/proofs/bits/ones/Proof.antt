@@ -2,8 +2,8 @@
 -- The loop keeps that the first r bits are set, and what is left of the number.
 use Rattle.values.specs.Pairs.{bit_of}
 use Rattle.image.specs.Ranges.{every}
-use Rattle.values.proofs.Leads.{every-none, every_more, leading_stops, leading_all}
-use Rattle.values.proofs.WordBits.{whole-number, half_of, bit_set, bit_unset}
+use Rattle.values.proofs.Leads.{every_none, every_more, leading_stops, leading_all}
+use Rattle.values.proofs.WordBits.{whole_number_lem, half_of, bit_set, bit_unset}
 use mathlib.Core.Path.{◌≡◌}
 use mathlib.Core.Bool.{true}
 use Prim.Native.Nat.{◌/◌, ◌^◌}
@@ -20,7 +20,7 @@ abbrev decreases-loop : tie.decreases-loop
 decreases-loop bits rest₀ r₀ rest r = 64 - r
 
 loop-holds : tie.Need-loop-init invariant-loop decreases-loop
-loop-holds c = (omega arith, whole-number _, every-none _ _)
+loop-holds c = (omega arith, whole_number_lem _, every_none _ _)
 
 returns : tie.Need-returns invariant-loop decreases-loop
 returns c = leading_stops _ _ _ _ c.before.loop-test.true c.before.before.loop.invariant.2 (bit_unset _ _ c.before.before.loop.invariant.1 c.if1.true)

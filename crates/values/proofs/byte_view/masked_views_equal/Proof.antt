@@ -8,11 +8,11 @@ use borrow.Author.Rules.{rules}
 use borrow.Author.Tests.{not-true, not-false}
 use Rattle.image.specs.Row.{view_row}
 use Rattle.values.specs.Pairs.{same_row, masked_row}
-use Rattle.values.proofs.Steps.{Left, left-none, left-more, left_fails, left-done, by_rows, row_test}
-use Rattle.accepted.proofs.Nodes.{side-small}
-use Rattle.values.proofs.MaskedRows.{masked_row_lem, null-rows}
-use Rattle.accepted.proofs.Views.{entries-read}
-use Rattle.values.proofs.Views.{view_place, first-view, next-view, view-small, row-views, row_are}
+use Rattle.values.proofs.Steps.{Left, left_none, left_more, left_fails, left_done, by_rows, row_test}
+use Rattle.accepted.proofs.Nodes.{side_small}
+use Rattle.values.proofs.MaskedRows.{masked_row_lem, null_rows}
+use Rattle.accepted.proofs.Views.{entries_read}
+use Rattle.values.proofs.Views.{view_place, first_view, next_view, view_small, row_views, row_are}
 use Rattle.values.proofs.byte_view.masked_views_equal.Statement.{statement}
 use Rattle.values.proofs.byte_view.masked_views_equal.Tie as tie
 
@@ -38,13 +38,13 @@ offset-requires : tie.Need-offset-requires invariant-loop decreases-loop
 offset-requires c κs = search rules
 
 add-x : tie.Need-overflow-add-x invariant-loop decreases-loop
-add-x c = omega (arith, side-small _ _ _ _ c.before.before.before.before.before.before.before.requires.left, c.before.buffer-place.ensures.small, c.offset.ensures.small)
+add-x c = omega (arith, side_small _ _ _ _ c.before.before.before.before.before.before.before.requires.left, c.before.buffer-place.ensures.small, c.offset.ensures.small)
 
 mul-x : tie.Need-overflow-mul-x invariant-loop decreases-loop
-mul-x c = omega (arith, side-small _ _ _ _ c.before.before.before.before.before.before.before.requires.left, c.before.buffer-place.ensures.small, c.offset.ensures.small)
+mul-x c = omega (arith, side_small _ _ _ _ c.before.before.before.before.before.before.before.requires.left, c.before.buffer-place.ensures.small, c.offset.ensures.small)
 
 add-x-2 : tie.Need-overflow-add-x-2 invariant-loop decreases-loop
-add-x-2 c = omega (arith, side-small _ _ _ _ c.before.before.before.before.before.before.before.requires.left, c.before.buffer-place.ensures.small, c.offset.ensures.small)
+add-x-2 c = omega (arith, side_small _ _ _ _ c.before.before.before.before.before.before.before.requires.left, c.before.buffer-place.ensures.small, c.offset.ensures.small)
 
 buffer-place-requires-2 : tie.Need-buffer-place-requires-2 invariant-loop decreases-loop
 buffer-place-requires-2 c κs = search rules
@@ -53,34 +53,34 @@ offset-requires-2 : tie.Need-offset-requires-2 invariant-loop decreases-loop
 offset-requires-2 c κs = search rules
 
 add-y : tie.Need-overflow-add-y invariant-loop decreases-loop
-add-y c = omega (arith, side-small _ _ _ _ c.before.before.before.before.before.before.before.before.before.requires.right, c.before.buffer-place2.ensures.small, c.offset2.ensures.small)
+add-y c = omega (arith, side_small _ _ _ _ c.before.before.before.before.before.before.before.before.before.requires.right, c.before.buffer-place2.ensures.small, c.offset2.ensures.small)
 
 mul-y : tie.Need-overflow-mul-y invariant-loop decreases-loop
-mul-y c = omega (arith, side-small _ _ _ _ c.before.before.before.before.before.before.before.before.before.requires.right, c.before.buffer-place2.ensures.small, c.offset2.ensures.small)
+mul-y c = omega (arith, side_small _ _ _ _ c.before.before.before.before.before.before.before.before.before.requires.right, c.before.buffer-place2.ensures.small, c.offset2.ensures.small)
 
 add-y-2 : tie.Need-overflow-add-y-2 invariant-loop decreases-loop
-add-y-2 c = omega (arith, side-small _ _ _ _ c.before.before.before.before.before.before.before.before.before.requires.right, c.before.buffer-place2.ensures.small, c.offset2.ensures.small)
+add-y-2 c = omega (arith, side_small _ _ _ _ c.before.before.before.before.before.before.before.before.before.requires.right, c.before.buffer-place2.ensures.small, c.offset2.ensures.small)
 
 loop-holds : tie.Need-loop-init invariant-loop decreases-loop
-loop-holds c = (first-view _ _ _ c.before.before.before.buffer-place.ensures c.before.before.offset.ensures, first-view _ _ _ c.before.buffer-place2.ensures c.offset2.ensures, left-none _ _ _ _)
+loop-holds c = (first_view _ _ _ c.before.before.before.buffer-place.ensures c.before.before.offset.ensures, first_view _ _ _ c.before.buffer-place2.ensures c.offset2.ensures, left_none _ _ _ _)
 
 add-is-kept : tie.Need-overflow-add-is-kept invariant-loop decreases-loop
-add-is-kept c = omega (arith, c.loop-test.true, side-small _ _ _ _ c.before.before.before.before.before.before.before.before.before.before.before.requires.left)
+add-is-kept c = omega (arith, c.loop-test.true, side_small _ _ _ _ c.before.before.before.before.before.before.before.before.before.before.before.requires.left)
 
 is-kept-requires : tie.Need-is-kept-requires invariant-loop decreases-loop
-is-kept-requires c κs = (c.before.before.before.before.before.before.before.before.mask-of.ensures, omega (arith, c.loop-test.true, side-small _ _ _ _ c.before.before.before.before.before.before.before.before.before.before.before.requires.left))
+is-kept-requires c κs = (c.before.before.before.before.before.before.before.before.mask-of.ensures, omega (arith, c.loop-test.true, side_small _ _ _ _ c.before.before.before.before.before.before.before.before.before.before.before.requires.left))
 
 view-equal-requires : tie.Need-view-equal-requires invariant-loop decreases-loop
-view-equal-requires c κs = ((row-views c.before.before.before.before.before.before.before.before.before.before.before.before.before.requires c.before.before.loop-test.true (sym c.before.is-kept.ensures ∙ c.if1.true) c.before.before.before.loop.invariant.0 c.before.before.before.loop.invariant.1).left, ((row-views c.before.before.before.before.before.before.before.before.before.before.before.before.before.requires c.before.before.loop-test.true (sym c.before.is-kept.ensures ∙ c.if1.true) c.before.before.before.loop.invariant.0 c.before.before.before.loop.invariant.1).right, (entries-read _ _ _ c.before.before.before.before.before.before.before.before.before.node-entry.ensures, entries-read _ _ _ c.before.before.before.before.before.before.before.before.node-entry2.ensures)))
+view-equal-requires c κs = ((row_views c.before.before.before.before.before.before.before.before.before.before.before.before.before.requires c.before.before.loop-test.true (sym c.before.is-kept.ensures ∙ c.if1.true) c.before.before.before.loop.invariant.0 c.before.before.before.loop.invariant.1).left, ((row_views c.before.before.before.before.before.before.before.before.before.before.before.before.before.requires c.before.before.loop-test.true (sym c.before.is-kept.ensures ∙ c.if1.true) c.before.before.before.loop.invariant.0 c.before.before.before.loop.invariant.1).right, (entries_read _ _ _ c.before.before.before.before.before.before.before.before.before.node-entry.ensures, entries_read _ _ _ c.before.before.before.before.before.before.before.before.node-entry2.ensures)))
 
 returns : tie.Need-returns invariant-loop decreases-loop
 returns c = left_fails _ _ _ _ _ c.before.before.before.before.loop-test.true c.before.before.before.before.before.loop.invariant.2 (row_are c.before.before.before.before.before.before.before.before.before.before.before.before.before.before.before.requires c.before.before.before.before.loop-test.true (sym c.before.before.before.is-kept.ensures ∙ c.before.before.if1.true) c.before.before.before.before.before.loop.invariant.0 c.before.before.before.before.before.loop.invariant.1 c.before.view-equal.ensures ∙ not-true _ c.if2.true) ∙ by_rows _ _ _ _ _
 
 add-x-3 : tie.Need-overflow-add-x-3 invariant-loop decreases-loop
-add-x-3 c = omega (arith, view-small c.before.before.before.before.before.before.before.before.before.before.before.before.before.requires.left c.before.before.loop-test.true c.before.before.before.before.before.before.before.buffer-place.ensures c.before.before.before.before.before.before.offset.ensures c.before.before.before.loop.invariant.0)
+add-x-3 c = omega (arith, view_small c.before.before.before.before.before.before.before.before.before.before.before.before.before.requires.left c.before.before.loop-test.true c.before.before.before.before.before.before.before.buffer-place.ensures c.before.before.before.before.before.before.offset.ensures c.before.before.before.loop.invariant.0)
 
 add-y-3 : tie.Need-overflow-add-y-3 invariant-loop decreases-loop
-add-y-3 c = omega (arith, view-small c.before.before.before.before.before.before.before.before.before.before.before.before.before.requires.right c.before.before.loop-test.true c.before.before.before.before.before.buffer-place2.ensures c.before.before.before.before.offset2.ensures c.before.before.before.loop.invariant.1)
+add-y-3 c = omega (arith, view_small c.before.before.before.before.before.before.before.before.before.before.before.before.before.requires.right c.before.before.loop-test.true c.before.before.before.before.before.buffer-place2.ensures c.before.before.before.before.offset2.ensures c.before.before.before.loop.invariant.1)
 
 add-k : tie.Need-overflow-add-k invariant-loop decreases-loop
 add-k c = search rules
@@ -89,10 +89,10 @@ loop-less : tie.Need-loop-smaller invariant-loop decreases-loop
 loop-less c = search rules
 
 loop-again : tie.Need-loop-preserved invariant-loop decreases-loop
-loop-again c = (next-view _ _ _ _ c.before.before.before.loop.invariant.0, next-view _ _ _ _ c.before.before.before.loop.invariant.1, left-more _ _ _ _ _ c.before.before.loop-test.true c.before.before.before.loop.invariant.2 (⊎_elim (λ w. row_are c.before.before.before.before.before.before.before.before.before.before.before.before.before.requires c.before.before.loop-test.true (sym c.before.is-kept.ensures ∙ w.0.taken) c.before.before.before.loop.invariant.0 c.before.before.before.loop.invariant.1 w.1.ensures ∙ not-false _ w.2.left) (λ w. row_test _ _ _ _ (null-rows (masked_row_lem c.before.before.before.before.before.before.before.before.before.before.before.before.before.requires c.before.before.loop-test.true) view_row (sym c.before.is-kept.ensures ∙ w.left))) c.if1.branch))
+loop-again c = (next_view _ _ _ _ c.before.before.before.loop.invariant.0, next_view _ _ _ _ c.before.before.before.loop.invariant.1, left_more _ _ _ _ _ c.before.before.loop-test.true c.before.before.before.loop.invariant.2 (⊎_elim (λ w. row_are c.before.before.before.before.before.before.before.before.before.before.before.before.before.requires c.before.before.loop-test.true (sym c.before.is-kept.ensures ∙ w.0.taken) c.before.before.before.loop.invariant.0 c.before.before.before.loop.invariant.1 w.1.ensures ∙ not-false _ w.2.left) (λ w. row_test _ _ _ _ (null_rows (masked_row_lem c.before.before.before.before.before.before.before.before.before.before.before.before.before.requires c.before.before.loop-test.true) view_row (sym c.before.is-kept.ensures ∙ w.left))) c.if1.branch))
 
 returns-2 : tie.Need-returns-2 invariant-loop decreases-loop
-returns-2 c = left-done _ _ _ _ _ c.loop-test.false c.before.loop.invariant.2 ∙ by_rows _ _ _ _ _
+returns-2 c = left_done _ _ _ _ _ c.loop-test.false c.before.loop.invariant.2 ∙ by_rows _ _ _ _ _
 
 pub masked-views-equal-spec : {M : Type 1} → statement M
 masked-views-equal-spec =

@@ -1,7 +1,7 @@
 -- `values::primitive::chunk_equal` meets its contract.
 -- Where all bytes are the same the rows are; without a bitmap only then.
 use Rattle.values.proofs.MaskedRows.{whole_block}
-use Rattle.values.proofs.ValidElements.{whole-rows}
+use Rattle.values.proofs.ValidElements.{whole_rows}
 use Rattle.image.specs.Row.{fixed_row}
 use borrow.Author.Tests.{not-true, not-false}
 use mathlib.Core.Path.{sym, ◌∙◌}
@@ -19,7 +19,7 @@ has-bitmap-requires : tie.Need-has-bitmap-requires
 has-bitmap-requires c κs = search rules
 
 returns-2 : tie.Need-returns-2
-returns-2 c = sym (sym (whole-rows c.before.before.before.before.before.before.requires (sym c.before.has-bitmap.ensures ∙ not-true _ c.if2.true)) ∙ sym c.before.before.before.block-equal.ensures ∙ c.before.before.if1.false)
+returns-2 c = sym (sym (whole_rows c.before.before.before.before.before.before.requires (sym c.before.has-bitmap.ensures ∙ not-true _ c.if2.true)) ∙ sym c.before.before.before.block-equal.ensures ∙ c.before.before.if1.false)
 
 words-equal-requires : tie.Need-words-equal-requires
 words-equal-requires c κs = (sym c.before.has-bitmap.ensures ∙ not-false _ c.if2.false, c.before.before.before.before.before.before.requires)

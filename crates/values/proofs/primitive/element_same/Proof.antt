@@ -1,7 +1,7 @@
 -- `element_same` compares the bytes of one element.
 -- Numbers are equal where all their bytes are; the first and the last number cover the element.
 use Rattle.values.proofs.ValidElements.{two_ends, one_byte}
-use Rattle.values.proofs.Octets.{numbers-same}
+use Rattle.values.proofs.Octets.{numbers_same}
 use Rattle.values.proofs.Steps.{by_bytes}
 use mathlib.Core.Path.{sym, ◌∙◌}
 use native.Mathlib.Omega.{arith}
@@ -31,7 +31,7 @@ pair-requires-2 : tie.Need-pair-requires-2
 pair-requires-2 c κs = search rules
 
 returns-3 : tie.Need-returns-3
-returns-3 c = rw c.before.before.if3.true (numbers-same _ _ (λ k. omega (arith, c.before.before.before.before.before.before.shared-slice-known.given k)) (λ k. omega (arith, c.before.before.before.before.before.shared-slice-known2.given k)) 2 _ _ c.before.pair.ensures c.pair2.ensures)
+returns-3 c = rw c.before.before.if3.true (numbers_same _ _ (λ k. omega (arith, c.before.before.before.before.before.before.shared-slice-known.given k)) (λ k. omega (arith, c.before.before.before.before.before.shared-slice-known2.given k)) 2 _ _ c.before.pair.ensures c.pair2.ensures)
 
 equal-len-requires : tie.Need-equal-len-requires
 equal-len-requires c κs = search rules

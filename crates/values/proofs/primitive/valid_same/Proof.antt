@@ -1,6 +1,6 @@
 -- `valid_same` compares the elements whose bit is set.
 -- The loop keeps that the answer so far is that of the first h pairs.
-use Rattle.values.proofs.ValidElements.{element-room, more_pairs, valid_test}
+use Rattle.values.proofs.ValidElements.{element_room, more_pairs, valid_test}
 use Rattle.values.proofs.Steps.{all_none}
 use Rattle.values.specs.Pairs.{all, valid_same}
 use mathlib.Core.Path.{◌≡◌}
@@ -22,19 +22,19 @@ shr-null : tie.Need-overflow-shr-null invariant-loop decreases-loop
 shr-null c = omega (arith, c.loop-test.true, c.before.before.before.before.requires.0)
 
 mul-element-same : tie.Need-overflow-mul-element-same invariant-loop decreases-loop
-mul-element-same c = omega (arith, element-room _ _ _ _ _ c.loop-test.true c.before.before.before.before.requires.1, element-room _ _ _ _ _ c.loop-test.true c.before.before.before.before.requires.2, c.before.before.before.before.ranges)
+mul-element-same c = omega (arith, element_room _ _ _ _ _ c.loop-test.true c.before.before.before.before.requires.1, element_room _ _ _ _ _ c.loop-test.true c.before.before.before.before.requires.2, c.before.before.before.before.ranges)
 
 add-element-same : tie.Need-overflow-add-element-same invariant-loop decreases-loop
-add-element-same c = omega (arith, element-room _ _ _ _ _ c.loop-test.true c.before.before.before.before.requires.1, element-room _ _ _ _ _ c.loop-test.true c.before.before.before.before.requires.2, c.before.before.before.before.ranges)
+add-element-same c = omega (arith, element_room _ _ _ _ _ c.loop-test.true c.before.before.before.before.requires.1, element_room _ _ _ _ _ c.loop-test.true c.before.before.before.before.requires.2, c.before.before.before.before.ranges)
 
 mul-element-same-2 : tie.Need-overflow-mul-element-same-2 invariant-loop decreases-loop
-mul-element-same-2 c = omega (arith, element-room _ _ _ _ _ c.loop-test.true c.before.before.before.before.requires.1, element-room _ _ _ _ _ c.loop-test.true c.before.before.before.before.requires.2, c.before.before.before.before.ranges)
+mul-element-same-2 c = omega (arith, element_room _ _ _ _ _ c.loop-test.true c.before.before.before.before.requires.1, element_room _ _ _ _ _ c.loop-test.true c.before.before.before.before.requires.2, c.before.before.before.before.ranges)
 
 add-element-same-2 : tie.Need-overflow-add-element-same-2 invariant-loop decreases-loop
-add-element-same-2 c = omega (arith, element-room _ _ _ _ _ c.loop-test.true c.before.before.before.before.requires.1, element-room _ _ _ _ _ c.loop-test.true c.before.before.before.before.requires.2, c.before.before.before.before.ranges)
+add-element-same-2 c = omega (arith, element_room _ _ _ _ _ c.loop-test.true c.before.before.before.before.requires.1, element_room _ _ _ _ _ c.loop-test.true c.before.before.before.before.requires.2, c.before.before.before.before.ranges)
 
 element-same-requires : tie.Need-element-same-requires invariant-loop decreases-loop
-element-same-requires c κs = (element-room _ _ _ _ _ c.loop-test.true c.before.before.before.before.requires.1, element-room _ _ _ _ _ c.loop-test.true c.before.before.before.before.requires.2)
+element-same-requires c κs = (element_room _ _ _ _ _ c.loop-test.true c.before.before.before.before.requires.1, element_room _ _ _ _ _ c.loop-test.true c.before.before.before.before.requires.2)
 
 add-h : tie.Need-overflow-add-h invariant-loop decreases-loop
 add-h c = omega (arith, c.before.loop-test.true, c.before.before.before.before.before.requires.0)

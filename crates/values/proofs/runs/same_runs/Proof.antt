@@ -1,6 +1,6 @@
 -- `values::runs::same_runs` meets its contract.
 -- Both sides have as many runs from the first to the last element, and the ends of those before the last are the same.
-use Rattle.values.proofs.SameRuns.{element-small, left_order, left-range, left-few, right_order, right-range, together}
+use Rattle.values.proofs.SameRuns.{element_small, left_order, left_range, left_few, right_order, right_range, together}
 use borrow.Author.Tests.{not-false}
 use native.Mathlib.Omega.{arith}
 use borrow.Author.Rules.{rules}
@@ -14,7 +14,7 @@ sub-run-of : tie.Need-overflow-sub-run-of
 sub-run-of c = search rules
 
 add-run-of : tie.Need-overflow-add-run-of
-add-run-of c = omega (arith, element-small c.before.before.before.requires.left)
+add-run-of c = omega (arith, element_small c.before.before.before.requires.left)
 
 run-of-requires : tie.Need-run-of-requires
 run-of-requires c κs = search rules
@@ -26,7 +26,7 @@ sub-run-of-2 : tie.Need-overflow-sub-run-of-2
 sub-run-of-2 c = search rules
 
 add-run-of-2 : tie.Need-overflow-add-run-of-2
-add-run-of-2 c = omega (arith, element-small c.before.before.before.before.requires.right)
+add-run-of-2 c = omega (arith, element_small c.before.before.before.before.requires.right)
 
 run-of-requires-2 : tie.Need-run-of-requires-2
 run-of-requires-2 c κs = search rules
@@ -38,13 +38,13 @@ returns-2 : tie.Need-returns-2
 returns-2 c = λ lt. absurd (omega arith)
 
 ends-same-requires : tie.Need-ends-same-requires
-ends-same-requires c κs = (left-range c.before.before.before.before.before.before.requires c.before.before.run_of.ensures, right-range c.before.before.before.before.before.before.requires c.before.before.run_of.ensures c.before.run-of2.ensures c.if2.false)
+ends-same-requires c κs = (left_range c.before.before.before.before.before.before.requires c.before.before.run_of.ensures, right_range c.before.before.before.before.before.before.requires c.before.before.run_of.ensures c.before.run-of2.ensures c.if2.false)
 
 returns-3 : tie.Need-returns-3
 returns-3 c = λ lt. absurd (omega arith)
 
 add-result : tie.Need-overflow-add-result
-add-result c = omega (arith, left-few c.before.before.before.before.before.before.before.before.requires c.before.before.before.before.run_of.ensures)
+add-result c = omega (arith, left_few c.before.before.before.before.before.before.before.before.requires c.before.before.before.before.run_of.ensures)
 
 returns-4 : tie.Need-returns-4
 returns-4 c = λ lt. together c.before.before.before.before.before.before.before.before.requires c.before.before.before.before.run_of.ensures c.before.before.before.run-of2.ensures c.before.before.if2.false c.before.before.before.before.before.if1.false (c.before.ends_same.ensures (not-false _ c.if3.false))

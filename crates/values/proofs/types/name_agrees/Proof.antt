@@ -21,7 +21,7 @@ name-is-requires c κs = omega (arith, c.before.name-place.ensures.small)
 
 returns-2 : tie.Need-returns-2
 unfolding name_of
-returns-2 c = rw (not-false c.before.before.before.before.before.before.args.counts c.before.before.before.if1.false, ← c.before.before.name-place.ensures.value, ← c.before.name-length.ensures.value) c.name-is.ensures
+returns-2 c = rw (not-false c.before.before.before.before.before.before.args.counts c.before.before.before.if1.false, ← c.before.before.name-place.ensures.value, ← c.before.name_length_lem.ensures.value) c.name-is.ensures
 
 pub name-agrees-spec : {M : Type 1} → statement M
 name-agrees-spec =

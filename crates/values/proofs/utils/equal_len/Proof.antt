@@ -3,7 +3,7 @@
 use mathlib.Core.Path.{sym, ◌∙◌}
 use borrow.Author.Tests.{not-true, not-false}
 use Rattle.values.specs.Pairs.{same_byte}
-use Rattle.values.proofs.Steps.{Left, left-none, left-rest, left_jump, jump_fails, by_bytes}
+use Rattle.values.proofs.Steps.{Left, left_none, left_rest, left_jump, jump_fails, by_bytes}
 use Prim.Native.Nat.{◌-◌}
 use native.Mathlib.Omega.{arith}
 use Rattle.values.proofs.utils.equal_len.Statement.{statement}
@@ -16,7 +16,7 @@ abbrev decreases-loop : tie.decreases-loop
 decreases-loop a b at bt n i₀ i = n - i
 
 loop-holds : tie.Need-loop-init invariant-loop decreases-loop
-loop-holds c = left-none _ _ _ _
+loop-holds c = left_none _ _ _ _
 
 sub-loop : tie.Need-overflow-sub-loop invariant-loop decreases-loop
 sub-loop c = omega (arith, c.loop.invariant.within)
@@ -55,7 +55,7 @@ rest-equal-requires : tie.Need-rest-equal-requires invariant-loop decreases-loop
 rest-equal-requires c κs = omega (arith, c.before.loop.invariant.within)
 
 returns-2 : tie.Need-returns-2 invariant-loop decreases-loop
-returns-2 c = left-rest _ _ _ _ _ c.before.before.loop.invariant (c.rest-equal.ensures ∙ sym (by_bytes _ _ _ _ _)) ∙ by_bytes _ _ _ _ _
+returns-2 c = left_rest _ _ _ _ _ c.before.before.loop.invariant (c.rest-equal.ensures ∙ sym (by_bytes _ _ _ _ _)) ∙ by_bytes _ _ _ _ _
 
 pub equal-len-spec : {M : Type 1} → statement M
 equal-len-spec =

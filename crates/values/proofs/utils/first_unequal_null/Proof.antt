@@ -1,7 +1,7 @@
 -- The first pair of rows of which one alone is null: by their bits, or where one side has no bitmap by the other's.
 -- The laws of Masks.
 use borrow.Author.Tests.{not-true, not-false}
-use Rattle.values.proofs.Masks.{masks-none, masks-left, masks-right, masks_both}
+use Rattle.values.proofs.Masks.{masks_none, masks_left, masks_right, masks_both}
 use borrow.Author.Rules.{rules}
 use Rattle.values.proofs.utils.first_unequal_null.Statement.{statement}
 use Rattle.values.proofs.utils.first_unequal_null.Tie as tie
@@ -13,7 +13,7 @@ has-bitmap-requires-2 : tie.Need-has-bitmap-requires-2
 has-bitmap-requires-2 c κs = search rules
 
 returns : tie.Need-returns
-returns c = masks-none _ _ _ _ _ _ _ c.before.before.before.has-bitmap.ensures c.before.has-bitmap2.ensures (not-true _ c.before.before.if1.true) (not-true _ c.if2.true)
+returns c = masks_none _ _ _ _ _ _ _ c.before.before.before.has-bitmap.ensures c.before.has-bitmap2.ensures (not-true _ c.before.before.if1.true) (not-true _ c.if2.true)
 
 bitmap-place-requires : tie.Need-bitmap-place-requires
 bitmap-place-requires c κs = search rules
@@ -28,7 +28,7 @@ leading-set-requires : tie.Need-leading-set-requires
 leading-set-requires c κs = search rules
 
 returns-2 : tie.Need-returns-2
-returns-2 c = masks-right _ _ _ _ _ _ _ c.before.before.before.before.before.before.has-bitmap.ensures c.before.before.before.before.has-bitmap2.ensures (not-true _ c.before.before.before.before.before.if1.true) (not-false _ c.before.before.before.if2.false) c.before.before.bitmap-place.ensures c.before.first_bit.ensures c.leading-set.ensures
+returns-2 c = masks_right _ _ _ _ _ _ _ c.before.before.before.before.before.before.has-bitmap.ensures c.before.before.before.before.has-bitmap2.ensures (not-true _ c.before.before.before.before.before.if1.true) (not-false _ c.before.before.before.if2.false) c.before.before.bitmap-place.ensures c.before.first_bit.ensures c.leading-set.ensures
 
 has-bitmap-requires-3 : tie.Need-has-bitmap-requires-3
 has-bitmap-requires-3 c κs = search rules
@@ -46,7 +46,7 @@ leading-set-requires-2 : tie.Need-leading-set-requires-2
 leading-set-requires-2 c κs = search rules
 
 returns-3 : tie.Need-returns-3
-returns-3 c = masks-left _ _ _ _ _ _ _ c.before.before.before.before.before.before.has-bitmap.ensures c.before.before.before.before.has-bitmap3.ensures (not-false _ c.before.before.before.before.before.if1.false) (not-true _ c.before.before.before.if3.true) c.before.before.bitmap-place2.ensures c.before.first-bit2.ensures c.leading-set2.ensures
+returns-3 c = masks_left _ _ _ _ _ _ _ c.before.before.before.before.before.before.has-bitmap.ensures c.before.before.before.before.has-bitmap3.ensures (not-false _ c.before.before.before.before.before.if1.false) (not-true _ c.before.before.before.if3.true) c.before.before.bitmap-place2.ensures c.before.first-bit2.ensures c.leading-set2.ensures
 
 bitmap-place-requires-3 : tie.Need-bitmap-place-requires-3
 bitmap-place-requires-3 c κs = search rules

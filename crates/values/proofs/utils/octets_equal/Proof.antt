@@ -3,7 +3,7 @@
 use mathlib.Core.Path.{sym, ◌∙◌}
 use borrow.Author.Tests.{not-true, not-false}
 use Rattle.values.specs.Pairs.{same_byte}
-use Rattle.values.proofs.Steps.{Passed, passed_none, passed-more, passed_fails, passed-tail, by_bytes}
+use Rattle.values.proofs.Steps.{Passed, passed_none, passed_more, passed_fails, passed_tail, by_bytes}
 use Prim.Native.Nat.{◌-◌}
 use native.Mathlib.Omega.{arith}
 use borrow.Author.Rules.{rules}
@@ -41,7 +41,7 @@ loop-less : tie.Need-loop-smaller invariant-loop decreases-loop
 loop-less c = omega (arith, c.before.before.before.loop.invariant.within)
 
 loop-again : tie.Need-loop-preserved invariant-loop decreases-loop
-loop-again c = passed-more _ _ _ _ _ 8 c.before.before.loop-test.true c.before.before.before.loop.invariant (sym c.before.octets-same.ensures ∙ not-false _ c.if1.false)
+loop-again c = passed_more _ _ _ _ _ 8 c.before.before.loop-test.true c.before.before.before.loop.invariant (sym c.before.octets-same.ensures ∙ not-false _ c.if1.false)
 
 sub-octets-same : tie.Need-overflow-sub-octets-same invariant-loop decreases-loop
 sub-octets-same c = search rules
@@ -59,7 +59,7 @@ octets-same-requires-2 : tie.Need-octets-same-requires-2 invariant-loop decrease
 octets-same-requires-2 c κs = search rules
 
 returns-2 : tie.Need-returns-2 invariant-loop decreases-loop
-returns-2 c = c.octets-same2.ensures ∙ passed-tail _ _ _ _ _ 8 c.before.before.before.before.before.requires.0 (omega (arith, c.before.loop-test.false)) c.before.before.loop.invariant ∙ by_bytes _ _ _ _ _
+returns-2 c = c.octets-same2.ensures ∙ passed_tail _ _ _ _ _ 8 c.before.before.before.before.before.requires.0 (omega (arith, c.before.loop-test.false)) c.before.before.loop.invariant ∙ by_bytes _ _ _ _ _
 
 pub octets-equal-spec : {M : Type 1} → statement M
 octets-equal-spec =

@@ -3,7 +3,7 @@
 use mathlib.Core.Path.{sym, ◌∙◌}
 use borrow.Author.Tests.{not-true, not-false}
 use Rattle.values.specs.Pairs.{same_byte}
-use Rattle.values.proofs.Steps.{Left, left-none, left-more, left_fails, left-done, front_fails, passed-tail, by_bytes, same_byte_lem, other_byte}
+use Rattle.values.proofs.Steps.{Left, left_none, left_more, left_fails, left_done, front_fails, passed_tail, by_bytes, same_byte_lem, other_byte}
 use Prim.Native.Nat.{◌-◌}
 use native.Mathlib.Omega.{arith}
 use borrow.Author.Rules.{rules}
@@ -38,10 +38,10 @@ quads-same-requires-2 : tie.Need-quads-same-requires-2 invariant-loop decreases-
 quads-same-requires-2 c κs = search rules
 
 returns-3 : tie.Need-returns-3 invariant-loop decreases-loop
-returns-3 c = c.quads-same2.ensures ∙ passed-tail _ _ _ _ 4 4 c.before.before.before.if2.true (omega arith) (record { within = c.before.before.before.if2.true; passes = sym c.before.before.quads-same.ensures ∙ not-false _ c.before.if3.false }) ∙ by_bytes _ _ _ _ _
+returns-3 c = c.quads-same2.ensures ∙ passed_tail _ _ _ _ 4 4 c.before.before.before.if2.true (omega arith) (record { within = c.before.before.before.if2.true; passes = sym c.before.before.quads-same.ensures ∙ not-false _ c.before.if3.false }) ∙ by_bytes _ _ _ _ _
 
 loop-holds : tie.Need-loop-init invariant-loop decreases-loop
-loop-holds c = left-none _ _ _ _
+loop-holds c = left_none _ _ _ _
 
 add-if4 : tie.Need-overflow-add-if4 invariant-loop decreases-loop
 add-if4 c = search rules
@@ -65,10 +65,10 @@ loop-less : tie.Need-loop-smaller invariant-loop decreases-loop
 loop-less c = search rules
 
 loop-again : tie.Need-loop-preserved invariant-loop decreases-loop
-loop-again c = left-more _ _ _ _ _ c.before.before.before.loop-test.true c.before.before.before.before.loop.invariant (same_byte_lem _ _ _ _ c.if4.false)
+loop-again c = left_more _ _ _ _ _ c.before.before.before.loop-test.true c.before.before.before.before.loop.invariant (same_byte_lem _ _ _ _ c.if4.false)
 
 returns-5 : tie.Need-returns-5 invariant-loop decreases-loop
-returns-5 c = left-done _ _ _ _ _ c.loop-test.false c.before.loop.invariant ∙ by_bytes _ _ _ _ _
+returns-5 c = left_done _ _ _ _ _ c.loop-test.false c.before.loop.invariant ∙ by_bytes _ _ _ _ _
 
 pub rest-equal-spec : {M : Type 1} → statement M
 rest-equal-spec =

@@ -1,6 +1,6 @@
 -- `scan_by_layout` reads a value by the layout of its node.
 -- Each arm is a law of `Values`.
-use Rattle.parse.proofs.Values.{node-few, layout_is, layout-told, null-value, boolean-value, bytes-value, text-value, list-value, struct-value, other_value}
+use Rattle.parse.proofs.Values.{node_few, layout_is, layout_told, null_value, boolean_value, bytes_value_lem, text_value_lem, list_value_lem, struct_value, other_value}
 use Prim.Native.Nat.{ℕ}
 use native.Mathlib.Omega.{arith}
 use borrow.Author.Rules.{rules}
@@ -47,13 +47,13 @@ enum-told-4 : (t : ℕ) → lts.Need-enum-told-4 (calls t) (scan-by-layout-at t)
 enum-told-4 t c = search rules
 
 scan-text-requires : (t : ℕ) → lts.Need-scan-text-requires (calls t) (scan-by-layout-at t) scan-by-layout.Post
-scan-text-requires t c κs = (c.before.before.before.before.before.before.before.before.requires.1.1, node-few c.before.before.before.before.before.before.before.before.requires.1.0)
+scan-text-requires t c κs = (c.before.before.before.before.before.before.before.before.requires.1.1, node_few c.before.before.before.before.before.before.before.before.requires.1.0)
 
 enum-told-5 : (t : ℕ) → lts.Need-enum-told-5 (calls t) (scan-by-layout-at t) scan-by-layout.Post
 enum-told-5 t c = search rules
 
 scan-list-requires : (t : ℕ) → lts.Need-scan-list-requires (calls t) (scan-by-layout-at t) scan-by-layout.Post
-scan-list-requires t c κs = (omega (arith, c.before.before.before.before.before.before.before.before.requires.0), ((c.before.before.before.before.before.before.before.before.requires.1.0, c.before.before.before.before.before.before.before.before.requires.1.1), (layout-told c.before.before.before.before.code.ensures c.before.before.before.layout.ensures c.before.enum-told5.given.1)))
+scan-list-requires t c κs = (omega (arith, c.before.before.before.before.before.before.before.before.requires.0), ((c.before.before.before.before.before.before.before.before.requires.1.0, c.before.before.before.before.before.before.before.before.requires.1.1), (layout_told c.before.before.before.before.code.ensures c.before.before.before.layout.ensures c.before.enum-told5.given.1)))
 
 enum-told-6 : (t : ℕ) → lts.Need-enum-told-6 (calls t) (scan-by-layout-at t) scan-by-layout.Post
 enum-told-6 t c = search rules
@@ -62,31 +62,31 @@ scan-struct-requires : (t : ℕ) → lts.Need-scan-struct-requires (calls t) (sc
 scan-struct-requires t c κs = (omega (arith, c.before.before.before.before.before.before.before.before.requires.0), (c.before.before.before.before.before.before.before.before.requires.1.0, c.before.before.before.before.before.before.before.before.requires.1.1))
 
 returns : (t : ℕ) → lts.Need-returns (calls t) (scan-by-layout-at t) scan-by-layout.Post
-returns t c = null-value _ _ _ _ _ _ (layout-told c.before.before.before.code.ensures c.before.before.layout.ensures c.enum_told.given.1) c.before.before.before.before.before.before.before.requires.1.1.inside
+returns t c = null_value _ _ _ _ _ _ (layout_told c.before.before.before.code.ensures c.before.before.layout.ensures c.enum_told.given.1) c.before.before.before.before.before.before.before.requires.1.1.inside
 
 returns-2 : (t : ℕ) → lts.Need-returns-2 (calls t) (scan-by-layout-at t) scan-by-layout.Post
-returns-2 t c = boolean-value _ _ _ _ _ _ (layout-told c.before.before.before.before.code.ensures c.before.before.before.layout.ensures c.before.enum-told2.given.1) c.scan-boolean.ensures
+returns-2 t c = boolean_value _ _ _ _ _ _ (layout_told c.before.before.before.before.code.ensures c.before.before.before.layout.ensures c.before.enum-told2.given.1) c.scan-boolean.ensures
 
 returns-3 : (t : ℕ) → lts.Need-returns-3 (calls t) (scan-by-layout-at t) scan-by-layout.Post
-returns-3 t c = bytes-value _ _ _ _ _ _ _ (layout-told c.before.before.before.before.before.code.ensures c.before.before.before.before.layout.ensures c.before.before.enum-told3.given.1) c.before.element-width.ensures c.scan-bytes.ensures
+returns-3 t c = bytes_value_lem _ _ _ _ _ _ _ (layout_told c.before.before.before.before.before.code.ensures c.before.before.before.before.layout.ensures c.before.before.enum-told3.given.1) c.before.element-width.ensures c.scan-bytes.ensures
 
 same_length : (t : ℕ) → lts.Need-same-length (calls t) (scan-by-layout-at t) scan-by-layout.Post
 same_length t c = c.before.before.scan-text.ensures.sized
 
 returns-4 : (t : ℕ) → lts.Need-returns-4 (calls t) (scan-by-layout-at t) scan-by-layout.Post
-returns-4 t c = text-value _ _ _ _ _ c.before.before.before.before.before.before.before.code.ensures (layout-told c.before.before.before.before.before.before.before.code.ensures c.before.before.before.before.before.before.layout.ensures c.before.before.before.before.enum-told4.given.1) c.before.before.scan-text.ensures
+returns-4 t c = text_value_lem _ _ _ _ _ c.before.before.before.before.before.before.before.code.ensures (layout_told c.before.before.before.before.before.before.before.code.ensures c.before.before.before.before.before.before.layout.ensures c.before.before.before.before.enum-told4.given.1) c.before.before.scan-text.ensures
 
 same-length-2 : (t : ℕ) → lts.Need-same-length-2 (calls t) (scan-by-layout-at t) scan-by-layout.Post
 same-length-2 t c = c.before.before.scan-list.ensures.sized
 
 returns-5 : (t : ℕ) → lts.Need-returns-5 (calls t) (scan-by-layout-at t) scan-by-layout.Post
-returns-5 t c = list-value _ _ _ _ _ (layout-told c.before.before.before.before.before.before.before.code.ensures c.before.before.before.before.before.before.layout.ensures c.before.before.before.before.enum-told5.given.1) c.before.before.scan-list.ensures
+returns-5 t c = list_value_lem _ _ _ _ _ (layout_told c.before.before.before.before.before.before.before.code.ensures c.before.before.before.before.before.before.layout.ensures c.before.before.before.before.enum-told5.given.1) c.before.before.scan-list.ensures
 
 same-length-3 : (t : ℕ) → lts.Need-same-length-3 (calls t) (scan-by-layout-at t) scan-by-layout.Post
 same-length-3 t c = c.before.before.scan-struct.ensures.sized
 
 returns-6 : (t : ℕ) → lts.Need-returns-6 (calls t) (scan-by-layout-at t) scan-by-layout.Post
-returns-6 t c = struct-value _ _ _ _ _ (layout-told c.before.before.before.before.before.before.before.code.ensures c.before.before.before.before.before.before.layout.ensures c.before.before.before.before.enum-told6.given.1) c.before.before.scan-struct.ensures
+returns-6 t c = struct_value _ _ _ _ _ (layout_told c.before.before.before.before.before.before.before.code.ensures c.before.before.before.before.before.before.layout.ensures c.before.before.before.before.enum-told6.given.1) c.before.before.scan-struct.ensures
 
 returns-7 : (t : ℕ) → lts.Need-returns-7 (calls t) (scan-by-layout-at t) scan-by-layout.Post
 returns-7 t c = other_value _ _ _ _ _ _ _ (layout_is c.before.before.code.ensures c.before.layout.ensures) c.match.keys7 c.before.before.before.before.before.before.requires.1.1.short

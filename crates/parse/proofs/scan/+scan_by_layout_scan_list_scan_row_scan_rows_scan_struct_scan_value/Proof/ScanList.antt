@@ -2,8 +2,8 @@
 -- No row adds more than its bytes, so that the sum stays below the string's length.
 use mathlib.Core.Path.{◌∙◌}
 use Rattle.parse.proofs.Scans.{begun_at}
-use Rattle.parse.proofs.Values.{node-few, first-child}
-use Rattle.parse.proofs.Rows.{list-short, list_stop, list-room, list_go}
+use Rattle.parse.proofs.Values.{node_few, first_child_lem}
+use Rattle.parse.proofs.Rows.{list_short, list_stop, list_room, list_go}
 use Prim.Native.Nat.{ℕ}
 use native.Mathlib.Omega.{arith}
 use borrow.Author.Rules.{rules}
@@ -22,7 +22,7 @@ sub-if1 : (t : ℕ) → lts.Need-overflow-sub-if1 (calls t) (scan-list-at t) sca
 sub-if1 t c = omega (arith, c.before.before.before.requires.1.0.1.inside)
 
 returns : (t : ℕ) → lts.Need-returns (calls t) (scan-list-at t) scan-list.Post
-returns t c = list-short _ _ _ _ _ c.before.before.before.before.requires.1.0.1 c.if1.true
+returns t c = list_short _ _ _ _ _ c.before.before.before.before.requires.1.0.1 c.if1.true
 
 quad-requires : (t : ℕ) → lts.Need-quad-requires (calls t) (scan-list-at t) scan-list.Post
 quad-requires t c κs = omega (arith, c.before.before.before.before.requires.1.0.1.inside, c.if1.false)
@@ -34,22 +34,22 @@ first-child-requires : (t : ℕ) → lts.Need-first-child-requires (calls t) (sc
 first-child-requires t c κs = search rules
 
 scan-rows-requires : (t : ℕ) → lts.Need-scan-rows-requires (calls t) (scan-list-at t) scan-list.Post
-scan-rows-requires t c κs = (omega (arith, c.before.before.before.before.before.before.before.requires.0), (first-child c.before.before.before.before.before.before.before.requires.1.0.0 c.before.before.before.before.before.before.before.requires.1.1 c.before.first-child.ensures, begun_at _ c.before.before.before.before.before.before.before.requires.1.0.1 (omega arith) (omega (arith, c.before.before.before.before.before.before.before.requires.1.0.1.inside, c.before.before.before.if1.false))))
+scan-rows-requires t c κs = (omega (arith, c.before.before.before.before.before.before.before.requires.0), (first_child_lem c.before.before.before.before.before.before.before.requires.1.0.0 c.before.before.before.before.before.before.before.requires.1.1 c.before.first_child_lem.ensures, begun_at _ c.before.before.before.before.before.before.before.requires.1.0.1 (omega arith) (omega (arith, c.before.before.before.before.before.before.before.requires.1.0.1.inside, c.before.before.before.if1.false))))
 
 same_length : (t : ℕ) → lts.Need-same-length (calls t) (scan-list-at t) scan-list.Post
 same_length t c = c.before.before.before.scan-rows.ensures.sized
 
 returns-2 : (t : ℕ) → lts.Need-returns-2 (calls t) (scan-list-at t) scan-list.Post
-returns-2 t c = list_stop _ _ _ _ _ c.before.before.before.before.before.before.before.before.before.before.before.requires.1.0.1 c.before.before.before.before.before.before.quad.ensures c.before.before.before.before.before.before.before.if1.false c.before.before.before.before.before.first-child.ensures c.before.before.before.scan-rows.ensures c.if2.true
+returns-2 t c = list_stop _ _ _ _ _ c.before.before.before.before.before.before.before.before.before.before.before.requires.1.0.1 c.before.before.before.before.before.before.quad.ensures c.before.before.before.before.before.before.before.if1.false c.before.before.before.before.before.first_child_lem.ensures c.before.before.before.scan-rows.ensures c.if2.true
 
 add-span-requires : (t : ℕ) → lts.Need-add-span-requires (calls t) (scan-list-at t) scan-list.Post
-add-span-requires t c κs = list-room _ _ _ _ _ c.before.before.before.before.before.before.before.before.before.before.before.before.requires.1.0.1 c.before.before.before.before.before.before.before.quad.ensures c.before.before.before.before.before.before.before.before.if1.false c.before.before.before.before.before.before.first-child.ensures c.before.before.before.before.scan-rows.ensures c.before.if2.false (node-few c.before.before.before.before.before.before.before.before.before.before.before.before.requires.1.0.0)
+add-span-requires t c κs = list_room _ _ _ _ _ c.before.before.before.before.before.before.before.before.before.before.before.before.requires.1.0.1 c.before.before.before.before.before.before.before.quad.ensures c.before.before.before.before.before.before.before.before.if1.false c.before.before.before.before.before.before.first_child_lem.ensures c.before.before.before.before.scan-rows.ensures c.before.if2.false (node_few c.before.before.before.before.before.before.before.before.before.before.before.before.requires.1.0.0)
 
 same-length-2 : (t : ℕ) → lts.Need-same-length-2 (calls t) (scan-list-at t) scan-list.Post
 same-length-2 t c = c.before.before.add-span.ensures.sized ∙ c.before.before.before.before.before.before.before.scan-rows.ensures.sized
 
 returns-3 : (t : ℕ) → lts.Need-returns-3 (calls t) (scan-list-at t) scan-list.Post
-returns-3 t c = list_go _ _ _ _ _ c.before.before.before.before.before.before.before.before.before.before.before.before.before.before.before.requires.1.0.1 c.before.before.before.before.before.before.before.before.before.before.quad.ensures c.before.before.before.before.before.before.before.before.before.before.before.if1.false c.before.before.before.before.before.before.before.before.before.first-child.ensures c.before.before.before.before.before.before.before.scan-rows.ensures c.before.before.before.before.if2.false c.before.before.add-span.ensures
+returns-3 t c = list_go _ _ _ _ _ c.before.before.before.before.before.before.before.before.before.before.before.before.before.before.before.requires.1.0.1 c.before.before.before.before.before.before.before.before.before.before.quad.ensures c.before.before.before.before.before.before.before.before.before.before.before.if1.false c.before.before.before.before.before.before.before.before.before.first_child_lem.ensures c.before.before.before.before.before.before.before.scan-rows.ensures c.before.before.before.before.if2.false c.before.before.add-span.ensures
 
 pub proof : {M : Type 1} (t : ℕ) → lts.Closed (calls t) (scan-list-at t) scan-list.Post M
 proof t =

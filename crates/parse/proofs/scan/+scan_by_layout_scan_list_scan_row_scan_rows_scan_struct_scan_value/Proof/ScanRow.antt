@@ -1,8 +1,8 @@
 -- `scan_row` reads a mark, and the value behind it.
 -- Its tests are those of the definition.
 use Rattle.parse.proofs.Scans.{begun_at}
-use Rattle.parse.proofs.Rows.{row_too_deep, row-none, row-value, row_other, row_no_null, row-null}
-use Rattle.parse.proofs.Values.{bitmap-told}
+use Rattle.parse.proofs.Rows.{row_too_deep, row_none, row_value, row_other, row_no_null, row_null}
+use Rattle.parse.proofs.Values.{bitmap_told}
 use Prim.Native.Nat.{ℕ}
 use native.Mathlib.Omega.{arith}
 use borrow.Author.Rules.{rules}
@@ -20,7 +20,7 @@ returns : (t : ℕ) → lts.Need-returns (calls t) (scan-row-at t) scan-row.Post
 returns t c = row_too_deep _ _ _ _ _ c.before.before.before.before.requires.1.1 c.if1.true
 
 returns-2 : (t : ℕ) → lts.Need-returns-2 (calls t) (scan-row-at t) scan-row.Post
-returns-2 t c = row-none _ _ _ _ _ c.before.before.before.before.before.requires.1.1 c.before.if1.false c.if2.true
+returns-2 t c = row_none _ _ _ _ _ c.before.before.before.before.before.requires.1.1 c.before.if1.false c.if2.true
 
 shared-slice-read-mark : (t : ℕ) → lts.Need-shared-slice-read-mark (calls t) (scan-row-at t) scan-row.Post
 shared-slice-read-mark t c = search rules
@@ -38,7 +38,7 @@ same_length : (t : ℕ) → lts.Need-same-length (calls t) (scan-row-at t) scan-
 same_length t c = c.before.before.scan-value.ensures.sized
 
 returns-3 : (t : ℕ) → lts.Need-returns-3 (calls t) (scan-row-at t) scan-row.Post
-returns-3 t c = row-value _ _ _ _ _ c.before.before.before.before.before.before.before.before.before.before.before.requires.1.1 c.before.before.before.before.before.before.before.if1.false c.before.before.before.before.before.before.if2.false c.before.before.before.before.if3.true c.before.before.scan-value.ensures
+returns-3 t c = row_value _ _ _ _ _ c.before.before.before.before.before.before.before.before.before.before.before.requires.1.1 c.before.before.before.before.before.before.before.if1.false c.before.before.before.before.before.before.if2.false c.before.before.before.before.if3.true c.before.before.scan-value.ensures
 
 returns-4 : (t : ℕ) → lts.Need-returns-4 (calls t) (scan-row-at t) scan-row.Post
 returns-4 t c = row_other _ _ _ _ _ c.before.before.before.before.before.before.before.before.requires.1.1 c.before.before.before.before.if1.false c.before.before.before.if2.false c.if4.true c.before.if3.false
@@ -50,10 +50,10 @@ takes-bitmap-requires : (t : ℕ) → lts.Need-takes-bitmap-requires (calls t) (
 takes-bitmap-requires t c κs = search rules
 
 returns-5 : (t : ℕ) → lts.Need-returns-5 (calls t) (scan-row-at t) scan-row.Post
-returns-5 t c = row-null _ _ _ _ _ c.before.before.before.before.before.before.before.before.before.before.before.requires.1.1 c.before.before.before.before.before.before.before.if1.false c.before.before.before.before.before.before.if2.false c.before.before.before.if4.false (bitmap-told c.before.before.code.ensures c.before.takes-bitmap.ensures c.if5.true)
+returns-5 t c = row_null _ _ _ _ _ c.before.before.before.before.before.before.before.before.before.before.before.requires.1.1 c.before.before.before.before.before.before.before.if1.false c.before.before.before.before.before.before.if2.false c.before.before.before.if4.false (bitmap_told c.before.before.code.ensures c.before.takes-bitmap.ensures c.if5.true)
 
 returns-6 : (t : ℕ) → lts.Need-returns-6 (calls t) (scan-row-at t) scan-row.Post
-returns-6 t c = row_no_null _ _ _ _ _ c.before.before.before.before.before.before.before.before.before.before.before.requires.1.1 c.before.before.before.before.before.before.before.if1.false c.before.before.before.before.before.before.if2.false c.before.before.before.if4.false (bitmap-told c.before.before.code.ensures c.before.takes-bitmap.ensures c.if5.false)
+returns-6 t c = row_no_null _ _ _ _ _ c.before.before.before.before.before.before.before.before.before.before.before.requires.1.1 c.before.before.before.before.before.before.before.if1.false c.before.before.before.before.before.before.if2.false c.before.before.before.if4.false (bitmap_told c.before.before.code.ensures c.before.takes-bitmap.ensures c.if5.false)
 
 pub proof : {M : Type 1} (t : ℕ) → lts.Closed (calls t) (scan-row-at t) scan-row.Post M
 proof t =

@@ -5,7 +5,7 @@ use lib.ListN.{drop}
 use Rattle.image.specs.Parse.{rows_of, row_in}
 use Rattle.parse.specs.Scan.{rows_add, Begun}
 use Rattle.parse.proofs.Scans.{begun_next}
-use Rattle.parse.proofs.Loops.{Left, row_turns, rows-begin, left_stop, left-next, left-done}
+use Rattle.parse.proofs.Loops.{Left, row_turns, rows_begin, left_stop, left_next, left_done}
 use Prim.Native.Nat.{ℕ, ◌-◌}
 use native.Mathlib.Omega.{arith}
 use borrow.Author.Rules.{rules}
@@ -24,7 +24,7 @@ abbrev μ-loop : lts.decreases-loop
 μ-loop s node depth count b at table spans₀ next₀ i₀ spans next i = count - i
 
 loop-holds : (t : ℕ) → lts.Need-loop-init (calls t) (scan-rows-at t) scan-rows.Post Inv-loop μ-loop
-loop-holds t c = (rows-begin _ _ _ _ _ _ _, c.before.before.before.requires.1.1)
+loop-holds t c = (rows_begin _ _ _ _ _ _ _, c.before.before.before.requires.1.1)
 
 scan-row-requires : (t : ℕ) → lts.Need-scan-row-requires (calls t) (scan-rows-at t) scan-rows.Post Inv-loop μ-loop
 scan-row-requires t c κs = (omega (arith, c.before.before.before.before.before.before.requires.0), (c.before.before.before.before.before.before.requires.1.0, c.before.before.loop.invariant.1))
@@ -42,13 +42,13 @@ loop-less : (t : ℕ) → lts.Need-loop-smaller (calls t) (scan-rows-at t) scan-
 loop-less t c = search rules
 
 loop-again : (t : ℕ) → lts.Need-loop-preserved (calls t) (scan-rows-at t) scan-rows.Post Inv-loop μ-loop
-loop-again t c = (left-next c.before.before.before.before.before.before.loop.invariant.0 c.before.before.before.before.before.loop-test.true c.before.before.before.scan-row.ensures c.if1.false, begun_next c.before.before.before.before.before.before.loop.invariant.1 c.before.before.before.scan-row.ensures.sized (c.before.before.before.scan-row.ensures.goes c.if1.false))
+loop-again t c = (left_next c.before.before.before.before.before.before.loop.invariant.0 c.before.before.before.before.before.loop-test.true c.before.before.before.scan-row.ensures c.if1.false, begun_next c.before.before.before.before.before.before.loop.invariant.1 c.before.before.before.scan-row.ensures.sized (c.before.before.before.scan-row.ensures.goes c.if1.false))
 
 same-length-2 : (t : ℕ) → lts.Need-same-length-2 (calls t) (scan-rows-at t) scan-rows.Post Inv-loop μ-loop
 same-length-2 t c = c.before.loop.invariant.1.sized ∙ sym c.before.before.before.before.before.requires.1.1.sized
 
 returns-2 : (t : ℕ) → lts.Need-returns-2 (calls t) (scan-rows-at t) scan-rows.Post Inv-loop μ-loop
-returns-2 t c = left-done c.before.loop.invariant.0 c.loop-test.false c.before.loop.invariant.1.inside
+returns-2 t c = left_done c.before.loop.invariant.0 c.loop-test.false c.before.loop.invariant.1.inside
 
 pub proof : {M : Type 1} (t : ℕ) → lts.Closed (calls t) (scan-rows-at t) scan-rows.Post M
 proof t =

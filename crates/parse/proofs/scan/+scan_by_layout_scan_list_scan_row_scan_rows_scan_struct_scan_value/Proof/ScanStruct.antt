@@ -6,8 +6,8 @@ use Rattle.image.specs.Record.{first_child, child_count}
 use Rattle.image.specs.Parse.{row_of_each, row_in}
 use Rattle.parse.specs.Scan.{each_adds, Begun}
 use Rattle.parse.proofs.Scans.{begun_next}
-use Rattle.parse.proofs.Loops.{Left, child_turns, children-begin, left_stop, left-next, left-done}
-use Rattle.parse.proofs.Values.{struct-child}
+use Rattle.parse.proofs.Loops.{Left, child_turns, children_begin, left_stop, left_next, left_done}
+use Rattle.parse.proofs.Values.{struct_child}
 use Prim.Native.Nat.{ℕ, ◌-◌}
 use native.Mathlib.Omega.{arith}
 use borrow.Author.Rules.{rules}
@@ -34,13 +34,13 @@ child-count-requires : (t : ℕ) → lts.Need-child-count-requires (calls t) (sc
 child-count-requires t c κs = search rules
 
 loop-holds : (t : ℕ) → lts.Need-loop-init (calls t) (scan-struct-at t) scan-struct.Post Inv-loop μ-loop
-loop-holds t c = (children-begin _ _ _ _ _ _ c.before.first-child.ensures c.child-count.ensures, c.before.before.before.before.before.requires.1.1)
+loop-holds t c = (children_begin _ _ _ _ _ _ c.before.first_child_lem.ensures c.child-count.ensures, c.before.before.before.before.before.requires.1.1)
 
 add-scan-row : (t : ℕ) → lts.Need-overflow-add-scan-row (calls t) (scan-struct-at t) scan-struct.Post Inv-loop μ-loop
-add-scan-row t c = omega (arith, c.before.before.before.first-child.ensures.small, c.before.before.child-count.ensures.small, c.loop-test.true)
+add-scan-row t c = omega (arith, c.before.before.before.first_child_lem.ensures.small, c.before.before.child-count.ensures.small, c.loop-test.true)
 
 scan-row-requires : (t : ℕ) → lts.Need-scan-row-requires (calls t) (scan-struct-at t) scan-struct.Post Inv-loop μ-loop
-scan-row-requires t c κs = (omega (arith, c.before.before.before.before.before.before.before.before.requires.0), (struct-child c.before.before.before.before.before.before.before.before.requires.1.0 c.before.before.before.before.first-child.ensures c.before.before.before.child-count.ensures c.before.loop-test.true, c.before.before.loop.invariant.1))
+scan-row-requires t c κs = (omega (arith, c.before.before.before.before.before.before.before.before.requires.0), (struct_child c.before.before.before.before.before.before.before.before.requires.1.0 c.before.before.before.before.first_child_lem.ensures c.before.before.before.child-count.ensures c.before.loop-test.true, c.before.before.loop.invariant.1))
 
 same_length : (t : ℕ) → lts.Need-same-length (calls t) (scan-struct-at t) scan-struct.Post Inv-loop μ-loop
 same_length t c = c.before.before.before.scan-row.ensures.sized ∙ (c.before.before.before.before.before.before.loop.invariant.1.sized ∙ sym c.before.before.before.before.before.before.before.before.before.before.before.before.requires.1.1.sized)
@@ -55,13 +55,13 @@ loop-less : (t : ℕ) → lts.Need-loop-smaller (calls t) (scan-struct-at t) sca
 loop-less t c = search rules
 
 loop-again : (t : ℕ) → lts.Need-loop-preserved (calls t) (scan-struct-at t) scan-struct.Post Inv-loop μ-loop
-loop-again t c = (left-next c.before.before.before.before.before.before.loop.invariant.0 c.before.before.before.before.before.loop-test.true c.before.before.before.scan-row.ensures c.if1.false, begun_next c.before.before.before.before.before.before.loop.invariant.1 c.before.before.before.scan-row.ensures.sized (c.before.before.before.scan-row.ensures.goes c.if1.false))
+loop-again t c = (left_next c.before.before.before.before.before.before.loop.invariant.0 c.before.before.before.before.before.loop-test.true c.before.before.before.scan-row.ensures c.if1.false, begun_next c.before.before.before.before.before.before.loop.invariant.1 c.before.before.before.scan-row.ensures.sized (c.before.before.before.scan-row.ensures.goes c.if1.false))
 
 same-length-2 : (t : ℕ) → lts.Need-same-length-2 (calls t) (scan-struct-at t) scan-struct.Post Inv-loop μ-loop
 same-length-2 t c = c.before.loop.invariant.1.sized ∙ sym c.before.before.before.before.before.before.before.requires.1.1.sized
 
 returns-2 : (t : ℕ) → lts.Need-returns-2 (calls t) (scan-struct-at t) scan-struct.Post Inv-loop μ-loop
-returns-2 t c = left-done c.before.loop.invariant.0 c.loop-test.false c.before.loop.invariant.1.inside
+returns-2 t c = left_done c.before.loop.invariant.0 c.loop-test.false c.before.loop.invariant.1.inside
 
 pub proof : {M : Type 1} (t : ℕ) → lts.Closed (calls t) (scan-struct-at t) scan-struct.Post M
 proof t =

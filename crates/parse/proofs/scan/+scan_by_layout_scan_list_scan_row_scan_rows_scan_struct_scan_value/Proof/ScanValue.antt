@@ -25,7 +25,7 @@ scan-bytes-requires : (t : ℕ) → lts.Need-scan-bytes-requires (calls t) (scan
 scan-bytes-requires t c κs = c.before.before.before.before.before.before.requires.1.1.inside
 
 returns : (t : ℕ) → lts.Need-returns (calls t) (scan-value-at t) scan-value.Post
-returns t c = plain_value _ _ _ _ _ _ c.before.before.before.code.ensures c.before.before.fixed-width.ensures c.before.if1.true c.scan-bytes.ensures
+returns t c = plain_value _ _ _ _ _ _ c.before.before.before.code.ensures c.before.before.fixed_width.ensures c.before.if1.true c.scan-bytes.ensures
 
 scan-by-layout-requires : (t : ℕ) → lts.Need-scan-by-layout-requires (calls t) (scan-value-at t) scan-value.Post
 scan-by-layout-requires t c κs = (omega (arith, c.before.before.before.before.before.before.before.requires.0), (c.before.before.before.before.before.before.before.requires.1.0, c.before.before.before.before.before.before.before.requires.1.1))

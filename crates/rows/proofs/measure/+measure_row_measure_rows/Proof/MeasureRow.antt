@@ -3,8 +3,8 @@
 use mathlib.Core.Path.{sym, ◌∙◌}
 use Rattle.image.specs.Row.{row_at}
 use Rattle.accepted.specs.Runs.{Remembered}
-use Rattle.rows.proofs.RowParts.{RowValue, child_bytes, row-null, side-few, row-part, value_of_lem}
-use Rattle.rows.proofs.Rooms.{PiecesToMeasure, measuring_start, measuring_more, measuring_short, measuring_done, none-short, null-left, value-short, value-left}
+use Rattle.rows.proofs.RowParts.{RowValue, child_bytes, row_null, side_few, row_part, value_of_lem}
+use Rattle.rows.proofs.Rooms.{PiecesToMeasure, measuring_start, measuring_more, measuring_short, measuring_done, none_short, null_left, value_short, value_left}
 use Prim.Native.Nat.{ℕ, ◌-◌}
 use native.Mathlib.Omega.{arith}
 use borrow.Author.Rules.{rules}
@@ -29,22 +29,22 @@ value : (t : ℕ) (c : lts.After-value-at (calls t) (measure-row-at t) measure-r
 value t c = value_of_lem _ c.before.before.before.before.before.before.before.requires.1.0 c.before.before.before.is-null.ensures c.before.before.if2.false c.before.before.before.before.before.before.before.requires.1.1.0.column.offset c.value-at.ensures
 
 returns : (t : ℕ) → lts.Need-returns (calls t) (measure-row-at t) measure-row.Post Inv-loop μ-loop
-returns t c = (none-short _ _ c.if1.true, c.before.before.before.requires.1.1.1)
+returns t c = (none_short _ _ c.if1.true, c.before.before.before.requires.1.1.1)
 
 is-null-requires : (t : ℕ) → lts.Need-is-null-requires (calls t) (measure-row-at t) measure-row.Post Inv-loop μ-loop
-is-null-requires t c κs = omega (arith, side-few c.before.before.before.requires.1.0)
+is-null-requires t c κs = omega (arith, side_few c.before.before.before.requires.1.0)
 
 sub-t16 : (t : ℕ) → lts.Need-overflow-sub-t16 (calls t) (measure-row-at t) measure-row.Post Inv-loop μ-loop
 sub-t16 t c = omega (arith, c.before.before.if1.false)
 
 returns-2 : (t : ℕ) → lts.Need-returns-2 (calls t) (measure-row-at t) measure-row.Post Inv-loop μ-loop
-returns-2 t c = (null-left _ _ (row-null _ _ _ _ (sym c.before.is-null.ensures ∙ c.if2.true)) c.before.before.if1.false, c.before.before.before.before.before.requires.1.1.1)
+returns-2 t c = (null_left _ _ (row_null _ _ _ _ (sym c.before.is-null.ensures ∙ c.if2.true)) c.before.before.if1.false, c.before.before.before.before.before.requires.1.1.1)
 
 add-value-at : (t : ℕ) → lts.Need-overflow-add-value-at (calls t) (measure-row-at t) measure-row.Post Inv-loop μ-loop
-add-value-at t c = omega (arith, side-few c.before.before.before.before.before.before.requires.1.0, c.before.before.before.before.before.before.requires.1.1.0.column.offset.value)
+add-value-at t c = omega (arith, side_few c.before.before.before.before.before.before.requires.1.0, c.before.before.before.before.before.before.requires.1.1.0.column.offset.value)
 
 value-at-requires : (t : ℕ) → lts.Need-value-at-requires (calls t) (measure-row-at t) measure-row.Post Inv-loop μ-loop
-value-at-requires t c κs = (row-part _ c.before.before.before.before.before.before.requires.1.0 c.before.before.is-null.ensures c.before.if2.false c.before.before.before.before.before.before.requires.1.1.0.column.offset, c.before.before.before.before.before.before.requires.1.1.0.same)
+value-at-requires t c κs = (row_part _ c.before.before.before.before.before.before.requires.1.0 c.before.before.is-null.ensures c.before.if2.false c.before.before.before.before.before.before.requires.1.1.0.column.offset, c.before.before.before.before.before.before.requires.1.1.0.same)
 
 add-own : (t : ℕ) → lts.Need-overflow-add-own (calls t) (measure-row-at t) measure-row.Post Inv-loop μ-loop
 add-own t c = omega (arith, (value t c.before).placed.narrow)
@@ -53,7 +53,7 @@ add-own-2 : (t : ℕ) → lts.Need-overflow-add-own-2 (calls t) (measure-row-at 
 add-own-2 t c = omega (arith, (value t c.before.before).placed.narrow, (value t c.before.before).placed.inside, c.before.before.before.before.before.before.before.before.before.well-formed.0.1)
 
 returns-3 : (t : ℕ) → lts.Need-returns-3 (calls t) (measure-row-at t) measure-row.Post Inv-loop μ-loop
-returns-3 t c = (value-short (value t c.before.before.before) c.before.before.before.before.before.before.before.before.before.before.args.room c.if3.true, c.before.before.before.before.before.before.before.before.before.before.requires.1.1.1)
+returns-3 t c = (value_short (value t c.before.before.before) c.before.before.before.before.before.before.before.before.before.before.args.room c.if3.true, c.before.before.before.before.before.before.before.before.before.before.requires.1.1.1)
 
 loop-holds : (t : ℕ) → lts.Need-loop-init (calls t) (measure-row-at t) measure-row.Post Inv-loop μ-loop
 loop-holds t c = (value t c.before.before.before, (measuring_start _ _ _, c.before.before.before.before.before.before.before.before.before.before.requires.1.1.1))
@@ -77,7 +77,7 @@ same_length : (t : ℕ) → lts.Need-same-length (calls t) (measure-row-at t) me
 same_length t c = c.before.before.before.before.measure-rows.ensures.1.sized ∙ sym c.before.before.before.before.before.before.before.before.before.before.before.before.before.before.before.before.before.before.before.before.requires.1.1.1.sized
 
 returns-4 : (t : ℕ) → lts.Need-returns-4 (calls t) (measure-row-at t) measure-row.Post Inv-loop μ-loop
-returns-4 t c = (measuring_short c.before.before.before.before.before.before.before.before.before.loop.invariant.1.0 c.before.before.before.before.before.before.before.if4.true (sym c.enum_told.given.1 ∙ c.before.before.before.before.measure-rows.ensures.0) ∙ value-left c.before.before.before.before.before.before.before.before.before.loop.invariant.0 c.before.before.before.before.before.before.before.before.before.before.before.before.before.before.before.before.before.before.before.before.args.room c.before.before.before.before.before.before.before.before.before.before.if3.false, c.before.before.before.before.measure-rows.ensures.1)
+returns-4 t c = (measuring_short c.before.before.before.before.before.before.before.before.before.loop.invariant.1.0 c.before.before.before.before.before.before.before.if4.true (sym c.enum_told.given.1 ∙ c.before.before.before.before.measure-rows.ensures.0) ∙ value_left c.before.before.before.before.before.before.before.before.before.loop.invariant.0 c.before.before.before.before.before.before.before.before.before.before.before.before.before.before.before.before.before.before.before.before.args.room c.before.before.before.before.before.before.before.before.before.before.if3.false, c.before.before.before.before.measure-rows.ensures.1)
 
 add-c : (t : ℕ) → lts.Need-overflow-add-c (calls t) (measure-row-at t) measure-row.Post Inv-loop μ-loop
 add-c t c = omega (arith, c.before.before.before.before.before.before.before.before.before.before.loop.invariant.0.placed.few, c.before.before.before.before.before.before.before.before.if4.true)
@@ -92,7 +92,7 @@ same-length-2 : (t : ℕ) → lts.Need-same-length-2 (calls t) (measure-row-at t
 same-length-2 t c = c.before.before.loop.invariant.1.1.sized ∙ sym c.before.before.before.before.before.before.before.before.before.before.before.before.before.requires.1.1.1.sized
 
 returns-5 : (t : ℕ) → lts.Need-returns-5 (calls t) (measure-row-at t) measure-row.Post Inv-loop μ-loop
-returns-5 t c = (measuring_done c.before.before.loop.invariant.1.0 c.if4.false ∙ value-left c.before.before.loop.invariant.0 c.before.before.before.before.before.before.before.before.before.before.before.before.before.args.room c.before.before.before.if3.false, c.before.before.loop.invariant.1.1)
+returns-5 t c = (measuring_done c.before.before.loop.invariant.1.0 c.if4.false ∙ value_left c.before.before.loop.invariant.0 c.before.before.before.before.before.before.before.before.before.before.before.before.before.args.room c.before.before.before.if3.false, c.before.before.loop.invariant.1.1)
 
 pub proof : {M : Type 1} (t : ℕ) → lts.Closed (calls t) (measure-row-at t) measure-row.Post M
 proof t =

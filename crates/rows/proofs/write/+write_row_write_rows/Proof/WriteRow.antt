@@ -3,9 +3,9 @@
 use mathlib.Core.Path.{sym, ◌∙◌}
 use Rattle.image.specs.Row.{row_at}
 use Rattle.accepted.specs.Runs.{Remembered}
-use Rattle.rows.proofs.RowParts.{RowValue, child_bytes, row-null, side-few, row-part, value_of_lem}
+use Rattle.rows.proofs.RowParts.{RowValue, child_bytes, row_null, side_few, row_part, value_of_lem}
 use Rattle.rows.proofs.Stretches.{and_last}
-use Rattle.rows.proofs.Over.{PiecesToPut, put_last, pieces-from, pieces_fit, pieces_more, pieces-place, pieces-done, null-fits, null-put, value-fits, value-put}
+use Rattle.rows.proofs.Over.{PiecesToPut, put_last, pieces_from, pieces_fit, pieces_more, pieces_place, pieces_done, null_fits, null_put, value_fits, value_put}
 use Prim.Native.Nat.{ℕ, ◌-◌}
 use native.Mathlib.Omega.{arith}
 use borrow.Author.Rules.{rules}
@@ -32,28 +32,28 @@ value : (t : ℕ) (c : lts.After-value-at (calls t) (write-row-at t) write-row.P
 value t c = value_of_lem _ c.before.before.before.before.before.before.before.requires.1.0 c.before.before.before.is-null.ensures c.before.before.if1.false c.before.before.before.before.before.before.before.requires.1.1.0.column.offset c.value-at.ensures
 
 is-null-requires : (t : ℕ) → lts.Need-is-null-requires (calls t) (write-row-at t) write-row.Post Inv-loop μ-loop
-is-null-requires t c κs = omega (arith, side-few c.before.before.before.requires.1.0)
+is-null-requires t c κs = omega (arith, side_few c.before.before.before.requires.1.0)
 
 put-number-requires : (t : ℕ) → lts.Need-put-number-requires (calls t) (write-row-at t) write-row.Post Inv-loop μ-loop
-put-number-requires t c κs = null-fits c.before.before.before.before.before.before.requires.1.1.1.1 (row-null _ _ _ _ (sym c.before.before.is-null.ensures ∙ c.before.if1.true))
+put-number-requires t c κs = null_fits c.before.before.before.before.before.before.requires.1.1.1.1 (row_null _ _ _ _ (sym c.before.before.is-null.ensures ∙ c.before.if1.true))
 
 same_length : (t : ℕ) → lts.Need-same-length (calls t) (write-row-at t) write-row.Post Inv-loop μ-loop
 same_length t c = search rules
 
 returns : (t : ℕ) → lts.Need-returns (calls t) (write-row-at t) write-row.Post Inv-loop μ-loop
-returns t c = and_last (null-put c.before.before.before.before.before.before.before.before.before.requires.1.1.1.1 (row-null _ _ _ _ (sym c.before.before.before.before.before.is-null.ensures ∙ c.before.before.before.before.if1.true)) c.before.before.put-number.ensures) c.before.before.before.before.before.before.before.before.before.requires.1.1.1.0
+returns t c = and_last (null_put c.before.before.before.before.before.before.before.before.before.requires.1.1.1.1 (row_null _ _ _ _ (sym c.before.before.before.before.before.is-null.ensures ∙ c.before.before.before.before.if1.true)) c.before.before.put-number.ensures) c.before.before.before.before.before.before.before.before.before.requires.1.1.1.0
 
 add-value-at : (t : ℕ) → lts.Need-overflow-add-value-at (calls t) (write-row-at t) write-row.Post Inv-loop μ-loop
-add-value-at t c = omega (arith, side-few c.before.before.before.before.before.before.requires.1.0, c.before.before.before.before.before.before.requires.1.1.0.column.offset.value)
+add-value-at t c = omega (arith, side_few c.before.before.before.before.before.before.requires.1.0, c.before.before.before.before.before.before.requires.1.1.0.column.offset.value)
 
 value-at-requires : (t : ℕ) → lts.Need-value-at-requires (calls t) (write-row-at t) write-row.Post Inv-loop μ-loop
-value-at-requires t c κs = (row-part _ c.before.before.before.before.before.before.requires.1.0 c.before.before.is-null.ensures c.before.if1.false c.before.before.before.before.before.before.requires.1.1.0.column.offset, c.before.before.before.before.before.before.requires.1.1.0.same)
+value-at-requires t c κs = (row_part _ c.before.before.before.before.before.before.requires.1.0 c.before.before.is-null.ensures c.before.if1.false c.before.before.before.before.before.before.requires.1.1.0.column.offset, c.before.before.before.before.before.before.requires.1.1.0.same)
 
 put-own-requires : (t : ℕ) → lts.Need-put-own-requires (calls t) (write-row-at t) write-row.Post Inv-loop μ-loop
-put-own-requires t c κs = ((value t c.before).placed.inside, value-fits (value t c.before) c.before.before.before.before.before.before.before.before.requires.1.1.1.1)
+put-own-requires t c κs = ((value t c.before).placed.inside, value_fits (value t c.before) c.before.before.before.before.before.before.before.before.requires.1.1.1.1)
 
 loop-holds : (t : ℕ) → lts.Need-loop-init (calls t) (write-row-at t) write-row.Post Inv-loop μ-loop
-loop-holds t c = (value t c.before.before.before.before, (pieces-from (value-put (value t c.before.before.before.before) c.before.before.before.before.before.before.before.before.before.before.before.requires.1.1.1.1 c.before.before.put-own.ensures.1 c.before.before.put-own.ensures.0), c.before.before.before.before.before.before.before.before.before.before.before.requires.1.1.1.0))
+loop-holds t c = (value t c.before.before.before.before, (pieces_from (value_put (value t c.before.before.before.before) c.before.before.before.before.before.before.before.before.before.before.before.requires.1.1.1.1 c.before.before.put-own.ensures.1 c.before.before.put-own.ensures.0), c.before.before.before.before.before.before.before.before.before.before.before.requires.1.1.1.0))
 
 add-write-rows : (t : ℕ) → lts.Need-overflow-add-write-rows (calls t) (write-row-at t) write-row.Post Inv-loop μ-loop
 add-write-rows t c = omega (arith, c.before.before.before.loop.invariant.0.placed.few, c.before.if2.true)
@@ -80,7 +80,7 @@ same-length-3 : (t : ℕ) → lts.Need-same-length-3 (calls t) (write-row-at t) 
 same-length-3 t c = c.before.before.loop.invariant.1.0.put.long ∙ c.before.before.before.before.before.put-own.auto.1.1.0
 
 returns-2 : (t : ℕ) → lts.Need-returns-2 (calls t) (write-row-at t) write-row.Post Inv-loop μ-loop
-returns-2 t c = and_last (put_last (value-put c.before.before.loop.invariant.0 c.before.before.before.before.before.before.before.before.before.before.before.before.before.before.requires.1.1.1.1 c.before.before.before.before.before.put-own.ensures.1 c.before.before.before.before.before.put-own.ensures.0) (pieces-done c.before.before.loop.invariant.1.0 c.if2.false) (pieces-place c.before.before.loop.invariant.1.0 c.if2.false)) c.before.before.loop.invariant.1.1
+returns-2 t c = and_last (put_last (value_put c.before.before.loop.invariant.0 c.before.before.before.before.before.before.before.before.before.before.before.before.before.before.requires.1.1.1.1 c.before.before.before.before.before.put-own.ensures.1 c.before.before.before.before.before.put-own.ensures.0) (pieces_done c.before.before.loop.invariant.1.0 c.if2.false) (pieces_place c.before.before.loop.invariant.1.0 c.if2.false)) c.before.before.loop.invariant.1.1
 
 pub proof : {M : Type 1} (t : ℕ) → lts.Closed (calls t) (write-row-at t) write-row.Post M
 proof t =

@@ -1,6 +1,6 @@
 -- The walk at the next node.
 -- The sums grow by this node's counts, and the parent is looked for from this node's on.
-use Rattle.validate.proofs.Parents.{children-more, buffers-more, passed-next}
+use Rattle.validate.proofs.Parents.{children_more, buffers_more, passed_next}
 use native.Mathlib.Omega.{arith}
 use borrow.Author.Rules.{rules}
 use Rattle.validate.proofs.tree.Walk.next.Statement.{statement}
@@ -28,15 +28,15 @@ add-parent-from : tie.Need-overflow-add-parent-from
 add-parent-from c = search rules
 
 parent-from-requires : tie.Need-parent-from-requires
-parent-from-requires c κs = (passed-next _ c.before.before.before.before.before.requires.0.parent.known, omega (arith, c.before.before.before.before.before.requires.1))
+parent-from-requires c κs = (passed_next _ c.before.before.before.before.before.requires.0.parent.known, omega (arith, c.before.before.before.before.before.requires.1))
 
 returns : tie.Need-returns
 returns c = record {
-  children = children-more _ c.before.before.before.before.before.before.requires.0.children c.before.before.before.before.child-count.ensures;
-  buffers = buffers-more _ c.before.before.before.before.before.before.requires.0.buffers c.before.before.buffer-count.ensures;
+  children = children_more _ c.before.before.before.before.before.before.requires.0.children c.before.before.before.before.child-count.ensures;
+  buffers = buffers_more _ c.before.before.before.before.before.before.requires.0.buffers c.before.before.buffer-count.ensures;
   parent = c.parent-from.ensures;
-  all-children = c.before.before.before.before.before.before.requires.0.all-children;
-  all-buffers = c.before.before.before.before.before.before.requires.0.all-buffers;
+  all_children = c.before.before.before.before.before.before.requires.0.all_children;
+  all_buffers = c.before.before.before.before.before.before.requires.0.all_buffers;
   shallow = c.before.before.before.before.before.before.requires.0.shallow;
 }
 

@@ -1,6 +1,6 @@
 -- The walk at node 0.
 -- No node is before it, and the sums over all nodes are those of the callees.
-use Rattle.validate.proofs.Parents.{children-none, buffers-none, passed_none}
+use Rattle.validate.proofs.Parents.{children_none, buffers_none, passed_none}
 use native.Mathlib.Omega.{arith}
 use borrow.Author.Rules.{rules}
 use Rattle.validate.proofs.tree.Walk.start.Statement.{statement}
@@ -32,11 +32,11 @@ level-end-requires c κs = search rules
 
 returns : tie.Need-returns
 returns c = record {
-  children = children-none _;
-  buffers = buffers-none _;
+  children = children_none _;
+  buffers = buffers_none _;
   parent = record { known = passed_none _ c.before.before.before.child-count.ensures; reached = λ h. absurd (omega (arith, h)) };
-  all-children = rw (← c.before.before.before.before.node-count.ensures.value) c.before.before.child-start.ensures.value;
-  all-buffers = rw (← c.before.before.before.before.node-count.ensures.value) c.before.buffer-start.ensures.value;
+  all_children = rw (← c.before.before.before.before.node-count.ensures.value) c.before.before.child-start.ensures.value;
+  all_buffers = rw (← c.before.before.before.before.node-count.ensures.value) c.before.buffer-start.ensures.value;
   shallow = c.level-end.ensures;
 }
 

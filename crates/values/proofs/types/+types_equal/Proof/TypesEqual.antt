@@ -2,7 +2,7 @@
 -- The loop keeps that the children from child k on decide.
 use mathlib.Core.Path.{refl, ◌∙◌}
 use borrow.Author.Tests.{not-true, not-false}
-use Rattle.values.proofs.Steps.{Left, left-none, left-more, left_fails, left-done}
+use Rattle.values.proofs.Steps.{Left, left_none, left_more, left_fails, left_done}
 use Rattle.values.proofs.Levels.{child_agrees, labels_fail, labels_agree_lem, at_none, heads_fail, children}
 use Prim.Native.Nat.{ℕ, ◌-◌}
 use native.Mathlib.Omega.{arith}
@@ -46,17 +46,17 @@ proof t =
     -- first-child-requires-2
     (λ c κs. search rules)
     -- loop-holds
-    (λ c. left-none _ _ _ _)
+    (λ c. left_none _ _ _ _)
     -- add-labels-equal
-    (λ c. omega (arith, c.before.before.before.first-child.ensures.small, c.before.before.before.before.child-count.ensures.small, c.loop-test.true))
+    (λ c. omega (arith, c.before.before.before.first_child_lem.ensures.small, c.before.before.before.before.child-count.ensures.small, c.loop-test.true))
     -- add-labels-equal-2
     (λ c. omega (arith, c.before.before.first-child2.ensures.small, c.before.before.before.before.child-count.ensures.small, c.loop-test.true))
     -- labels-equal-requires
     (λ c κs. search rules)
     -- returns-3
-    (λ c. left_fails _ _ _ _ _ c.before.before.loop-test.true c.before.before.before.loop.invariant (labels_fail _ _ _ _ _ _ _ c.before.labels-equal.ensures (not-true _ c.if3.true)) ∙ children _ _ _ _ _ _ c.before.before.before.before.before.before.before.before.before.before.before.if1.false c.before.before.before.before.before.before.before.before.before.before.heads-equal.ensures (not-false _ c.before.before.before.before.before.before.before.before.before.if2.false) c.before.before.before.before.before.before.before.before.code.ensures.value c.before.before.before.before.before.before.before.below.ensures refl c.before.before.before.before.before.before.child-count.ensures.value c.before.before.before.before.before.first-child.ensures.value c.before.before.before.before.first-child2.ensures.value)
+    (λ c. left_fails _ _ _ _ _ c.before.before.loop-test.true c.before.before.before.loop.invariant (labels_fail _ _ _ _ _ _ _ c.before.labels-equal.ensures (not-true _ c.if3.true)) ∙ children _ _ _ _ _ _ c.before.before.before.before.before.before.before.before.before.before.before.if1.false c.before.before.before.before.before.before.before.before.before.before.heads-equal.ensures (not-false _ c.before.before.before.before.before.before.before.before.before.if2.false) c.before.before.before.before.before.before.before.before.code.ensures.value c.before.before.before.before.before.before.before.below.ensures refl c.before.before.before.before.before.before.child-count.ensures.value c.before.before.before.before.before.first_child_lem.ensures.value c.before.before.before.before.first-child2.ensures.value)
     -- add-types-equal
-    (λ c. omega (arith, c.before.before.before.before.before.first-child.ensures.small, c.before.before.before.before.before.before.child-count.ensures.small, c.before.before.loop-test.true))
+    (λ c. omega (arith, c.before.before.before.before.before.first_child_lem.ensures.small, c.before.before.before.before.before.before.child-count.ensures.small, c.before.before.loop-test.true))
     -- add-types-equal-2
     (λ c. omega (arith, c.before.before.before.before.first-child2.ensures.small, c.before.before.before.before.before.before.child-count.ensures.small, c.before.before.loop-test.true))
     -- sub-types-equal
@@ -64,12 +64,12 @@ proof t =
     -- types-equal-requires
     (λ c κs. (omega (arith, c.before.before.before.before.before.before.before.before.before.before.before.before.before.before.requires.0, c.before.before.before.before.before.before.before.before.before.before.before.if1.false), tt))
     -- returns-4
-    (λ c. left_fails _ _ _ _ _ c.before.before.before.before.loop-test.true c.before.before.before.before.before.loop.invariant (labels_agree_lem _ _ _ _ _ _ _ c.before.before.before.labels-equal.ensures (not-false _ c.before.before.if3.false) c.before.types-equal.ensures ∙ not-true _ c.if4.true) ∙ children _ _ _ _ _ _ c.before.before.before.before.before.before.before.before.before.before.before.before.before.if1.false c.before.before.before.before.before.before.before.before.before.before.before.before.heads-equal.ensures (not-false _ c.before.before.before.before.before.before.before.before.before.before.before.if2.false) c.before.before.before.before.before.before.before.before.before.before.code.ensures.value c.before.before.before.before.before.before.before.before.before.below.ensures refl c.before.before.before.before.before.before.before.before.child-count.ensures.value c.before.before.before.before.before.before.before.first-child.ensures.value c.before.before.before.before.before.before.first-child2.ensures.value)
+    (λ c. left_fails _ _ _ _ _ c.before.before.before.before.loop-test.true c.before.before.before.before.before.loop.invariant (labels_agree_lem _ _ _ _ _ _ _ c.before.before.before.labels-equal.ensures (not-false _ c.before.before.if3.false) c.before.types-equal.ensures ∙ not-true _ c.if4.true) ∙ children _ _ _ _ _ _ c.before.before.before.before.before.before.before.before.before.before.before.before.before.if1.false c.before.before.before.before.before.before.before.before.before.before.before.before.heads-equal.ensures (not-false _ c.before.before.before.before.before.before.before.before.before.before.before.if2.false) c.before.before.before.before.before.before.before.before.before.before.code.ensures.value c.before.before.before.before.before.before.before.before.before.below.ensures refl c.before.before.before.before.before.before.before.before.child-count.ensures.value c.before.before.before.before.before.before.before.first_child_lem.ensures.value c.before.before.before.before.before.before.first-child2.ensures.value)
     -- add-k
     (λ c. omega (arith, c.before.before.before.before.before.before.before.before.child-count.ensures.small, c.before.before.before.before.loop-test.true))
     -- loop-less
     (λ c. omega (arith, c.before.before.before.before.loop-test.true))
     -- loop-again
-    (λ c. left-more _ _ _ _ _ c.before.before.before.before.loop-test.true c.before.before.before.before.before.loop.invariant (labels_agree_lem _ _ _ _ _ _ _ c.before.before.before.labels-equal.ensures (not-false _ c.before.before.if3.false) c.before.types-equal.ensures ∙ not-false _ c.if4.false))
+    (λ c. left_more _ _ _ _ _ c.before.before.before.before.loop-test.true c.before.before.before.before.before.loop.invariant (labels_agree_lem _ _ _ _ _ _ _ c.before.before.before.labels-equal.ensures (not-false _ c.before.before.if3.false) c.before.types-equal.ensures ∙ not-false _ c.if4.false))
     -- returns-5
-    (λ c. left-done _ _ _ _ _ c.loop-test.false c.before.loop.invariant ∙ children _ _ _ _ _ _ c.before.before.before.before.before.before.before.before.before.if1.false c.before.before.before.before.before.before.before.before.heads-equal.ensures (not-false _ c.before.before.before.before.before.before.before.if2.false) c.before.before.before.before.before.before.code.ensures.value c.before.before.before.before.before.below.ensures refl c.before.before.before.before.child-count.ensures.value c.before.before.before.first-child.ensures.value c.before.before.first-child2.ensures.value)
+    (λ c. left_done _ _ _ _ _ c.loop-test.false c.before.loop.invariant ∙ children _ _ _ _ _ _ c.before.before.before.before.before.before.before.before.before.if1.false c.before.before.before.before.before.before.before.before.heads-equal.ensures (not-false _ c.before.before.before.before.before.before.before.if2.false) c.before.before.before.before.before.before.code.ensures.value c.before.before.before.before.before.below.ensures refl c.before.before.before.before.child-count.ensures.value c.before.before.before.first_child_lem.ensures.value c.before.before.first-child2.ensures.value)
