@@ -1,6 +1,6 @@
 -- The rows that a string is, "by the row rule" (document 01, "A row's bytes, by the writer we add"), for rows of the
 -- type that an image s has. A string is read from its front: what it begins with, and the bytes that follow.
-use Rattle.std.specs.Prelude.{Bool, true, false, cond, ◌||◌, List, [], ◌∷◌, ℕ, zero, suc, length, take, drop, eqb, leb, ltb}
+use Rattle.std.specs.Prelude.{Bool, cond, ◌||◌, List, [], ◌∷◌, ℕ, zero, suc, length, take, drop, eqb, leb, ltb}
 use Rattle.image.specs.declared.type_code.Layout.{Layout}
 use Rattle.image.specs.declared.type_code.Layout.TheVariants.{Null, Boolean, FixedWidth, VariableSize, View, List as Lists, ListView, FixedList, Struct, DenseUnion, SparseUnion, Dictionary, Runs}
 use Rattle.image.specs.Ranges.{every}
