@@ -107,10 +107,17 @@ def give_way():
                 f.write(out)
 
 
-def respelled(line, path, turned):
+def of_library(text):
+    """The names that a file imports from the library: they are not this repository's."""
+    crates = "|".join(sorted(os.listdir("crates")))
+    found = re.findall(r"(?ms)^(?:ghost )?use (?!Rattle\.(?:" + crates + r")\.)[^{\n]*\{([^}]*)\}", text)
+    return {word.strip() for names in found for part in names.split(",") for word in part.split(" as ")}
+
+
+def respelled(line, path, turned, kept):
     """A line with the names' new spelling. Words with dashes are names only in antt's text, in imports and between backticks."""
     def one(m):
-        return turned.get(m.group(0), m.group(0))
+        return m.group(0) if m.group(0) in kept else turned.get(m.group(0), m.group(0))
     if path.endswith(".md"):
         return re.sub(r"`[^`]*`", lambda m: WORD.sub(one, m.group(0)), line)
     if path.endswith(".rt"):
@@ -134,7 +141,8 @@ def main():
     give_way()
     for path in list(files(".", (".antt", ".rt", ".edit", ".md"))):
         text = read(path)
-        out = "\n".join(respelled(line, path, turned) for line in text.split("\n"))
+        kept = of_library(text)
+        out = "\n".join(respelled(line, path, turned, kept) for line in text.split("\n"))
         if out != text:
             with open(path, "w", encoding="utf-8") as f:
                 f.write(out)

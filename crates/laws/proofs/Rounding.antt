@@ -2,7 +2,7 @@
 -- by 1 a number stays; two stored numbers agree where their divided sizes do, and their signs unless that size is 0.
 -- By the three cases of what is left over; all arithmetic is on sizes, and one law joins sizes and signs.
 use mathlib.Core.Path.{◌≡◌, refl, sym, ap, ap₂, ◌∙◌}
-use mathlib.Core.Bool.{Bool, true, false, cond, not, beq, ◌&&◌, ◌||◌, and_true, and_false}
+use mathlib.Core.Bool.{Bool, true, false, cond, not, beq, ◌&&◌, ◌||◌, and-true, and-false}
 use mathlib.Core.Logic.{◌↔◌}
 use Prim.Native.Nat.{ℕ, zero, suc, ◌+◌, ◌*◌, ◌-◌, ◌/◌, ◌%◌, ◌^◌, ◌<◌, ◌≤◌}
 use native.Mathlib.Omega.{arith}
@@ -99,19 +99,19 @@ divided_signed rule p some true (suc m) = refl
 -- numbers are the same where sizes are, and signs too unless the size is 0
 same_signed : (x y : Bool) (m n : ℕ) → same_whole (signed x m) (signed y n) ≡ eqb m n && (beq x y || eqb m 0)
 unfolding same_whole
-same_signed false false m n = sym (and_true (eqb m n))
+same_signed false false m n = sym (and-true (eqb m n))
 same_signed true true zero zero = refl
 same_signed true true zero (suc n) = rw (eqb-zero-suc n)
 same_signed true true (suc m) zero = rw (eqb-suc-zero m)
-same_signed true true (suc m) (suc n) = rw (eqb-suc-suc m n) (sym (and_true (eqb m n)))
+same_signed true true (suc m) (suc n) = rw (eqb-suc-suc m n) (sym (and-true (eqb m n)))
 same_signed false true zero zero = refl
 same_signed false true (suc m) zero = rw (eqb-suc-zero m)
 same_signed false true zero (suc n) = rw (eqb-zero-suc n)
-same_signed false true (suc m) (suc n) = rw (eqb-suc-zero m) (sym (and_false (eqb (suc m) (suc n))))
+same_signed false true (suc m) (suc n) = rw (eqb-suc-zero m) (sym (and-false (eqb (suc m) (suc n))))
 same_signed true false zero zero = refl
 same_signed true false zero (suc n) = rw (eqb-zero-suc n)
 same_signed true false (suc m) zero = rw (eqb-suc-zero m)
-same_signed true false (suc m) (suc n) = rw (eqb-suc-zero m) (sym (and_false (eqb (suc m) (suc n))))
+same_signed true false (suc m) (suc n) = rw (eqb-suc-zero m) (sym (and-false (eqb (suc m) (suc n))))
 
 -- the sign and the size of a number of w bytes that reads as x
 abbrev pub negative : ℕ → ℕ → Bool

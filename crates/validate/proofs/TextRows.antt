@@ -1,7 +1,7 @@
 -- Where the texts of a node's rows stand, and which rows are at fault.
 -- By the lower numbers offsets rise within the text, and the bytes of a view that is not null lie inside.
 use mathlib.Core.Path.{◌≡◌, refl, sym, ap, subst, ◌∙◌}
-use mathlib.Core.Bool.{Bool, true, false, not, ◌&&◌, ◌||◌, and_false, false≢true}
+use mathlib.Core.Bool.{Bool, true, false, not, ◌&&◌, ◌||◌, and-false, false≢true}
 use mathlib.Core.List.{List}
 use Prim.Native.Nat.{ℕ, zero, suc, ◌+◌, ◌*◌, ◌-◌, ◌<◌, ◌≤◌, ◌^◌}
 use native.Mathlib.Nat.{add-zero, zero-add, eq-or-lt_of_le}
@@ -251,7 +251,7 @@ module _ {s : List ℕ} {k : ℕ} (t : TextNode s k) {at : TextsAt} (r : TextsRe
   formed_row i h =
       let next : suc (offset_of s k + i) ≡ offset_of s k + (i + 1) = omega arith in
       let len : element_at s k (offset_of s k + (i + 1)) - element_at s k (offset_of s k + i) ≡ text_start s k (i + 1) - text_start s k i = omega arith in
-      rw (not_view t r isnt, next, len, h) (and_false (valid s k i))
+      rw (not_view t r isnt, next, len, h) (and-false (valid s k i))
 
   module _ (i : ℕ) (lt : i < length_of s k) where
     up : text_start s k i ≤ text_start s k (i + 1)

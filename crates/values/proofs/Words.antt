@@ -6,7 +6,7 @@ use mathlib.Core.List.{List}
 use mathlib.Core.Logic.{◌⊎◌, inl, inr}
 use Prim.Native.Nat.{ℕ, zero, suc, ◌+◌, ◌*◌, ◌-◌, ◌/◌, ◌%◌, ◌^◌, ◌<◌, ◌≤◌}
 use native.Mathlib.Omega.{arith}
-use native.Mathlib.Nat.{eq-or-lt_of_le, mod-one, mod-add-div, mod-lt, mod-eq_of_lt, mul_assoc, add-mul-mod_self_left, div-div-eq-div-mul, pow_suc, pow-succ'}
+use native.Mathlib.Nat.{eq-or-lt_of_le, mod-one, mod-add-div, mod-lt, mod-eq_of_lt, mul_assoc, add-mul-mod_self_left, div-div-eq-div-mul, pow-suc, pow-succ'}
 use lib.Dec.{eqb}
 use lib.Pow.{pow_pos}
 use borrow.Author.Tests.{eqb-true, eqb-false, eq-eqb, ne_eqb}
@@ -56,7 +56,7 @@ bit_number (suc zero) lt = refl
 bit_number (suc (suc x)) lt = absurd (omega arith)
 
 pub halved : (x r : ℕ) → x / 2 ^ r / 2 ≡ x / 2 ^ suc r
-halved x r = div-div-eq-div-mul x (2 ^ r) 2 ∙ ap (λ (y : ℕ). x / y) (sym (pow_suc 2 r))
+halved x r = div-div-eq-div-mul x (2 ^ r) 2 ∙ ap (λ (y : ℕ). x / y) (sym (pow-suc 2 r))
 
 -- n bits from bit i on are the number at bit i's byte, without the bits below bit i, cut off after n bits
 module _ (s : List ℕ) (small : AllBytes s) (p : ℕ) where

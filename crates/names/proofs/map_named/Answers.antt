@@ -1,0 +1,22 @@
+-- The answer is whether a Map's entries, key and value have their names, in turn.
+-- By what the callees give; the fixed bytes are those of the three texts.
+use borrow.Author.Tests.{eq-eqb, ne_eqb, not-true, not-false}
+use Rattle.image.specs.Bytes.{ascii}
+use Rattle.image.specs.MapNames.{named, map_named}
+use Rattle.names.proofs.map_named.Goals as goal
+
+pub returns-then-code-ne-MAP : goal.returns-then-code-ne-MAP
+unfolding map_named named ascii
+returns-then-code-ne-MAP c = rw (← c.code.ensures.value, ne_eqb _ 42 c.if-code-ne-MAP.true)
+
+pub returns-then-not-is_named : goal.returns-then-not-is_named
+unfolding map_named named ascii
+returns-then-not-is_named c = rw (← c.code.ensures.value, eq-eqb _ 42 c.if-code-ne-MAP.false, ← c.first_child-entries.ensures.value, ← c.first_child-key.ensures.value, ← c.is_named.ensures, not-true c.is_named.result c.if-not-is_named.true)
+
+pub returns-then-not-is_named-2 : goal.returns-then-not-is_named-2
+unfolding map_named named ascii
+returns-then-not-is_named-2 c = rw (← c.code.ensures.value, eq-eqb _ 42 c.if-code-ne-MAP.false, ← c.first_child-entries.ensures.value, ← c.first_child-key.ensures.value, ← c.is_named.ensures, not-false c.is_named.result c.if-not-is_named.false, ← c.is_named-2.ensures, not-true c.is_named-2.result c.if-not-is_named-2.true)
+
+pub returns : goal.returns
+unfolding map_named named ascii
+returns c = rw (← c.code.ensures.value, eq-eqb _ 42 c.if-code-ne-MAP.false, ← c.first_child-entries.ensures.value, ← c.first_child-key.ensures.value, ← c.is_named.ensures, not-false c.is_named.result c.if-not-is_named.false, ← c.is_named-2.ensures, not-false c.is_named-2.result c.if-not-is_named-2.false, ← c.is_named-3.ensures)
