@@ -14,7 +14,7 @@ const MOST_NODES: usize = 256;
 
 pub const REMEMBERED: usize = 512;
 
-#[derive(Drop)]
+#[derive(Clone, Copy)]
 pub struct Column {
     // the rows are in runs
     pub runs: bool,
@@ -25,7 +25,7 @@ pub struct Column {
 }
 
 // How long a run is kept: so many rows from a row on, and the run that is kept behind them.
-#[derive(Drop)]
+#[derive(Clone, Copy)]
 pub struct Stay {
     pub rows: usize,
     pub next: usize,

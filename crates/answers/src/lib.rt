@@ -6,7 +6,7 @@ pub mod numbers;
 use image::answer::{Fault, Side};
 
 // What two images are found to be before their rows are compared.
-#[derive(Drop)]
+#[derive(Clone, Copy)]
 pub enum Paired {
     // both are accepted, and their types agree
     Agreed,
@@ -17,7 +17,7 @@ pub enum Paired {
 }
 
 // Whether two ranges of rows lie within their tables.
-#[derive(Drop)]
+#[derive(Clone, Copy)]
 pub enum Bounds {
     Within,
     // 21: start + count exceeds the length
@@ -25,7 +25,7 @@ pub enum Bounds {
 }
 
 // The answer of a comparison of tables or of ranges of their rows.
-#[derive(Drop)]
+#[derive(Clone, Copy)]
 pub enum Compared {
     Yes,
     No,
@@ -38,7 +38,7 @@ pub enum Compared {
 }
 
 // The answer of a search for the first unequal row of two ranges.
-#[derive(Drop)]
+#[derive(Clone, Copy)]
 pub enum Difference {
     // all rows are equal
     Nowhere,
@@ -53,7 +53,7 @@ pub enum Difference {
 }
 
 // The answer of a comparison of ranges at fewer digits.
-#[derive(Drop)]
+#[derive(Clone, Copy)]
 pub enum DigitsCompared {
     Yes,
     No,
@@ -68,7 +68,7 @@ pub enum DigitsCompared {
 }
 
 // The answer of the query of Map names.
-#[derive(Drop)]
+#[derive(Clone, Copy)]
 pub enum MapNames {
     Yes,
     No,
@@ -77,7 +77,7 @@ pub enum MapNames {
 }
 
 // The answer of a writer of rows.
-#[derive(Drop)]
+#[derive(Clone, Copy)]
 pub enum Written {
     // so many bytes stand at the front of the buffer
     Bytes(usize),
@@ -90,7 +90,7 @@ pub enum Written {
 }
 
 // The answer of a call that builds a table from written rows.
-#[derive(Drop)]
+#[derive(Clone, Copy)]
 pub enum Built {
     // an image of so many bytes stands at the front of the buffer
     Bytes(usize),

@@ -6,7 +6,7 @@ use crate::{Built, Compared, Difference, DigitsCompared, MapNames, Written};
 use image::answer::{Checked, Fault, Side};
 
 // 0 or the refusal's number; the side, 0 left and 1 right; the node; the value. What an answer does not have is 0.
-#[derive(Drop)]
+#[derive(Clone, Copy)]
 pub struct Numbers {
     pub number: u8,
     pub side: u8,

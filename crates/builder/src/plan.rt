@@ -24,7 +24,7 @@ pub const MOST_NODES: usize = 256;
 pub const MOST_PLACES: usize = 769;
 
 // What a plan answers: how many bytes the image has, or that it is too long for the buffer, or for an image.
-#[derive(Drop)]
+#[derive(Clone, Copy)]
 pub enum Planned {
     Bytes(usize),
     TooLong,

@@ -18,7 +18,7 @@ use image::type_code::{Layout, TypeCode};
 use rows::output::{put_bytes, put_number};
 
 // Where the next row of a node goes: the places of its parts, how many rows it has, and how far its offsets are.
-#[derive(Drop)]
+#[derive(Clone, Copy)]
 pub struct Spot {
     pub bitmap: usize,
     pub first: usize,

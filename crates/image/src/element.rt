@@ -19,7 +19,7 @@ pub const INLINE_LENGTH: usize = 12;
 
 // The null mask of a node, for a loop that asks for many rows: whether there is a bitmap, where it starts, and the bit of
 // row 0.
-#[derive(Drop)]
+#[derive(Clone, Copy)]
 pub struct Mask {
     pub some: bool,
     pub place: usize,
@@ -101,7 +101,7 @@ pub fn child_with_id(image: &[u8], node: u32, id: u8) -> u32
 }
 
 // Where the ends of a run node's runs stand: how wide they are, and where the first of them starts.
-#[derive(Drop)]
+#[derive(Clone, Copy)]
 pub struct EndsAt {
     pub width: usize,
     pub place: usize,

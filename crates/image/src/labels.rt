@@ -5,7 +5,7 @@ ghost use Rattle.image.specs.Types.{counted_for};
 use crate::type_code::TypeCode;
 
 // Which of a child's labels count.
-#[derive(Drop)]
+#[derive(Clone, Copy)]
 pub struct Counted {
     pub name: bool,
     pub flag: bool,

@@ -3,7 +3,7 @@ ghost use Rattle.std.specs.Prelude.{◌≡◌, ◌≤◌};
 ghost use Rattle.image.specs.TypeCode.{entry_of, layout_of, integer_width, width_of, child_rule, buffer_rule, takes_bitmap, p1_fits, p2_fits, is_text, is_union, key_signed, sign_bit, counts};
 
 // How a node stores its rows. Every code has one of these layouts.
-#[derive(Drop)]
+#[derive(Clone, Copy)]
 pub enum Layout {
     Null,
     Boolean,
@@ -21,7 +21,7 @@ pub enum Layout {
 }
 
 // How many children or buffers a node may have.
-#[derive(Drop)]
+#[derive(Clone, Copy)]
 pub enum Count {
     Exactly(u16),
     AtLeast(u16),
@@ -77,7 +77,7 @@ const WIDTHS: [usize; 44] = [
 ];
 
 // The code of a node's type. What a code says is asked of the code itself, as it stands in a record.
-#[derive(Drop)]
+#[derive(Clone, Copy)]
 pub struct TypeCode {
     pub code: u8,
 }

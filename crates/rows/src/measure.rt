@@ -11,7 +11,7 @@ use crate::value::{is_null, value_at};
 use accepted::column::{Column, column_of, first_run, remember, stay_of};
 
 // The room of an output after some bytes.
-#[derive(Drop)]
+#[derive(Clone, Copy)]
 pub enum Room {
     // so many bytes are left
     Left(usize),

@@ -19,7 +19,7 @@ use image::record::{
 };
 use image::type_code::{Layout, TypeCode};
 
-#[derive(Drop)]
+#[derive(Clone, Copy)]
 pub struct Value {
     // the number in front: a text's length, a list's count, a union's id, a Boolean's bit
     pub head: usize,

@@ -6,7 +6,7 @@ use crate::front::front;
 use crate::line::LINE_FEED;
 use crate::sizes::KEPT;
 
-#[derive(Drop)]
+#[derive(Clone, Copy)]
 pub struct Fed {
     // where the chunk goes on
     pub next: usize,

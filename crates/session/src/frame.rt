@@ -5,7 +5,7 @@ ghost use Rattle.session.specs.Frames.{piece_frame, close_frame, compare_frame, 
 use image::answer::Side;
 use image::bytes::{byte, le32};
 
-#[derive(Drop)]
+#[derive(Clone, Copy)]
 pub enum Frame {
     // a piece of an image, the bytes after the first
     Piece(Side),

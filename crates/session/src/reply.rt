@@ -9,7 +9,7 @@ use crate::sizes::{LONGEST_REPLY, OUTPUT};
 use answers::{Compared, Written};
 use image::answer::{Fault, Side};
 
-#[derive(Drop)]
+#[derive(Clone, Copy)]
 pub enum Reply {
     // 00
     Done,

@@ -11,26 +11,26 @@ use api::{check, compare, compare_range, write};
 use image::answer::{Checked, Side};
 
 // One side: how much of its store is used, and whether it is closed.
-#[derive(Drop)]
+#[derive(Clone, Copy)]
 pub struct SideState {
     pub used: usize,
     pub closed: bool,
 }
 
-#[derive(Drop)]
+#[derive(Clone, Copy)]
 pub struct State {
     pub left: SideState,
     pub right: SideState,
 }
 
 // A reply, and the side or the state after it.
-#[derive(Drop)]
+#[derive(Clone, Copy)]
 pub struct SideStepped {
     pub state: SideState,
     pub reply: Reply,
 }
 
-#[derive(Drop)]
+#[derive(Clone, Copy)]
 pub struct Stepped {
     pub state: State,
     pub reply: Reply,

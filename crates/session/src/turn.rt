@@ -13,7 +13,7 @@ use crate::step::{State, both_open, step};
 const NO_LINE: usize = 0;
 
 // How far an input was taken.
-#[derive(Drop)]
+#[derive(Clone, Copy)]
 pub struct Progress {
     // how many characters of a line are kept: none where no line has begun, and 195 where there would be more
     pub kept: usize,
@@ -21,13 +21,13 @@ pub struct Progress {
 }
 
 // The state after a line, and how many characters of its reply's line stand at the text's front.
-#[derive(Drop)]
+#[derive(Clone, Copy)]
 pub struct Answered {
     pub state: State,
     pub printed: usize,
 }
 
-#[derive(Drop)]
+#[derive(Clone, Copy)]
 pub struct Taken {
     // where the chunk goes on
     pub next: usize,

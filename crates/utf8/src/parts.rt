@@ -15,7 +15,7 @@ use crate::walk::{in_one, walk_bytes};
 const BLOCK: usize = 64;
 
 // What is left of a part: the place that the walk has come to, the part's end, and the state.
-#[derive(Drop)]
+#[derive(Clone, Copy)]
 pub(crate) struct Part {
     pub at: usize,
     pub stop: usize,
@@ -23,7 +23,7 @@ pub(crate) struct Part {
 }
 
 // The four parts of a text.
-#[derive(Drop)]
+#[derive(Clone, Copy)]
 pub(crate) struct Parts {
     pub a: Part,
     pub b: Part,

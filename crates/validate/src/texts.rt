@@ -20,7 +20,7 @@ use utf8::{is_text, walks_well};
 
 // Where the texts of a node's rows stand, for a loop that asks for many rows: whether they are views, where the view or the
 // offset of row 0 stands, how wide it is, and where the text starts that offsets count in.
-#[derive(Drop)]
+#[derive(Clone, Copy)]
 pub struct TextsAt {
     pub views: bool,
     pub place: usize,
@@ -30,14 +30,14 @@ pub struct TextsAt {
 
 // What was found of the data buffers of views: none has a byte above 7F; each is well-formed, as one text. Of other texts
 // neither is said.
-#[derive(Drop)]
+#[derive(Clone, Copy)]
 pub struct Buffers {
     pub plain: bool,
     pub formed: bool,
 }
 
 // Where a text stands.
-#[derive(Drop)]
+#[derive(Clone, Copy)]
 pub struct Span {
     pub place: usize,
     pub len: usize,

@@ -14,7 +14,7 @@ use image::type_code::TypeCode;
 const LARGEST_ID: usize = 127;
 
 // Of a node, the node that it is a child of, and where that one's children end; the node itself where it is no child.
-#[derive(Drop)]
+#[derive(Clone, Copy)]
 pub struct Parent {
     pub node: u32,
     pub end: usize,
@@ -23,7 +23,7 @@ pub struct Parent {
 // What a walk over the nodes knows at a node: the sums of the child and buffer counts before it, which number its first
 // child and its first buffer; its parent; and of the whole image the same sums over all nodes, and how many nodes are
 // not too deep.
-#[derive(Drop)]
+#[derive(Clone, Copy)]
 pub struct Walk {
     pub children: usize,
     pub buffers: usize,

@@ -15,7 +15,7 @@ use image::type_code::{Layout, TypeCode};
 
 // Where the elements of row 0 of two nodes stand, and the texts' bytes. Nodes of other layouts, or with bitmaps, are
 // neither fixed nor texts.
-#[derive(Drop)]
+#[derive(Clone, Copy)]
 pub struct Leaves {
     pub fixed: bool,
     pub texts: bool,

@@ -23,7 +23,7 @@ const CHUNK: usize = 1024;
 const WORD: usize = 64;
 
 // Where some elements of a node stand: the place of the first, and the length of all.
-#[derive(Drop)]
+#[derive(Clone, Copy)]
 pub struct Span {
     pub at: usize,
     pub len: usize,
@@ -135,7 +135,7 @@ fn valid_equal(a: &[u8], b: &[u8], at: usize, bt: usize, w: usize, bits: usize, 
 
 // What is read once of two nodes: the width of their elements, where those of row 0 start, and the left bitmap and its bit
 // of row 0.
-#[derive(Drop)]
+#[derive(Clone, Copy)]
 pub struct Columns {
     pub width: usize,
     pub left: usize,

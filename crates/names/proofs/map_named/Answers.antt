@@ -11,12 +11,12 @@ returns-then-code-ne-MAP c = rw (← c.code.ensures.value, ne_eqb _ 42 c.if-code
 
 pub returns-then-not-is_named : goal.returns-then-not-is_named
 unfolding map_named named ascii
-returns-then-not-is_named c = rw (← c.code.ensures.value, eq-eqb _ 42 c.if-code-ne-MAP.false, ← c.first_child-entries.ensures.value, ← c.first_child-key.ensures.value, ← c.is_named.ensures, not-true c.is_named.result c.if-not-is_named.true)
+returns-then-not-is_named c = rw (← c.code.ensures.value, eq-eqb _ 42 c.if-code-ne-MAP.false, ← c.first_child-entries.ensures.value, ← c.first_child-key.ensures.value, ← c.is_named.ensures, c.if-not-is_named.true)
 
 pub returns-then-not-is_named-2 : goal.returns-then-not-is_named-2
 unfolding map_named named ascii
-returns-then-not-is_named-2 c = rw (← c.code.ensures.value, eq-eqb _ 42 c.if-code-ne-MAP.false, ← c.first_child-entries.ensures.value, ← c.first_child-key.ensures.value, ← c.is_named.ensures, not-false c.is_named.result c.if-not-is_named.false, ← c.is_named-2.ensures, not-true c.is_named-2.result c.if-not-is_named-2.true)
+returns-then-not-is_named-2 c = rw (← c.code.ensures.value, eq-eqb _ 42 c.if-code-ne-MAP.false, ← c.first_child-entries.ensures.value, ← c.first_child-key.ensures.value, ← c.is_named.ensures, c.if-not-is_named.false, ← c.is_named-2.ensures, c.if-not-is_named-2.true)
 
 pub returns : goal.returns
 unfolding map_named named ascii
-returns c = rw (← c.code.ensures.value, eq-eqb _ 42 c.if-code-ne-MAP.false, ← c.first_child-entries.ensures.value, ← c.first_child-key.ensures.value, ← c.is_named.ensures, not-false c.is_named.result c.if-not-is_named.false, ← c.is_named-2.ensures, not-false c.is_named-2.result c.if-not-is_named-2.false, ← c.is_named-3.ensures)
+returns c = rw (← c.code.ensures.value, eq-eqb _ 42 c.if-code-ne-MAP.false, ← c.first_child-entries.ensures.value, ← c.first_child-key.ensures.value, ← c.is_named.ensures, c.if-not-is_named.false, ← c.is_named-2.ensures, c.if-not-is_named-2.false, ← c.is_named-3.ensures)

@@ -13,10 +13,10 @@ loop-k-init c = rest_none _ _ _
 
 pub returns-then-not-map_named : goal.returns-then-not-map_named
 unfolding maps_named
-returns-then-not-map_named c = every_fails _ _ _ _ c.loop-k-test.true c.loop-k.invariant (rw (zero-add, ← c.map_named.ensures) (not-true _ c.if-not-map_named.true)) ∙ rw (← c.node_count-nodes.ensures.value)
+returns-then-not-map_named c = every_fails _ _ _ _ c.loop-k-test.true c.loop-k.invariant (rw (zero-add, ← c.map_named.ensures) (c.if-not-map_named.true)) ∙ rw (← c.node_count-nodes.ensures.value)
 
 pub loop-k-preserved : goal.loop-k-preserved
-loop-k-preserved c = every_more _ _ _ _ c.loop-k-test.true c.loop-k.invariant (rw (zero-add, ← c.map_named.ensures) (not-false _ c.if-not-map_named.false))
+loop-k-preserved c = every_more _ _ _ _ c.loop-k-test.true c.loop-k.invariant (rw (zero-add, ← c.map_named.ensures) (c.if-not-map_named.false))
 
 pub returns : goal.returns
 unfolding maps_named

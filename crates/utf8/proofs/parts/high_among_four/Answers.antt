@@ -1,0 +1,19 @@
+-- `utf8::parts::high_among_four` meets its contract.
+-- The loop keeps that what was found is what stands in the bytes passed; the measure is how many are left.
+use mathlib.Core.Path.{◌≡◌}
+use Prim.Native.Nat.{◌-◌}
+use native.Mathlib.Omega.{arith}
+use borrow.Author.Rules.{rules}
+use Rattle.utf8.specs.Ascii.{high}
+use Rattle.utf8.proofs.FourParts.{high_none, high_more}
+use Rattle.utf8.proofs.parts.high_among_four.Goals as goal
+
+pub loop-i-init : goal.loop-i-init
+loop-i-init c = (search rules, high_none _ _ _ _ _)
+
+pub loop-i-preserved : goal.loop-i-preserved
+unfolding high
+loop-i-preserved c = (search rules, rw (high_more, ← c.loop-i.invariant.1))
+
+pub returns : goal.returns
+returns c = let e : c.args.n ≡ c.loop-i.i = omega arith in rw e c.loop-i.invariant.1
