@@ -1,0 +1,27 @@
+-- The measures and the invariants of the cycle.
+use Rattle.image.specs.Row.{row_at}
+use Rattle.accepted.specs.Runs.{Remembered}
+use Rattle.rows.proofs.RowParts.{RowValue, child_bytes}
+use Rattle.rows.proofs.Rooms.{PiecesToMeasure}
+use Prim.Native.Nat.{◌-◌}
+use Rattle.rows.proofs.Stretches.{Measuring}
+use Prim.Native.Nat.{◌*◌, ◌+◌}
+use Rattle.rows.proofs.measure.+measure_row_measure_rows.Given as goal
+
+abbrev pub decreases-measure_row : goal.decreases-measure_row
+decreases-measure_row l = 2 * l.depth
+
+abbrev pub decreases-measure_rows : goal.decreases-measure_rows
+decreases-measure_rows l = 2 * l.depth + 1
+
+abbrev pub invariant-measure_row-loop-c : goal.invariant-measure_row-loop-c
+invariant-measure_row-loop-c l = RowValue l.depth l.s l.node l.i l.v × (PiecesToMeasure (child_bytes (row_at (l.depth - 1) l.s) l.v) l.v.child l.v.parts l.initial.left l.left l.c × Remembered l.s l.runs)
+
+abbrev pub decreases-measure_row-loop-c : goal.decreases-measure_row-loop-c
+decreases-measure_row-loop-c l = l.v.parts - l.c
+
+abbrev pub invariant-measure_rows-loop-k : goal.invariant-measure_rows-loop-k
+invariant-measure_rows-loop-k l = Measuring l.depth l.s l.node l.column l.i l.n l.room l.run l.left l.k × Remembered l.s l.runs
+
+abbrev pub decreases-measure_rows-loop-k : goal.decreases-measure_rows-loop-k
+decreases-measure_rows-loop-k l = l.n - l.k

@@ -1,0 +1,18 @@
+-- `list_view_value` gives the size and the child rows.
+-- An offset and its size stay within the child.
+use native.Mathlib.Omega.{arith}
+use Rattle.accepted.proofs.Nodes.{size_read, part_node, part_small}
+use Rattle.rows.proofs.value.list_view_value.Goals as goal
+
+pub offset_at-from-requires : goal.offset_at-from-requires
+offset_at-from-requires c = ((part_node c.requires.part).widths.list_view c.requires.node_value, omega (arith, part_small c.requires.part))
+
+pub nth-count-requires : goal.nth-count-requires
+nth-count-requires c = record {
+  near = omega (arith, c.buffer_place.ensures.small);
+  narrow = omega (arith, c.element_width.ensures, (part_node c.requires.part).widths.list_view c.requires.node_value);
+  few = omega (arith, part_small c.requires.part);
+}
+
+pub returns : goal.returns
+returns c = rw (c.nested.ensures, c.offset_at-from.ensures, size_read _ _ _ c.element_width.ensures c.buffer_place.ensures c.nth-count.ensures, c.first_child.ensures.value)

@@ -1,0 +1,27 @@
+-- The measures and the invariants of the cycle.
+use Rattle.image.specs.Row.{row_at}
+use Rattle.accepted.specs.Runs.{Remembered}
+use Rattle.rows.proofs.RowParts.{RowValue, child_bytes}
+use Rattle.rows.proofs.Stretches.{Writing}
+use Rattle.rows.proofs.Over.{PiecesToPut}
+use Prim.Native.Nat.{◌-◌}
+use Prim.Native.Nat.{◌*◌, ◌+◌}
+use Rattle.rows.proofs.write.+write_row_write_rows.Given as goal
+
+abbrev pub decreases-write_row : goal.decreases-write_row
+decreases-write_row l = 2 * l.depth
+
+abbrev pub decreases-write_rows : goal.decreases-write_rows
+decreases-write_rows l = 2 * l.depth + 1
+
+abbrev pub invariant-write_row-loop-c : goal.invariant-write_row-loop-c
+invariant-write_row-loop-c l = RowValue l.depth l.s l.node l.i l.v × (PiecesToPut (child_bytes (row_at (l.depth - 1) l.s) l.v) l.v.child l.v.parts l.initial.out l.initial.next l.out l.next l.c × Remembered l.s l.runs)
+
+abbrev pub decreases-write_row-loop-c : goal.decreases-write_row-loop-c
+decreases-write_row-loop-c l = l.v.parts - l.c
+
+abbrev pub invariant-write_rows-loop-k : goal.invariant-write_rows-loop-k
+invariant-write_rows-loop-k l = Writing l.depth l.s l.node l.column l.i l.n l.initial.out l.at l.out l.run l.next l.k × Remembered l.s l.runs
+
+abbrev pub decreases-write_rows-loop-k : goal.decreases-write_rows-loop-k
+decreases-write_rows-loop-k l = l.n - l.k

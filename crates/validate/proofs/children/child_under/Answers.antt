@@ -1,0 +1,37 @@
+-- `child_under` finds whether a child has too few rows.
+-- The loop keeps that the test of all children is that of those from number k on.
+use mathlib.Core.Path.{◌≡◌}
+use mathlib.Core.Bool.{true, false}
+use mathlib.Core.List.{List}
+use Prim.Native.Nat.{ℕ, ◌-◌, ◌<◌, ◌≤◌}
+use native.Mathlib.Omega.{arith}
+use borrow.Author.Tests.{lt-ltb, le-ltb}
+use Rattle.image.specs.Record.{length_of}
+use Rattle.image.specs.Faults.{rows_under, child_under}
+use Rattle.image.proofs.Loops.{rest_none, any_more, any_found, any_done}
+use Rattle.validate.proofs.children.child_under.Goals as goal
+
+module _ (s : List ℕ) (n k r : ℕ) (e : r ≡ length_of s k) where
+  few : r < n → rows_under s n k ≡ true
+  unfolding rows_under
+  few lt = rw (← e, lt-ltb r n lt)
+  enough : n ≤ r → rows_under s n k ≡ false
+  unfolding rows_under
+  enough le = rw (← e, le-ltb r n le)
+
+pub loop-k-init : goal.loop-k-init
+loop-k-init c = rest_none _ _ _
+
+pub overflow_add-first : goal.overflow_add-first
+overflow_add-first c = omega (arith, c.first_child-first.ensures.small, c.child_count-count.ensures.small)
+
+pub returns-then-length-rows : goal.returns-then-length-rows
+unfolding child_under
+returns-then-length-rows c = rw (← c.first_child-first.ensures.value, ← c.child_count-count.ensures.value) (any_found _ _ _ _ c.loop-k-test.true c.loop-k.invariant (few _ _ _ _ c.length.ensures.value c.if-length-rows.true))
+
+pub loop-k-preserved : goal.loop-k-preserved
+loop-k-preserved c = any_more _ _ _ _ c.loop-k-test.true c.loop-k.invariant (enough _ _ _ _ c.length.ensures.value c.if-length-rows.false)
+
+pub returns : goal.returns
+unfolding child_under
+returns c = rw (← c.first_child-first.ensures.value, ← c.child_count-count.ensures.value) (any_done _ _ _ _ c.loop-k-test.false c.loop-k.invariant)

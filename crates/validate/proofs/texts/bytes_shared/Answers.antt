@@ -1,0 +1,24 @@
+-- The lengths of the views are added up, and the sum fits.
+-- The loop keeps that the sum is below 2 ^ 32 for each view.
+use Rattle.validate.proofs.TextRows.{small_image, few_rows, view_fits}
+use Prim.Native.Nat.{◌-◌}
+use native.Mathlib.Omega.{arith}
+use Rattle.validate.proofs.texts.bytes_shared.Goals as goal
+
+pub loop-i-init : goal.loop-i-init
+loop-i-init c = (omega arith, omega arith)
+
+pub overflow_mul-i : goal.overflow_mul-i
+overflow_mul-i c = omega (arith, view_fits c.requires.0 c.requires.1 c.requires.2 c.loop-i.i (omega (arith, c.length-rows.ensures.value)), small_image c.requires.0)
+
+pub overflow_add-at : goal.overflow_add-at
+overflow_add-at c = omega (arith, view_fits c.requires.0 c.requires.1 c.requires.2 c.loop-i.i (omega (arith, c.length-rows.ensures.value)), small_image c.requires.0)
+
+pub quad-sum-requires : goal.quad-sum-requires
+quad-sum-requires c = omega (arith, view_fits c.requires.0 c.requires.1 c.requires.2 c.loop-i.i (omega (arith, c.length-rows.ensures.value)))
+
+pub overflow_add-sum : goal.overflow_add-sum
+overflow_add-sum c = omega (arith, c.loop-i.invariant.0, c.quad-sum.ensures.small, c.length-rows.ensures.value, few_rows c.requires.0)
+
+pub loop-i-preserved : goal.loop-i-preserved
+loop-i-preserved c = (omega (arith, c.loop-i.invariant.0, c.quad-sum.ensures.small), omega arith)

@@ -1,0 +1,25 @@
+-- Where `is_plain` says yes, the view's text is well-formed.
+-- A short view holds its text; a long one's is a part of a data buffer.
+use mathlib.Core.Path.{refl, sym, ◌∙◌}
+use borrow.Author.Tests.{not-true}
+use Rattle.validate.proofs.TextRows.{small_image, view_fits, plain_short, plain_long}
+use native.Mathlib.Omega.{arith}
+use Rattle.validate.proofs.texts.is_plain.Goals as goal
+
+pub overflow_mul-view : goal.overflow_mul-view
+overflow_mul-view c = omega (arith, view_fits c.requires.0.node c.requires.0.read c.requires.1 _ c.requires.0.row, small_image c.requires.0.node)
+
+pub overflow_add-view : goal.overflow_add-view
+overflow_add-view c = omega (arith, view_fits c.requires.0.node c.requires.0.read c.requires.1 _ c.requires.0.row, small_image c.requires.0.node)
+
+pub quad-requires : goal.quad-requires
+quad-requires c = omega (arith, view_fits c.requires.0.node c.requires.0.read c.requires.1 _ c.requires.0.row)
+
+pub high_among-requires : goal.high_among-requires
+high_among-requires c = omega (arith, view_fits c.requires.0.node c.requires.0.read c.requires.1 _ c.requires.0.row)
+
+pub returns-then-quad-le-INLINE_LENGTH : goal.returns-then-quad-le-INLINE_LENGTH
+returns-then-quad-le-INLINE_LENGTH c = λ e. plain_short c.requires.0.node c.requires.0.read c.requires.1 _ c.quad.ensures.value c.requires.0.row c.requires.0.not_null c.if-quad-le-INLINE_LENGTH.true (sym c.high_among.ensures ∙ not-true _ e)
+
+pub returns : goal.returns
+returns c = λ e. plain_long c.requires.0.node c.requires.0.read c.requires.1 _ c.quad.ensures.value c.requires.0.row c.requires.0.not_null c.if-quad-le-INLINE_LENGTH.false refl (c.requires.2.plain e)

@@ -1,0 +1,13 @@
+-- `rows_fault` tells whether a row that is not null has an ill-formed text.
+-- The loop keeps what is left of the test.
+use Rattle.image.specs.Ranges.{any}
+use Rattle.image.specs.Faults.{text_row_fault}
+use Rattle.image.proofs.Loops.{Rest}
+use Prim.Native.Nat.{◌-◌}
+use Rattle.validate.proofs.texts.rows_fault.Given as goal
+
+abbrev pub invariant-loop-i : goal.invariant-loop-i
+invariant-loop-i l = Rest (any (text_row_fault l.image l.node)) 0 l.rows l.i
+
+abbrev pub decreases-loop-i : goal.decreases-loop-i
+decreases-loop-i l = l.rows - l.i

@@ -1,0 +1,39 @@
+-- The text of a row stands where the span says, and lies inside.
+-- A view's bytes stand where the callee says; by offsets a text goes from its own offset up to the next.
+use Prim.Native.Nat.{◌+◌}
+use Rattle.validate.proofs.TextRows.{small_image, few_rows, view_fits, viewed, view_span, offset_inside, starts_apart, offset_span}
+use native.Mathlib.Omega.{arith}
+use Rattle.validate.proofs.texts.text_of.Goals as goal
+
+pub overflow_mul-view : goal.overflow_mul-view
+overflow_mul-view c = omega (arith, view_fits c.requires.node c.requires.read c.if-at.true _ c.requires.row, small_image c.requires.node)
+
+pub overflow_add-view : goal.overflow_add-view
+overflow_add-view c = omega (arith, view_fits c.requires.node c.requires.read c.if-at.true _ c.requires.row, small_image c.requires.node)
+
+pub quad-len-requires : goal.quad-len-requires
+quad-len-requires c = omega (arith, view_fits c.requires.node c.requires.read c.if-at.true _ c.requires.row)
+
+pub data_place-requires : goal.data_place-requires
+data_place-requires c = viewed c.requires.node c.requires.read c.if-at.true _ c.quad-len.ensures.value c.requires.row c.requires.not_null
+
+pub returns-then-at : goal.returns-then-at
+returns-then-at c = view_span c.requires.node c.requires.read c.if-at.true _ c.quad-len.ensures.value c.data_place.ensures
+
+pub nth_inside-from-requires : goal.nth_inside-from-requires
+nth_inside-from-requires c = offset_inside c.requires.node c.requires.read c.if-at.false _ (omega (arith, c.requires.row))
+
+pub overflow_add-i : goal.overflow_add-i
+overflow_add-i c = omega (arith, c.requires.row, few_rows c.requires.node)
+
+pub nth_inside-to-requires : goal.nth_inside-to-requires
+nth_inside-to-requires c = offset_inside c.requires.node c.requires.read c.if-at.false _ (omega (arith, c.requires.row))
+
+pub overflow_add-result : goal.overflow_add-result
+overflow_add-result c = omega (arith, (offset_span c.requires.node c.requires.read c.if-at.false c.requires.row c.nth_inside-from.ensures.value c.nth_inside-to.ensures.value).inside, small_image c.requires.node)
+
+pub overflow_sub-result : goal.overflow_sub-result
+overflow_sub-result c = starts_apart c.requires.node c.requires.read c.if-at.false {i = c.args.i} {j = c.args.i + 1} (omega arith) (omega (arith, c.requires.row)) c.nth_inside-from.ensures.value c.nth_inside-to.ensures.value
+
+pub returns : goal.returns
+returns c = offset_span c.requires.node c.requires.read c.if-at.false c.requires.row c.nth_inside-from.ensures.value c.nth_inside-to.ensures.value

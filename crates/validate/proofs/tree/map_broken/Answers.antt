@@ -1,0 +1,16 @@
+-- The test of a Map's child by its code and its count.
+-- The definition's reads are the results, and each branch answers one of its tests.
+use borrow.Author.Tests.{eq-eqb, ne_eqb}
+use Rattle.image.specs.Faults.{map_entries}
+use Rattle.validate.proofs.tree.map_broken.Goals as goal
+
+pub returns-then-code-ne-MAP : goal.returns-then-code-ne-MAP
+returns-then-code-ne-MAP c = rw (← c.code.ensures.value, ne_eqb _ _ c.if-code-ne-MAP.true)
+
+pub returns-then-code-ne-STRUCT : goal.returns-then-code-ne-STRUCT
+unfolding map_entries
+returns-then-code-ne-STRUCT c = rw (← c.code.ensures.value, eq-eqb _ _ c.if-code-ne-MAP.false, ← c.first_child-entries.ensures.value, ← c.code-2.ensures.value, ne_eqb _ _ c.if-code-ne-STRUCT.true)
+
+pub returns : goal.returns
+unfolding map_entries
+returns c = rw (← c.code.ensures.value, eq-eqb _ _ c.if-code-ne-MAP.false, ← c.first_child-entries.ensures.value, ← c.code-2.ensures.value, eq-eqb _ _ c.if-code-ne-STRUCT.false, ← c.child_count.ensures.value)

@@ -1,0 +1,22 @@
+-- The test of run ends by their code and their bitmap.
+-- The definition's reads are the results, and each branch answers one of its tests.
+use mathlib.Core.Path.{sym}
+use mathlib.Core.Bool.{not-not}
+use borrow.Author.Tests.{eq-eqb, ne_eqb, le-leb, lt-leb}
+use Rattle.image.specs.Faults.{run_ends}
+use Rattle.validate.proofs.tree.runs_broken.Goals as goal
+
+pub returns-then-code-ne-RUN_END_ENCODED : goal.returns-then-code-ne-RUN_END_ENCODED
+returns-then-code-ne-RUN_END_ENCODED c = rw (← c.code.ensures.value, ne_eqb _ _ c.if-code-ne-RUN_END_ENCODED.true)
+
+pub returns-then-c-lt-INT16 : goal.returns-then-c-lt-INT16
+unfolding run_ends
+returns-then-c-lt-INT16 c = rw (← c.code.ensures.value, eq-eqb _ _ c.if-code-ne-RUN_END_ENCODED.false, ← c.first_child-ends.ensures.value, ← c.code-c.ensures.value, lt-leb _ _ c.if-c-lt-INT16.true)
+
+pub returns-then-c-gt-INT64 : goal.returns-then-c-gt-INT64
+unfolding run_ends
+returns-then-c-gt-INT64 c = rw (← c.code.ensures.value, eq-eqb _ _ c.if-code-ne-RUN_END_ENCODED.false, ← c.first_child-ends.ensures.value, ← c.code-c.ensures.value, le-leb _ _ c.if-c-lt-INT16.false, lt-leb _ _ c.if-c-gt-INT64.true)
+
+pub returns : goal.returns
+unfolding run_ends
+returns c = rw (← c.code.ensures.value, eq-eqb _ _ c.if-code-ne-RUN_END_ENCODED.false, ← c.first_child-ends.ensures.value, ← c.code-c.ensures.value, le-leb _ _ c.if-c-lt-INT16.false, le-leb _ _ c.if-c-gt-INT64.false, ← c.has_bitmap.ensures) (sym (not-not _))

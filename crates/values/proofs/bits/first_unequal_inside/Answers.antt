@@ -1,0 +1,24 @@
+-- The first unequal pair of two runs of whole words of bits, inside their slices.
+-- The invariant: the bits of the h words passed are the same; words differ first where their bits do.
+use mathlib.Core.Path.{◌≡◌}
+use Prim.Native.Nat.{◌+◌, ◌*◌, ◌-◌}
+use Rattle.values.proofs.Steps.{passed_none}
+use Rattle.values.proofs.FirstUnequal.{unequal_end, unequal_most}
+use Rattle.values.proofs.WordBits.{word_passed, word_found}
+use native.Mathlib.Omega.{arith}
+use Rattle.values.proofs.bits.first_unequal_inside.Goals as goal
+
+pub loop-h-init : goal.loop-h-init
+loop-h-init c = passed_none _ _ _ _
+
+pub overflow_add-result : goal.overflow_add-result
+overflow_add-result c = omega (arith, unequal_most _ _ _ _ c.first_apart.ensures, c.loop-h-test.true, c.requires.2)
+
+pub returns-then-x-y : goal.returns-then-x-y
+returns-then-x-y c = word_found _ _ _ _ _ _ _ _ c.loop-h.invariant (omega (arith, c.loop-h-test.true)) c.word_inside-x.ensures c.word_inside-y.ensures c.if-x-y.true c.first_apart.ensures
+
+pub loop-h-preserved : goal.loop-h-preserved
+loop-h-preserved c = let next : 64 * (c.loop-h.h + 1) ≡ 64 * c.loop-h.h + 64 = omega arith in rw next (word_passed _ _ _ _ _ _ _ _ c.loop-h.invariant (omega (arith, c.loop-h-test.true)) c.word_inside-x.ensures c.word_inside-y.ensures c.if-x-y.false)
+
+pub returns : goal.returns
+returns c = unequal_end _ _ _ _ _ c.loop-h.invariant (omega (arith, c.loop-h-test.false))

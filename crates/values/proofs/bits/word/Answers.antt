@@ -1,0 +1,15 @@
+-- The 64 bits from a bit on: the eight bytes at the bit's byte, shifted, and the byte after them above.
+-- Every byte of a slice is below 256; the rest are laws of Words.
+use mathlib.Core.Path.{◌∙◌}
+use Rattle.values.proofs.Words.{word_whole, word_split, word_fits}
+use native.Mathlib.Omega.{arith}
+use Rattle.values.proofs.bits.word.Goals as goal
+
+pub returns-then-shift-eq0 : goal.returns-then-shift-eq0
+returns-then-shift-eq0 c = word_whole _ (λ k. omega (arith, c.shared_slice_known-1.given k)) _ _ c.le64-low.ensures c.if-shift-eq0.true
+
+pub overflow_add-result : goal.overflow_add-result
+overflow_add-result c = omega (arith, word_fits _ (λ k. omega (arith, c.shared_slice_known-1.given k)) _ _ c.le64-low.ensures c.wide-high.result)
+
+pub returns : goal.returns
+returns c = word_split _ (λ k. omega (arith, c.shared_slice_known-1.given k)) _ _ c.le64-low.ensures (c.wide-high.ensures.value ∙ c.byte.ensures.value)

@@ -1,0 +1,12 @@
+-- The answer is true where names do not count, and else whether they are the same.
+-- By the test, and by what the callees give: the right name is the bytes at its place.
+use native.Mathlib.Omega.{arith}
+use Rattle.image.specs.Types.{name_of}
+use Rattle.values.proofs.types.name_agrees.Goals as goal
+
+pub name_is-requires : goal.name_is-requires
+name_is-requires c = omega (arith, c.name_place.ensures.small)
+
+pub returns : goal.returns
+unfolding name_of
+returns c = rw (c.if-not-counts.false, ← c.name_place.ensures.value, ← c.name_length.ensures.value) c.name_is.ensures
