@@ -27,10 +27,10 @@ pub loop-left-smaller : goal.loop-left-smaller
 loop-left-smaller c = omega (arith, c.least-m.ensures, c.loop-left.invariant.some, c.loop-left-test.true)
 
 pub loop-left-preserved : goal.loop-left-preserved
-loop-left-preserved c = again_more c.loop-left.invariant c.least-m.ensures c.put_again-next.ensures
+loop-left-preserved c = again_more c.loop-left.invariant c.least-m.ensures (c.put_again-next.ensures.value, c.put_again-next.ensures.out_after)
 
 pub shape_of-out : goal.shape_of-out
 shape_of-out c = c.loop-left.invariant.put.long
 
 pub returns : goal.returns
-returns c = again_done c.loop-left.invariant (omega (arith, c.loop-left-test.false))
+returns c = let both = again_done c.loop-left.invariant (omega (arith, c.loop-left-test.false)) in record { value = both.0; out_after = both.1 }

@@ -18,7 +18,7 @@ pub write_row-put_number-requires : goal.write_row-put_number-requires
 write_row-put_number-requires t c = null_fits c.requires.fits (row_null _ _ _ _ (sym c.is_null.ensures ∙ c.if-is_null.true))
 
 pub write_row-returns-then-is_null : goal.write_row-returns-then-is_null
-write_row-returns-then-is_null t c = and_last (null_put c.requires.fits (row_null _ _ _ _ (sym c.is_null.ensures ∙ c.if-is_null.true)) c.put_number.ensures) c.requires.remembered
+write_row-returns-then-is_null t c = let both = and_last (null_put c.requires.fits (row_null _ _ _ _ (sym c.is_null.ensures ∙ c.if-is_null.true)) (c.put_number.ensures.value, c.put_number.ensures.out_after)) c.requires.remembered in record { value = both.0; out_after = both.1.0; remembered_2 = both.1.1 }
 
 pub write_row-overflow_add-column : goal.write_row-overflow_add-column
 write_row-overflow_add-column t c = omega (arith, side_few c.requires.side, c.requires.kept.column.offset.value)
@@ -51,13 +51,13 @@ pub write_row-shape_of-runs : goal.write_row-shape_of-runs
 write_row-shape_of-runs t c = c.loop-c.invariant.1.1.sized ∙ sym c.requires.remembered.sized
 
 pub write_row-shape_of-out : goal.write_row-shape_of-out
-write_row-shape_of-out t c = c.loop-c.invariant.1.0.put.long ∙ c.put_own-next.auto.1.1.0
+write_row-shape_of-out t c = c.loop-c.invariant.1.0.put.long ∙ c.put_own-next.auto.out
 
 pub write_row-returns : goal.write_row-returns
-write_row-returns t c = and_last (put_last (value_put c.loop-c.invariant.0 c.requires.fits c.put_own-next.ensures.out_after c.put_own-next.ensures.value) (pieces_done c.loop-c.invariant.1.0 c.loop-c-test.false) (pieces_place c.loop-c.invariant.1.0 c.loop-c-test.false)) c.loop-c.invariant.1.1
+write_row-returns t c = let both = and_last (put_last (value_put c.loop-c.invariant.0 c.requires.fits c.put_own-next.ensures.out_after c.put_own-next.ensures.value) (pieces_done c.loop-c.invariant.1.0 c.loop-c-test.false) (pieces_place c.loop-c.invariant.1.0 c.loop-c-test.false)) c.loop-c.invariant.1.1 in record { value = both.0; out_after = both.1.0; remembered_2 = both.1.1 }
 
 pub write_rows-returns-then-n-eq0 : goal.write_rows-returns-then-n-eq0
-write_rows-returns-then-n-eq0 t c = and_last (none_written _ _ _ _ _ c.if-n-eq0.true c.requires.fits) c.requires.remembered
+write_rows-returns-then-n-eq0 t c = let both = and_last (none_written _ _ _ _ _ c.if-n-eq0.true c.requires.fits) c.requires.remembered in record { value = both.0; out_after = both.1.0; remembered_2 = both.1.1 }
 
 pub write_rows-first_run-run-requires : goal.write_rows-first_run-run-requires
 write_rows-first_run-run-requires t c = record { side = first_row c.requires.side c.if-n-eq0.false; column_read = c.column_of-column.ensures; remembered = c.requires.remembered }
@@ -96,7 +96,7 @@ pub write_rows-loop-k-smaller : goal.write_rows-loop-k-smaller
 write_rows-loop-k-smaller t c = omega (arith, c.stay_of-stay.ensures.some, c.stay_of-stay.ensures.within, c.loop-k-test.true)
 
 pub write_rows-loop-k-preserved : goal.write_rows-loop-k-preserved
-write_rows-loop-k-preserved t c = (writing_more c.loop-k.invariant.0 c.loop-k-test.true c.requires.side c.stay_of-stay.ensures (c.write_row-end.ensures.value, c.write_row-end.ensures.out_after) c.put_times-next.ensures, c.write_row-end.ensures.remembered_2)
+write_rows-loop-k-preserved t c = (writing_more c.loop-k.invariant.0 c.loop-k-test.true c.requires.side c.stay_of-stay.ensures (c.write_row-end.ensures.value, c.write_row-end.ensures.out_after) (c.put_times-next.ensures.value, c.put_times-next.ensures.out_after), c.write_row-end.ensures.remembered_2)
 
 pub write_rows-overflow_add-i-2 : goal.write_rows-overflow_add-i-2
 write_rows-overflow_add-i-2 t c = omega (arith, side_few c.requires.side, c.loop-k.invariant.0.few)
@@ -111,4 +111,4 @@ pub write_rows-shape_of-out : goal.write_rows-shape_of-out
 write_rows-shape_of-out t c = c.loop-k.invariant.0.put.put.long
 
 pub write_rows-returns : goal.write_rows-returns
-write_rows-returns t c = and_last (writing_done c.loop-k.invariant.0 c.loop-k-test.false) (remembered_now c.remember.ensures c.loop-k.invariant.1 (node_few c.requires.side) c.loop-k.invariant.0.kept)
+write_rows-returns t c = let both = and_last (writing_done c.loop-k.invariant.0 c.loop-k-test.false) (remembered_now c.remember.ensures c.loop-k.invariant.1 (node_few c.requires.side) c.loop-k.invariant.0.kept) in record { value = both.0; out_after = both.1.0; remembered_2 = both.1.1 }

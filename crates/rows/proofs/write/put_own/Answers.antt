@@ -8,10 +8,10 @@ pub put_number-number-requires : goal.put_number-number-requires
 put_number-number-requires c = omega (arith, own_fits _ _ c.requires.fits)
 
 pub put_number-bytes-requires : goal.put_number-bytes-requires
-put_number-bytes-requires c = omega (arith, own_fits _ _ c.requires.fits, c.put_number-number.ensures.value, c.put_number-number.auto.0)
+put_number-bytes-requires c = omega (arith, own_fits _ _ c.requires.fits, c.put_number-number.ensures.value, c.put_number-number.auto.out)
 
 pub put_bytes-requires : goal.put_bytes-requires
-put_bytes-requires c = (omega (arith, own_fits _ _ c.requires.fits, c.put_number-number.ensures.value, c.put_number-number.auto.0, c.put_number-bytes.ensures.value, c.put_number-bytes.auto.0), c.requires.size_in_bounds)
+put_bytes-requires c = (omega (arith, own_fits _ _ c.requires.fits, c.put_number-number.ensures.value, c.put_number-number.auto.out, c.put_number-bytes.ensures.value, c.put_number-bytes.auto.out), c.requires.size_in_bounds)
 
 pub returns : goal.returns
-returns c = own_put _ _ c.requires.fits c.put_number-number.ensures c.put_number-bytes.ensures c.put_bytes.ensures
+returns c = let both = own_put _ _ c.requires.fits (c.put_number-number.ensures.value, c.put_number-number.ensures.out_after) (c.put_number-bytes.ensures.value, c.put_number-bytes.ensures.out_after) (c.put_bytes.ensures.value, c.put_bytes.ensures.out_after) in record { value = both.0; out_after = both.1 }
