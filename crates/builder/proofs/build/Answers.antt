@@ -1,0 +1,27 @@
+-- `build` answers what the rows are, and puts their image where it fits.
+-- The string is no rows, or the plan answers; the image is then laid out as rows make it.
+use mathlib.Core.Path.{sym, refl, ◌∙◌}
+use Rattle.builder.proofs.Tables.{build_not_rows, build_too_long, build_laid, build_bytes}
+use native.Mathlib.Omega.{arith}
+use Rattle.builder.proofs.build.Goals as goal
+
+pub is_rows-requires : goal.is_rows-requires
+is_rows-requires c = record { s_value = c.requires; spans_value = refl }
+
+pub returns-then-not-is_rows : goal.returns-then-not-is_rows
+returns-then-not-is_rows c = let both = build_not_rows _ _ _ _ (sym c.is_rows.ensures.value ∙ c.if-not-is_rows.true) in record { value = both.0; out_after = both.1 }
+
+pub lengths_of-requires : goal.lengths_of-requires
+lengths_of-requires c = record { image_value = c.requires.0; spans_len = (c.is_rows.ensures.spanned.sized, refl) }
+
+pub plan-requires : goal.plan-requires
+plan-requires c = record { image_value = c.requires.0; lengths_len = (c.lengths_of.ensures.sized, c.is_rows.ensures.spanned.sized, refl) }
+
+pub returns-in_default : goal.returns-in_default
+returns-in_default c = let both = build_too_long _ _ _ _ c.requires (λ k. omega (arith, c.shared_slice_known-2-1.given k)) (sym c.is_rows.ensures.value ∙ c.if-not-is_rows.false) c.is_rows.ensures.spanned c.lengths_of.ensures (sym c.in_default.is ∙ c.plan.ensures.answer) in record { value = both.0; out_after = both.1 }
+
+pub put_table-requires : goal.put_table-requires
+put_table-requires c = build_laid _ _ _ _ c.requires (λ k. omega (arith, c.shared_slice_known-2-1.given k)) (sym c.is_rows.ensures.value ∙ c.if-not-is_rows.false) c.is_rows.ensures.spanned c.lengths_of.ensures (sym c.in-Bytes.is ∙ c.plan.ensures.answer) (c.plan.ensures.table _ c.in-Bytes.is)
+
+pub returns : goal.returns
+returns c = let both = build_bytes _ _ _ _ c.requires (λ k. omega (arith, c.shared_slice_known-2-1.given k)) (sym c.is_rows.ensures.value ∙ c.if-not-is_rows.false) c.is_rows.ensures.spanned c.lengths_of.ensures (sym c.in-Bytes.is ∙ c.plan.ensures.answer) c.put_table.ensures in record { value = both.0; out_after = both.1 }

@@ -1,0 +1,28 @@
+-- `put_entry` puts the entry of a buffer.
+-- Two numbers, one after the other.
+use mathlib.Core.Path.{refl}
+use Rattle.rows.proofs.Over.{put_start}
+use Rattle.builder.specs.Front.{entry_from}
+use Rattle.builder.proofs.Fields.{fits_sized, number_put, number_last}
+use Rattle.builder.proofs.Fronts.{entry_length}
+use native.Mathlib.Omega.{arith}
+use Rattle.builder.proofs.front.put_entry.Goals as goal
+
+pub offset_bounds-places-q : goal.offset_bounds-places-q
+offset_bounds-places-q c = omega (arith, c.requires.rise.2)
+
+pub bounds-places-q : goal.bounds-places-q
+bounds-places-q c = omega (arith, c.requires.rise.2, c.requires.rise.0.sized)
+
+pub put_number-next-requires : goal.put_number-next-requires
+put_number-next-requires c = omega (arith, fits_sized (entry_length _ _) c.requires.fits)
+
+pub length_from-requires : goal.length_from-requires
+length_from-requires c = c.requires.rise
+
+pub put_number-requires : goal.put_number-requires
+put_number-requires c = omega (arith, fits_sized (entry_length _ _) c.requires.fits, c.put_number-next.ensures.value, c.put_number-next.auto.out)
+
+pub returns : goal.returns
+unfolding entry_from
+returns c = let both = number_last _ _ _ c.length_from.ensures (c.put_number.ensures.value, c.put_number.ensures.out_after) (number_put _ _ _ refl (c.put_number-next.ensures.value, c.put_number-next.ensures.out_after) (put_start c.requires.fits)) in record { value = both.0; out_after = both.1 }
