@@ -17,6 +17,7 @@ passes (c ∷ cs) = same_whole (divided midway (10 ^ c.digits) c.number) c.kept 
 
 each_keeps : (cs : List Kept) → passes cs ≡ true → (c : Kept) → Memᴰ c cs → Keeps c
 unfolding passes
+each_keeps [] e c m = elim m [ ]
 each_keeps (x ∷ xs) e c (Memᴰ.head h) = subst Keeps (sym h) ((same_whole_lem _ _).0 (and_left _ (passes xs) e))
 each_keeps (x ∷ xs) e c (Memᴰ.tail m) =
     each_keeps xs (and_right (same_whole (divided midway (10 ^ x.digits) x.number) x.kept) (passes xs) e) c m

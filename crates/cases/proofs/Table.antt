@@ -47,6 +47,7 @@ passes (c ∷ cs) = same_bytes (answer c.call) c.expected && passes cs
 -- what passes, holds
 pub each_holds : (cs : List Case) → passes cs ≡ true → (c : Case) → Memᴰ c cs → Holds c
 unfolding passes
+each_holds [] e c m = elim m [ ]
 each_holds (x ∷ xs) e c (Memᴰ.head h) =
     subst Holds (sym h) (same_equal (answer x.call) x.expected (and_left _ (passes xs) e))
 each_holds (x ∷ xs) e c (Memᴰ.tail m) =

@@ -1,0 +1,41 @@
+-- The first byte says what the bytes ask for.
+-- Each arm of the match is the definition's.
+use Rattle.session.specs.Frames.{frame_of, by_kind}
+use borrow.Author.Tests.{ne_eqb}
+use Rattle.session.proofs.frame.parse.Goals as goal
+
+pub returns-then-frame-eq0 : goal.returns-then-frame-eq0
+unfolding frame_of
+returns-then-frame-eq0 c = rw c.if-frame-eq0.true
+
+pub returns-in-1 : goal.returns-in-1
+unfolding frame_of by_kind
+returns-in-1 c = rw (ne_eqb _ _ c.if-frame-eq0.false, ← c.byte.ensures.value, c.in-1.is) c.piece_frame.ensures
+
+pub returns-in-2 : goal.returns-in-2
+unfolding frame_of by_kind
+returns-in-2 c = rw (ne_eqb _ _ c.if-frame-eq0.false, ← c.byte.ensures.value, c.in-2.is) c.piece_frame-in-2.ensures
+
+pub returns-in-3 : goal.returns-in-3
+unfolding frame_of by_kind
+returns-in-3 c = rw (ne_eqb _ _ c.if-frame-eq0.false, ← c.byte.ensures.value, c.in-3.is) c.close_frame.ensures
+
+pub returns-in-4 : goal.returns-in-4
+unfolding frame_of by_kind
+returns-in-4 c = rw (ne_eqb _ _ c.if-frame-eq0.false, ← c.byte.ensures.value, c.in-4.is) c.compare_frame.ensures
+
+pub returns-in-5 : goal.returns-in-5
+unfolding frame_of by_kind
+returns-in-5 c = rw (ne_eqb _ _ c.if-frame-eq0.false, ← c.byte.ensures.value, c.in-5.is) c.range_frame.ensures
+
+pub returns-in-6 : goal.returns-in-6
+unfolding frame_of by_kind
+returns-in-6 c = rw (ne_eqb _ _ c.if-frame-eq0.false, ← c.byte.ensures.value, c.in-6.is) c.write_frame.ensures
+
+pub returns-in-7 : goal.returns-in-7
+unfolding frame_of by_kind
+returns-in-7 c = rw (ne_eqb _ _ c.if-frame-eq0.false, ← c.byte.ensures.value, c.in-7.is) c.empty_frame.ensures
+
+pub returns-in_default : goal.returns-in_default
+unfolding frame_of by_kind
+returns-in_default c = rw (ne_eqb _ _ c.if-frame-eq0.false, ← c.byte.ensures.value, ne_eqb _ _ c.in_default.in_default-own.rest.0.0.0.0.0.0.1, ne_eqb _ _ c.in_default.in_default-own.rest.0.0.0.0.0.1, ne_eqb _ _ c.in_default.in_default-own.rest.0.0.0.0.1, ne_eqb _ _ c.in_default.in_default-own.rest.0.0.0.1, ne_eqb _ _ c.in_default.in_default-own.rest.0.0.1, ne_eqb _ _ c.in_default.in_default-own.rest.0.1, ne_eqb _ _ c.in_default.in_default-own.rest.1)

@@ -1,0 +1,25 @@
+-- A digit's value, or 16 for any other character.
+-- Each way of the tests is the definition's.
+use Rattle.session.specs.Lines.{digit_of}
+use borrow.Author.Tests.{lt-ltb, le-ltb}
+use Rattle.session.proofs.line.digit.Goals as goal
+
+pub returns-then-c-lt48 : goal.returns-then-c-lt48
+unfolding digit_of
+returns-then-c-lt48 c = rw (lt-ltb _ _ c.if-c-lt48.true)
+
+pub returns-then-c-lt58 : goal.returns-then-c-lt58
+unfolding digit_of
+returns-then-c-lt58 c = rw (le-ltb _ _ c.if-c-lt48.false, lt-ltb _ _ c.if-c-lt58.true)
+
+pub returns-then-c-lt97 : goal.returns-then-c-lt97
+unfolding digit_of
+returns-then-c-lt97 c = rw (le-ltb _ _ c.if-c-lt48.false, le-ltb _ _ c.if-c-lt58.false, lt-ltb _ _ c.if-c-lt97.true)
+
+pub returns-then-c-lt103 : goal.returns-then-c-lt103
+unfolding digit_of
+returns-then-c-lt103 c = rw (le-ltb _ _ c.if-c-lt48.false, le-ltb _ _ c.if-c-lt58.false, le-ltb _ _ c.if-c-lt97.false, lt-ltb _ _ c.if-c-lt103.true)
+
+pub returns : goal.returns
+unfolding digit_of
+returns c = rw (le-ltb _ _ c.if-c-lt48.false, le-ltb _ _ c.if-c-lt58.false, le-ltb _ _ c.if-c-lt97.false, le-ltb _ _ c.if-c-lt103.false)
