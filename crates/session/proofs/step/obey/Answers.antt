@@ -8,6 +8,9 @@ use Rattle.session.proofs.step.obey.Goals as goal
 pub slice_bounds-obey_piece-count : goal.slice_bounds-obey_piece-count
 slice_bounds-obey_piece-count c = piece_long _ _ _ c.parse.ensures c.in-Piece.is
 
+pub slice_bounds-obey_piece-start : goal.slice_bounds-obey_piece-start
+slice_bounds-obey_piece-start c = piece_long _ _ _ c.parse.ensures c.in-Piece.is
+
 pub returns-in-Piece : goal.returns-in-Piece
 unfolding after_frame
 returns-in-Piece c = rw (← c.parse.ensures, c.in-Piece.is, ← after_first c.args.frame.now) (record { value = c.obey_piece.ensures.value; left_after = c.obey_piece.ensures.left_after; right_after = c.obey_piece.ensures.right_after; out_after = refl })

@@ -39,4 +39,5 @@ returns c =
     let n = c.front-n.result in
     let whole : n ≡ length c.args.bytes.now = omega (arith, c.loop-k.invariant.1, c.if-n-bytes.false) in
     let all : c.loop-k.k ≡ n = omega (arith, c.loop-k.invariant.0, c.loop-k-test.false) in
-    piece_fits _ c.args.side_state _ _ n c.if-side_state.false whole c.loop-k.invariant.2 (c.loop-k.invariant.3.same ∙ ap (paste c.args.store.now c.args.side_state.used c.args.bytes.now) all)
+    let both = piece_fits _ c.args.side_state _ _ n c.if-side_state.false whole c.loop-k.invariant.2 (c.loop-k.invariant.3.same ∙ ap (paste c.args.store.now c.args.side_state.used c.args.bytes.now) all) in
+    record { value = both.0; store_after = both.1 }

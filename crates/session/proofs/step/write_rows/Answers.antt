@@ -18,4 +18,6 @@ unfolding write_reply write_out
 returns c =
     let closed = not-false c.args.side_state.closed c.if-not-side_state.false in
     let image = front_image _ c.args.side_state _ c.filled-end.ensures in
-    (c.written_reply.ensures ∙ rw (c.write.ensures.value, image, closed), c.write.ensures.out_after ∙ rw (image, closed))
+    record {
+      value = c.written_reply.ensures ∙ rw (c.write.ensures.value, image, closed);
+      out_after = c.write.ensures.out_after ∙ rw (image, closed) }
