@@ -3,15 +3,15 @@
 
 use session::sizes::{KEPT, LONGEST_REPLY, OUTPUT, STORE};
 use session::turn::{end, start, turn};
+use std::io;
+use std::io::{Read, Write};
 
 const CHUNK: usize = 65536;
 
-const INPUT: i32 = 0;
-
-const PRINTED: i32 = 1;
-
 // Reads to the end of the input. Nothing is done after a reply that could not be printed, or a read that failed.
-fn main() {
+fn main(rt: HostRuntime) -> io::Result<()> {
+    let mut input = rt.stdin();
+    let mut printed = rt.stdout();
     let mut line = [0u8; KEPT];
     let mut left = [0u8; STORE];
     let mut right = [0u8; STORE];
@@ -22,16 +22,11 @@ fn main() {
     let mut turns = u64::MAX;
     while turns > 0 {
         turns -= 1;
-        let got = libc::read(INPUT, &mut chunk);
-        if got < 0 {
-            return;
-        }
-        let n = io::count(got, &chunk);
+        let n = input.read(&mut chunk)?;
         if n == 0 {
             let last = end(progress, &line, &mut left, &mut right, &mut out, &mut text);
             let k = last.printed;
-            io::write_all(PRINTED, &text[..k]);
-            return;
+            return printed.write_all(&text[..k]);
         }
         let mut at: usize = 0;
         while at < n {
@@ -46,11 +41,10 @@ fn main() {
                 &mut text,
             );
             let k = taken.printed;
-            if !io::write_all(PRINTED, &text[..k]) {
-                return;
-            }
+            printed.write_all(&text[..k])?;
             at = taken.next;
             progress = taken.progress;
         }
     }
+    Ok(())
 }
