@@ -3,7 +3,7 @@
 use mathlib.Core.Path.{◌≡◌, refl, ap, subst, ◌∙◌}
 use mathlib.Core.Bool.{Bool, true, false, cond}
 use mathlib.Core.List.{List, ◌++◌}
-use Prim.Native.Nat.{ℕ, zero, suc, ◌+◌, ◌*◌, ◌-◌, ◌/◌, ◌%◌, ◌≤◌, ◌<◌}
+use Prim.Native.Nat.{ℕ, zero, suc, ◌+◌, ◌*◌, ◌/◌, ◌%◌, ◌≤◌, ◌<◌}
 use native.Mathlib.Nat.{zero-add, add-zero, suc-mul}
 use native.Mathlib.Omega.{arith}
 use lib.ListN.{length, length-append}
@@ -11,7 +11,6 @@ use lib.Dec.{eqb}
 use borrow.Author.Tests.{ne_eqb}
 use Rattle.image.specs.Ranges.{sum_to, pieces}
 use Rattle.image.specs.Bytes.{byte_at, AllBytes, number_at, number_bytes}
-use Rattle.image.specs.Record
 use Rattle.image.specs.Record.{node_count, buffer_total, record_place, entry_place, tables_end, code_of, flags_of, id_of, name_length, p1_of, p2_of, length_of, offset_of, name_place, bitmap_place, bitmap_length, first_bit, first_child, child_count, first_buffer, buffer_count, buffer_start, buffer_place, buffer_length, has_bitmap}
 use Rattle.image.specs.TypeCode.{layout_of, takes_bitmap}
 use Rattle.image.specs.Types.{name_of}

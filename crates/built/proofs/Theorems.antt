@@ -20,7 +20,6 @@ use Rattle.image.specs.RowBytes.{count, rows_bytes, range_bytes}
 use Rattle.image.specs.Faults.{check_image}
 use Rattle.image.specs.Parse.{Parsed, failed, parsed, readable, rows_in}
 use Rattle.image.specs.Built.{built_image}
-use Rattle.laws.proofs.Accepted.{accepted}
 use Rattle.laws.proofs.Lengths.{table_count}
 use Rattle.laws.proofs.TypeLaws.{types_sym, types_trans}
 use Rattle.answers.specs.declared.Paired.TheVariants.{Agreed}

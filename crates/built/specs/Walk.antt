@@ -1,6 +1,6 @@
 -- The rows of each node in the order in which a walk over the string meets them: what a row of node k gives node j, itself and
 -- through the rows below it.
-use Rattle.std.specs.Prelude.{cond, List, [], ℕ, zero, suc, ◌+◌, eqb}
+use Rattle.std.specs.Prelude.{cond, List, ℕ, zero, suc, ◌+◌, eqb}
 use Rattle.image.specs.Record.{code_of, first_child, child_count}
 use Rattle.image.specs.Row.{Row, Rows, null, fixed, sized, joined, counted, tagged, none, more, one, rows_then}
 use Rattle.image.specs.Parse.{Parsed, failed, parsed}

@@ -3,11 +3,9 @@
 use mathlib.Core.Path.{◌≡◌, refl, sym, ap, subst, ◌∙◌}
 use mathlib.Core.Bool.{Bool, true, false, cond, false≢true}
 use mathlib.Core.List.{List, [], ◌∷◌}
-use Prim.Native.Nat.{ℕ, zero, suc, ◌+◌, ◌*◌, ◌-◌, ◌≤◌, ◌<◌}
-use native.Mathlib.Nat.{add-zero}
+use Prim.Native.Nat.{ℕ, zero, suc, ◌+◌, ◌-◌, ◌≤◌, ◌<◌}
 use native.Mathlib.Omega.{arith}
-use lib.ListN.{length, get_or, drop}
-use lib.Dec.{eqb}
+use lib.ListN.{length, drop}
 use borrow.Author.Tests.{eq-eqb, ne_eqb}
 use Rattle.image.specs.declared.type_code.Layout.{Layout}
 use Rattle.image.specs.declared.type_code.Layout.TheVariants.{Null, Boolean, FixedWidth, VariableSize, View, List as Lists, ListView, FixedList, Struct, DenseUnion, SparseUnion, Dictionary, Runs}
@@ -15,19 +13,19 @@ use Rattle.image.specs.Bytes.{byte_at, number_at, bytes_at}
 use Rattle.image.specs.Record.{node_count, code_of, first_child, child_count}
 use Rattle.image.specs.TypeCode.{entries, entry_of, layout_of, takes_bitmap}
 use Rattle.image.specs.Element.{element_width, child_end}
-use Rattle.image.specs.Row.{Row, Rows, null, fixed, sized, joined, counted, tagged, none, more, one, rows_then}
+use Rattle.image.specs.Row.{Row, Rows, null, fixed, sized, joined, counted, none, rows_then}
 use Rattle.image.specs.RowBytes.{count}
-use Rattle.image.specs.Parse.{Parsed, failed, parsed, rows_of, row_of_each, value_in, row_in}
-use Rattle.image.specs.Built.{span, gap_row, from_each}
+use Rattle.image.specs.Parse.{Parsed, parsed, rows_of, row_of_each, value_in, row_in}
+use Rattle.image.specs.Built.{span, gap_row}
 use Rattle.laws.proofs.Accepted.{accepted}
 use Rattle.laws.proofs.Lengths.{bytes_length}
 use Rattle.built.specs.Walk.{own, over_nodes, over_each, deeper, gives, total, the_row, the_rows}
 use Rattle.built.proofs.Parsed.{failed_not}
 use Rattle.built.proofs.Walk.{then_none}
-use Rattle.fill.specs.Filling.{Filling, Room, Rooms, Ready, Reads, Getting, Filled, StructFilled, ListFilled, ToWalk, Walked, RowWalk, RowWalked, RowsWalk, RowsWalked, row_gives, gap_gives}
+use Rattle.fill.specs.Filling.{Filling, Rooms, Ready, Getting, Filled, StructFilled, ListFilled, Walked, RowWalk, RowWalked, RowsWalk, RowsWalked, row_gives, gap_gives}
 use Rattle.fill.proofs.Steps.{filled_none, filled_as, filled_then, rooms_as, rooms_first, rooms_rest, ready_after}
 use Rattle.fill.proofs.Reading.{Mark, a_null, a_value, read_deep, read_inside, read_mark, read_null, read_boolean, read_fixed, read_text, read_list, read_struct}
-use Rattle.fill.proofs.Walks.{the_rows_lem, rows_count, Going, going_start, going_row, going_more, going_done, GapsLeft, gaps_start, gaps_more, gaps_done}
+use Rattle.fill.proofs.Walks.{the_rows_lem, rows_count, Going, going_start, going_row, going_more, going_done, GapsLeft, gaps_start, gaps_done}
 
 -- a row's own node first, and then those below
 gives_first : (d : ℕ) (s : List ℕ) (k : ℕ) (r : Row) (j : ℕ) → 0 < d → gives d s k r j ≡ rows_then (own r k j) (deeper (λ c q. gives (d - 1) s c q j) s k r)

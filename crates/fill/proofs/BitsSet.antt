@@ -1,20 +1,17 @@
 -- A bit that is set in the bytes of a number, all of whose bits from it on are 0.
 -- By the bytes: the bit is in the first byte, or behind it in the bytes of what is left of the number.
 use mathlib.Core.Path.{◌≡◌, refl, sym, ap, ◌∙◌}
-use mathlib.Core.Bool.{Bool, true, false}
 use mathlib.Core.List.{List, [], ◌∷◌, ◌++◌, append_assoc, append-nil}
 use mathlib.Core.Logic.{◌⊎◌, inl, inr}
 use Prim.Native.Nat.{ℕ, zero, suc, ◌+◌, ◌*◌, ◌-◌, ◌/◌, ◌%◌, ◌≤◌, ◌<◌, ◌^◌}
 use native.Mathlib.Omega.{arith}
-use lib.ListN.{length, get_or, replicate, set, length-append}
-use lib.Pow.{pow-add, pow_mono, pow_pos}
+use lib.ListN.{length, replicate, set}
+use lib.Pow.{pow-add, pow_mono}
 use Rattle.image.specs.Bytes.{byte_at, number_bytes}
 use Rattle.image.specs.Row.{Row, Rows, none, more, one, rows_then}
-use Rattle.image.specs.RowBytes.{count}
-use Rattle.image.specs.Built.{bits_number, pack_bits, each_number, each_bytes, offsets_from, span, valid_bit}
+use Rattle.image.specs.Built.{bits_number, pack_bits, each_number, each_bytes, offsets_from, span}
 use Rattle.laws.proofs.Lengths.{number_length}
 use Rattle.built.specs.Walk.{total}
-use Rattle.built.proofs.Bits.{each_length}
 use Rattle.fill.specs.Filling.{padded}
 use Rattle.fill.proofs.Bytes.{lt_or_ge}
 

@@ -2,28 +2,26 @@
 -- Each step puts bytes into one part; a part that is not touched is as if no bytes were put.
 use mathlib.Core.Path.{◌≡◌, refl, sym, ap, ◌∙◌}
 use mathlib.Core.Bool.{Bool, true, false, cond, false≢true}
-use mathlib.Core.List.{List, [], ◌∷◌, ◌++◌}
-use Prim.Native.Nat.{ℕ, zero, suc, ◌+◌, ◌*◌, ◌-◌, ◌/◌, ◌%◌, ◌≤◌, ◌<◌, ◌^◌}
+use mathlib.Core.List.{List, [], ◌∷◌}
+use Prim.Native.Nat.{ℕ, suc, ◌+◌, ◌*◌, ◌/◌, ◌%◌, ◌≤◌, ◌<◌, ◌^◌}
 use native.Mathlib.Nat.{add-zero, suc-mul, add-mul, one-mul}
 use native.Mathlib.Omega.{arith}
 use lib.ListN.{length, get_or, set, length-replicate}
-use lib.Seq.{set-get_or}
 use Rattle.image.specs.declared.type_code.Layout.{Layout}
 use Rattle.image.specs.declared.type_code.Layout.TheVariants.{Null, Boolean, FixedWidth, VariableSize, View, List as Lists, ListView, FixedList, Struct, DenseUnion, SparseUnion, Dictionary, Runs}
-use Rattle.image.specs.Bytes.{byte_at, number_bytes, bytes_at}
-use Rattle.image.specs.Record.{node_count, code_of}
+use Rattle.image.specs.Bytes.{byte_at, number_bytes}
+use Rattle.image.specs.Record.{code_of}
 use Rattle.image.specs.TypeCode.{layout_of, takes_bitmap}
 use Rattle.image.specs.Element.{element_width}
-use Rattle.image.specs.Row.{Row, Rows, null, fixed, sized, joined, counted, none, more, one, rows_then}
-use Rattle.image.specs.RowBytes.{count}
+use Rattle.image.specs.Row.{Row, Rows, null, fixed, sized, joined, counted}
 use Rattle.image.specs.Built.{span, valid_bit, gap_row, bitmap_of, offsets_from, node_part}
 use Rattle.laws.proofs.Accepted.{accepted}
-use Rattle.laws.proofs.Lengths.{bytes_length, number_length}
+use Rattle.laws.proofs.Lengths.{number_length}
 use Rattle.rows.specs.Output.{over}
 use Rattle.rows.proofs.Over.{over_none, over_length}
 use Rattle.built.specs.Walk.{own}
 use Rattle.fill.specs.declared.put.Spot.{Spot}
-use Rattle.fill.specs.Filling.{Filling, filling, part_len, Ready, Getting, Filled, StructFilled, ListFilled, has_offsets, spot_of}
+use Rattle.fill.specs.Filling.{Filling, filling, part_len, Getting, Filled, StructFilled, ListFilled, has_offsets, spot_of}
 use Rattle.fill.proofs.Bytes.{over_behind}
 use Rattle.fill.proofs.Parts.{Grows, Shaped, row_put, part_inside, part_near}
 use Rattle.fill.proofs.Grow.{part_of, grow_none, grow_null, grow_valid, bitmap_free, grow_false, grow_true, boolean_free, grow_value, grow_zero, grow_offset, grow_text}

@@ -1,29 +1,28 @@
 -- How each part of a node goes on by a row: a bit is set or stays 0, bytes are put behind those that stand there, or zeros stay.
 -- What the rows so far make stands at the front of the part, and the row's place is where it ends.
-use mathlib.Core.Path.{◌≡◌, refl, sym, ap, subst, ◌∙◌}
-use mathlib.Core.Bool.{Bool, true, false, cond}
-use mathlib.Core.List.{List, [], ◌∷◌, ◌++◌, append-nil}
-use Prim.Native.Nat.{ℕ, zero, suc, ◌+◌, ◌*◌, ◌-◌, ◌/◌, ◌%◌, ◌≤◌, ◌<◌, ◌^◌}
-use native.Mathlib.Nat.{zero-add, add-zero, suc-mul, add-mul, one-mul, mul-le-mul_right}
+use mathlib.Core.Path.{◌≡◌, sym, ap, ◌∙◌}
+use mathlib.Core.Bool.{true}
+use mathlib.Core.List.{List, [], ◌∷◌, ◌++◌}
+use Prim.Native.Nat.{ℕ, zero, suc, ◌+◌, ◌*◌, ◌/◌, ◌%◌, ◌≤◌, ◌<◌, ◌^◌}
+use native.Mathlib.Nat.{suc-mul, add-mul, one-mul}
 use native.Mathlib.Omega.{arith}
-use lib.ListN.{length, get_or, replicate, set, length-append, length-replicate}
+use lib.ListN.{length, get_or}
 use lib.Pow.{pow_mono}
 use Rattle.image.specs.declared.type_code.Layout.{Layout}
-use Rattle.image.specs.declared.type_code.Layout.TheVariants.{Null, Boolean, FixedWidth, VariableSize, View, List as Lists, ListView, FixedList, Struct, DenseUnion, SparseUnion, Dictionary, Runs}
-use Rattle.image.specs.Bytes.{byte_at, number_bytes, bytes_at}
-use Rattle.image.specs.Record.{node_count, code_of}
+use Rattle.image.specs.declared.type_code.Layout.TheVariants.{Boolean, FixedWidth, VariableSize}
+use Rattle.image.specs.Bytes.{byte_at, number_bytes}
+use Rattle.image.specs.Record.{code_of}
 use Rattle.image.specs.TypeCode.{layout_of, takes_bitmap}
 use Rattle.image.specs.Element.{element_width}
 use Rattle.image.specs.Row.{Row, Rows, null, fixed, sized, joined, counted, tagged, none, more, one, rows_then}
 use Rattle.image.specs.RowBytes.{count}
 use Rattle.image.specs.Built.{each_number, each_bytes, bits_number, pack_bits, valid_bit, value_bit, value_bytes, text_bytes, span, offsets_from, bitmap_of, buffers_of, parts_of, node_part}
 use Rattle.laws.proofs.Lengths.{number_length}
-use Rattle.rows.specs.Output.{over}
 use Rattle.rows.proofs.Over.{over_none, over_one}
 use Rattle.built.specs.Walk.{total}
 use Rattle.built.proofs.Bits.{each_length}
 use Rattle.built.proofs.Offsets.{offsets_length}
-use Rattle.fill.specs.Filling.{Filling, part_len, part_bytes, padded, Holds, Room}
+use Rattle.fill.specs.Filling.{Filling, part_len, padded, Holds}
 use Rattle.fill.proofs.Bytes.{zeros, byte_of, padded_more, padded_zeros}
 use Rattle.fill.proofs.BitsSet.{bit_clear, bit_set, bits_padded, bits_more, number_more, bytes_more, offsets_more, pow_suc}
 use Rattle.fill.proofs.Parts.{Grows, count_more}

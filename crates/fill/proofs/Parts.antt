@@ -2,18 +2,18 @@
 -- Parts stand one after the other, so that bytes put inside one leave the others as they are.
 use mathlib.Core.Path.{◌≡◌, refl, sym, ap, ◌∙◌}
 use mathlib.Core.Bool.{Bool, true, false, cond, false≢true}
-use mathlib.Core.List.{List, [], ◌∷◌, ◌++◌}
+use mathlib.Core.List.{List}
 use mathlib.Core.Logic.{◌⊎◌, inl, inr}
-use Prim.Native.Nat.{ℕ, zero, suc, ◌+◌, ◌*◌, ◌-◌, ◌≤◌, ◌<◌, ◌^◌}
+use Prim.Native.Nat.{ℕ, zero, suc, ◌+◌, ◌*◌, ◌≤◌, ◌<◌, ◌^◌}
 use native.Mathlib.Nat.{add-mul}
 use native.Mathlib.Omega.{arith}
 use lib.ListN.{length, get_or, set, length-set, length-append}
 use lib.Seq.{get_or-set_same, get_or-set_other}
 use lib.Dec.{eqb}
-use borrow.Author.Tests.{eqb-true, eq-eqb, ne_eqb}
+use borrow.Author.Tests.{eqb-true, eq-eqb}
 use lib.Pow.{pow-add}
 use Rattle.image.specs.declared.type_code.Layout.TheVariants.{Boolean, FixedWidth, VariableSize}
-use Rattle.image.specs.Bytes.{byte_at, bytes_at}
+use Rattle.image.specs.Bytes.{byte_at}
 use Rattle.image.specs.Record.{node_count, code_of}
 use Rattle.image.specs.TypeCode.{layout_of}
 use Rattle.image.specs.Element.{element_width}
@@ -22,7 +22,7 @@ use Rattle.image.specs.RowBytes.{count}
 use Rattle.image.specs.Built.{each_number, each_bytes, bits_number, value_bit, value_bytes, text_bytes, span, node_part}
 use Rattle.laws.proofs.Accepted.{accepted}
 use Rattle.rows.specs.Output.{over}
-use Rattle.rows.proofs.Over.{over_none, over_length, over_before}
+use Rattle.rows.proofs.Over.{over_length, over_before}
 use Rattle.built.specs.Walk.{own, total}
 use Rattle.built.proofs.Columns.{count_join}
 use Rattle.built.proofs.Bits.{each_length}

@@ -4,7 +4,7 @@ use mathlib.Core.Path.{◌≡◌, refl, sym, ap, ◌∙◌}
 use mathlib.Core.Bool.{Bool, true, false, cond, ◌||◌}
 use mathlib.Core.List.{List, [], ◌∷◌}
 use mathlib.Core.Logic.{◌⊎◌, inl, inr}
-use Prim.Native.Nat.{ℕ, zero, suc, ◌+◌, ◌*◌, ◌-◌, ◌≤◌, ◌<◌}
+use Prim.Native.Nat.{ℕ, zero, suc, ◌+◌, ◌-◌, ◌≤◌, ◌<◌}
 use native.Mathlib.Nat.{add-zero}
 use native.Mathlib.Omega.{arith}
 use lib.ListN.{length, drop, drop_of_length-le}
@@ -12,7 +12,7 @@ use lib.Seq.{drop-cons, get_or-drop}
 use lib.Dec.{eqb, leb}
 use borrow.Author.Tests.{leb-true}
 use Rattle.image.specs.declared.type_code.Layout.{Layout}
-use Rattle.image.specs.declared.type_code.Layout.TheVariants.{Null, Boolean, FixedWidth, VariableSize, View, List as Lists, ListView, FixedList, Struct, DenseUnion, SparseUnion, Dictionary, Runs}
+use Rattle.image.specs.declared.type_code.Layout.TheVariants.{Null, Boolean, FixedWidth, VariableSize, List as Lists, Struct}
 use Rattle.image.specs.Bytes.{byte_at, number_at, bytes_at}
 use Rattle.image.specs.Record.{code_of, first_child, child_count}
 use Rattle.image.specs.TypeCode.{layout_of, takes_bitmap}
@@ -22,7 +22,6 @@ use Rattle.image.specs.Utf8.{well_formed}
 use Rattle.image.specs.Parse.{Parsed, failed, parsed, made, and_then, bytes_in, number_in, rows_of, row_of_each, checked_text, marked, value_in, row_in}
 use Rattle.built.proofs.Parsed.{failed_not, made_back, then_back, when_back}
 use Rattle.parse.proofs.Places.{bytes_here, bytes_short, number_here, number_short}
-use Rattle.fill.specs.Filling.{Reads}
 use Rattle.fill.proofs.Bytes.{lt_or_ge}
 
 -- bytes and numbers

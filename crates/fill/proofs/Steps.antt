@@ -1,21 +1,18 @@
 -- Filling step by step: what rows fill, and then what more rows fill, is what all of them fill.
 -- Each fact of a filling is a sum or a chain of those of its steps; the room that is left is what the rest needs.
-use mathlib.Core.Path.{◌≡◌, refl, sym, ap, subst, ◌∙◌}
-use mathlib.Core.Bool.{Bool, true}
+use mathlib.Core.Path.{◌≡◌, refl, ◌∙◌}
 use mathlib.Core.List.{List}
-use mathlib.Core.Logic.{◌⊎◌}
-use Prim.Native.Nat.{ℕ, zero, suc, ◌+◌, ◌*◌, ◌-◌, ◌≤◌, ◌<◌}
+use Prim.Native.Nat.{ℕ, suc, ◌+◌, ◌≤◌, ◌<◌}
 use native.Mathlib.Nat.{add-zero, mul-le-mul_right}
 use native.Mathlib.Omega.{arith}
-use lib.ListN.{length, get_or}
 use Rattle.image.specs.Record.{node_count}
 use Rattle.image.specs.Element.{element_width}
-use Rattle.image.specs.Row.{Row, Rows, none, more, rows_then}
+use Rattle.image.specs.Row.{Rows, none, more, rows_then}
 use Rattle.image.specs.RowBytes.{count}
 use Rattle.built.specs.Walk.{total}
 use Rattle.built.proofs.Columns.{count_join}
 use Rattle.built.proofs.Walk.{then_none, then_assoc}
-use Rattle.fill.specs.Filling.{Filling, Holds, Held, Room, Rooms, Ready, Filled}
+use Rattle.fill.specs.Filling.{Filling, Room, Rooms, Ready, Filled}
 
 -- how far the offsets of rows go on, and of more rows
 pub total_then : (rs qs : Rows) → total (rows_then rs qs) ≡ total rs + total qs

@@ -1,23 +1,20 @@
 -- A walk over rows, one after the other: what is left to read, what each node has got, and the room for the rest.
 -- The rows so far and those that are left are the rows that are read; the next row goes from the ones to the others.
-use mathlib.Core.Path.{◌≡◌, refl, sym, ap, subst, ◌∙◌}
-use mathlib.Core.Bool.{Bool, true, false, cond}
-use mathlib.Core.List.{List, [], ◌∷◌}
-use Prim.Native.Nat.{ℕ, zero, suc, ◌+◌, ◌*◌, ◌-◌, ◌≤◌, ◌<◌}
+use mathlib.Core.Path.{◌≡◌, refl, sym, ap, ◌∙◌}
+use mathlib.Core.List.{List}
+use Prim.Native.Nat.{ℕ, zero, suc, ◌+◌, ◌-◌, ◌≤◌, ◌<◌}
 use native.Mathlib.Nat.{add-zero}
 use native.Mathlib.Omega.{arith}
-use lib.ListN.{length, get_or, drop}
-use lib.Dec.{eqb}
-use borrow.Author.Tests.{eq-eqb}
-use Rattle.image.specs.Record.{node_count, code_of, first_child, child_count}
-use Rattle.image.specs.Row.{Row, Rows, null, fixed, sized, joined, counted, none, more, one, rows_then}
+use lib.ListN.{drop}
+use Rattle.image.specs.Record.{node_count}
+use Rattle.image.specs.Row.{Row, Rows, none, more, one, rows_then}
 use Rattle.image.specs.RowBytes.{count}
-use Rattle.image.specs.Parse.{Parsed, failed, parsed, made, and_then, row_then, rows_of, row_of_each, row_in}
-use Rattle.image.specs.Built.{span, gap_row, from_each}
-use Rattle.built.specs.Walk.{own, over_nodes, over_each, deeper, gives, total, the_row, the_rows}
-use Rattle.built.proofs.Parsed.{failed_not, made_back, then_back}
+use Rattle.image.specs.Parse.{Parsed, failed, parsed, made, row_then, rows_of, row_of_each, row_in}
+use Rattle.image.specs.Built.{from_each}
+use Rattle.built.specs.Walk.{over_nodes, over_each, gives, the_row, the_rows}
+use Rattle.built.proofs.Parsed.{made_back, then_back}
 use Rattle.built.proofs.Walk.{then_none, then_assoc}
-use Rattle.fill.specs.Filling.{Filling, Room, Rooms, Ready, Reads, Getting, Filled, ToWalk, Walked, RowWalk, RowWalked, RowsWalk, RowsWalked, gap_gives}
+use Rattle.fill.specs.Filling.{Filling, Rooms, Ready, Filled, ToWalk, Walked, RowWalk, RowWalked, RowsWalk, RowsWalked, gap_gives}
 use Rattle.fill.proofs.Steps.{filled_none, filled_as, filled_then, rooms_as, rooms_first, rooms_rest, ready_after}
 use Rattle.fill.proofs.Parts.{count_more}
 

@@ -2,12 +2,12 @@
 -- At first each part holds what no rows make, and zeros behind; in the end what all rows of its node make, which is as long as it is.
 use mathlib.Core.Path.{◌≡◌, refl, sym, ap, ◌∙◌}
 use mathlib.Core.Bool.{Bool, true, false, cond}
-use mathlib.Core.List.{List, [], ◌∷◌, ◌++◌, append-nil}
+use mathlib.Core.List.{List, [], ◌++◌, append-nil}
 use mathlib.Core.Logic.{◌⊎◌, inl, inr}
-use Prim.Native.Nat.{ℕ, zero, suc, ◌+◌, ◌*◌, ◌-◌, ◌/◌, ◌%◌, ◌≤◌, ◌<◌, ◌^◌}
-use native.Mathlib.Nat.{zero-add, add-zero, suc-mul, zero-mul}
+use Prim.Native.Nat.{ℕ, zero, suc, ◌+◌, ◌*◌, ◌-◌, ◌/◌, ◌%◌, ◌≤◌, ◌<◌}
+use native.Mathlib.Nat.{zero-add, suc-mul, zero-mul}
 use native.Mathlib.Omega.{arith}
-use lib.ListN.{length, get_or, drop, replicate, length-replicate, length-append, get_or-replicate}
+use lib.ListN.{length, get_or, length-replicate, get_or-replicate}
 use lib.Seq.{ext_get_or}
 use Rattle.image.specs.declared.type_code.Layout.{Layout}
 use Rattle.image.specs.declared.type_code.Layout.TheVariants.{Null, Boolean, FixedWidth, VariableSize, View, List as Lists, ListView, FixedList, Struct, DenseUnion, SparseUnion, Dictionary, Runs}
@@ -16,14 +16,14 @@ use Rattle.image.specs.Bytes.{byte_at, AllBytes, number_bytes, bytes_at}
 use Rattle.image.specs.Record.{node_count, code_of, first_child}
 use Rattle.image.specs.TypeCode.{layout_of, takes_bitmap}
 use Rattle.image.specs.Element.{element_width, child_end}
-use Rattle.image.specs.Row.{Row, Rows, none, more, rows_then}
+use Rattle.image.specs.Row.{Row, Rows, none, rows_then}
 use Rattle.image.specs.RowBytes.{count}
-use Rattle.image.specs.Parse.{Parsed, parsed, rows_of, row_in, rows_in}
-use Rattle.image.specs.Built.{from_each, each_number, each_bytes, bits_number, pack_bits, valid_bit, value_bit, offsets_from, bitmap_of, buffers_of, column, node_part, part_at, part_length, part_start}
+use Rattle.image.specs.Parse.{rows_in}
+use Rattle.image.specs.Built.{from_each, each_number, each_bytes, bits_number, pack_bits, valid_bit, value_bit, offsets_from, bitmap_of, column, node_part, part_at, part_length, part_start}
 use Rattle.image.proofs.Ranges.{sum_grows}
 use Rattle.laws.specs.Accepted.{AcceptedImage}
 use Rattle.laws.proofs.Accepted.{accepted}
-use Rattle.laws.proofs.Lengths.{bytes_length, number_length}
+use Rattle.laws.proofs.Lengths.{bytes_length}
 use Rattle.rows.specs.Output.{over}
 use Rattle.rows.proofs.Over.{over_length, over_before}
 use Rattle.rows.proofs.Repeats.{bytes_add}
@@ -34,8 +34,8 @@ use Rattle.built.proofs.Offsets.{offsets_length}
 use Rattle.built.proofs.Typed.{rows_typed}
 use Rattle.built.proofs.Walk.{columns_given}
 use Rattle.built.proofs.Lengths.{node_part_lem, bitmap_length_lem, boolean_lengths, fixed_lengths, text_lengths, list_lengths, list_child}
-use Rattle.fill.specs.Filling.{Filling, filling, part_len, part_bytes, padded, Holds, Room, Rooms, Ready, Held, Filled, ToFill, RowsWalk, RowsWalked, rows_give}
-use Rattle.fill.proofs.Bytes.{lt_or_ge, zeros, byte_of, bytes_same, over_inside, over_behind, padded_zeros}
+use Rattle.fill.specs.Filling.{Filling, part_len, part_bytes, padded, Holds, Room, Ready, ToFill, RowsWalk, RowsWalked}
+use Rattle.fill.proofs.Bytes.{lt_or_ge, zeros, byte_of, over_inside, over_behind, padded_zeros}
 use Rattle.fill.proofs.BitsSet.{zero_bytes}
 use Rattle.fill.proofs.Grow.{part_of}
 

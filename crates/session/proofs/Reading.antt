@@ -2,7 +2,7 @@
 -- A chunk that was read is to come; a turn takes from it; in the end nothing of it is left.
 use mathlib.Core.Path.{◌≡◌, sym, ap, ◌∙◌}
 use mathlib.Core.List.{List, [], ◌++◌, append_assoc, append-nil}
-use Prim.Native.Nat.{ℕ, ◌+◌, ◌≤◌}
+use Prim.Native.Nat.{ℕ, ◌≤◌}
 use lib.ListN.{length, drop, replicate, drop_of_length-le}
 use lib.Seq.{drop-drop}
 use Rattle.session.specs.declared.turn.Progress.{Progress}

@@ -1,7 +1,6 @@
 -- `is_readable` answers whether rows of each node's code are read back.
 -- The loop keeps that the nodes from node k on decide.
 use mathlib.Core.Path.{◌∙◌}
-use Prim.Native.Nat.{◌-◌}
 use native.Mathlib.Nat.{zero-add}
 use Rattle.image.specs.Parse.{readable}
 use Rattle.image.proofs.Loops.{rest_none, every_more, every_fails, every_done}

@@ -1,11 +1,9 @@
 -- The row is the first that is unequal, or the count.
 -- The invariant: the first k rows are equal; a block that is not has the row.
 use mathlib.Core.Path.{sym, ◌∙◌}
-use Prim.Native.Nat.{◌-◌}
 use Rattle.equal.proofs.Nulls.{sides_left, sides_right}
 use Rattle.values.proofs.Steps.{passed_none, passed_more}
 use Rattle.difference.proofs.Search.{block_within, all_rows_lem, rows_said, rows_nowhere, row_inside, row_found, sides_inside}
-use Prim.Native.Nat.{◌-◌}
 use native.Mathlib.Omega.{arith}
 use Rattle.difference.proofs.first_difference.Goals as goal
 

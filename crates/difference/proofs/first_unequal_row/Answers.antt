@@ -1,11 +1,8 @@
 -- The row is the first that is unequal.
 -- The invariant: it lies from low on and before high; each turn halves the space between them.
 use mathlib.Core.Path.{◌∙◌}
-use mathlib.Core.Logic.{⊎_elim}
-use Prim.Native.Nat.{◌-◌}
 use Rattle.equal.proofs.Nulls.{sides_left, sides_right}
 use Rattle.difference.proofs.Search.{between_up, between_down, between_none, first_row, rows_said, rows_between, nulls_between, sides_inside}
-use Prim.Native.Nat.{◌-◌}
 use native.Mathlib.Omega.{arith}
 use Rattle.difference.proofs.first_unequal_row.Goals as goal
 use Rattle.difference.proofs.first_unequal_row.Goals.{then-null-n, else-null-n}

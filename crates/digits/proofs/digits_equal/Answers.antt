@@ -1,7 +1,6 @@
 -- `digits_equal` compares chunk by chunk.
 -- Masks that differ decide; the loop keeps that what is left to look at gives the answer, and the measure is how much is left.
 use mathlib.Core.Path.{refl, sym, ◌∙◌}
-use Prim.Native.Nat.{◌-◌}
 use native.Mathlib.Nat.{le_refl}
 use Rattle.accepted.proofs.Nodes.{side_small}
 use Rattle.values.proofs.Steps.{left_none, left_jump, jump_fails, left_rest}

@@ -1,7 +1,6 @@
 -- `rows_agree` compares row by row.
 -- The loop keeps that what is left to look at gives the answer; the measure is how much is left.
 use mathlib.Core.Path.{sym, ◌∙◌}
-use Prim.Native.Nat.{◌-◌}
 use Rattle.accepted.proofs.Nodes.{side_small}
 use Rattle.values.proofs.Steps.{left_none, left_more, left_fails, left_done}
 use Rattle.digits.proofs.Agreeing.{numbers_row}

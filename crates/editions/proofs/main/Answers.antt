@@ -6,7 +6,7 @@ use lib.Seq.{length-take-le}
 use Rattle.session.specs.declared.turn.Taken.{Taken}
 use Rattle.session.specs.Turns.{Reader, turn_of, Lent, Turned}
 use Rattle.session.proofs.Reading.{read_start, read_chunk, read_turn, read_on}
-use Rattle.session.proofs.Takes.{told_within, turned_forward}
+use Rattle.session.proofs.Takes.{turned_forward}
 use Rattle.editions.proofs.main.Goals as goal
 
 -- a turn goes on

@@ -28,7 +28,6 @@
 -- `sparse` compares sparse unions block by block.
 -- The loop keeps that the rows are equal exactly where those from row k on are.
 use mathlib.Core.Path.{sym, ◌∙◌, refl}
-use Prim.Native.Nat.{◌-◌}
 use native.Mathlib.Omega.{arith}
 use borrow.Author.Tests.{not-false}
 use borrow.Author.Rules.{rules}
@@ -46,7 +45,6 @@ use Rattle.equal.proofs.Values.{parts_shallow, by_layout, null_values}
 use Rattle.equal.proofs.FixedLists.{fixed_list_left, fixed_list_right, fixed_list_requires, fixed_list_answer}
 use Rattle.equal.proofs.Lists.{spans_differ, list_spans, list_narrow_left, list_narrow_right, list_order, list_requires, list_answer}
 use Rattle.equal.proofs.ListViews.{view_narrow, view_differs, view_requires, view_answer}
-use mathlib.Core.Bool.{true}
 use Rattle.equal.proofs.Runs.{stepping_start, run_nodes, run_small, run_above, step_requires, step_fail, step_some, step_again, run_parts, together_requires, together_answer}
 use Rattle.accepted.proofs.RunEnds.{run_first}
 use Rattle.equal.proofs.Structs.{columns_start, struct_requires, columns_more_left, columns_fail, columns_done}

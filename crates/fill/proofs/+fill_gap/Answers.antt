@@ -1,6 +1,5 @@
 -- The row under a null, for a node and all below it.
 -- The loop keeps how many children have got theirs, and the room for the others.
-use Prim.Native.Nat.{◌-◌}
 use native.Mathlib.Omega.{arith}
 use mathlib.Core.Path.{sym, ◌∙◌}
 use Rattle.fill.specs.Filling.{filling}

@@ -6,7 +6,6 @@
 -- A row of a Struct: a row of each child.
 -- The loop keeps which children are left to read and to fill.
 use borrow.Enum.Refused.{opened}
-use Prim.Native.Nat.{◌-◌}
 use native.Mathlib.Omega.{arith}
 use Rattle.fill.proofs.Arms.{row_inside, row_deep, listed_getting, listed_inside, listed_walk, listed_walked, null_rooms, null_walked, value_mark, layout_told, last_told, last_arm, struct_left, empty_getting, empty_walked, bit_inside, bit_least, bit_getting, bit_walked, fixed_inside, fixed_getting, fixed_done, text_inside, text_getting, text_done, struct_getting, one_mark, fields_start, field_walk, field_more, fields_done}
 use mathlib.Core.Path.{refl}

@@ -1,6 +1,6 @@
 -- The answer is whether a Map's entries, key and value have their names, in turn.
 -- By what the callees give; the fixed bytes are those of the three texts.
-use borrow.Author.Tests.{eq-eqb, ne_eqb, not-true, not-false}
+use borrow.Author.Tests.{eq-eqb, ne_eqb}
 use Rattle.image.specs.Bytes.{ascii}
 use Rattle.image.specs.MapNames.{named, map_named}
 use Rattle.names.proofs.map_named.Goals as goal

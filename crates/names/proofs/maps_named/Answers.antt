@@ -1,10 +1,8 @@
 -- The answer is whether each node that is a Map has its names.
 -- The loop keeps that the nodes from node k on decide.
 use mathlib.Core.Path.{◌∙◌}
-use Prim.Native.Nat.{◌-◌}
 use native.Mathlib.Nat.{zero-add}
-use borrow.Author.Tests.{not-true, not-false}
-use Rattle.image.specs.MapNames.{map_named, maps_named}
+use Rattle.image.specs.MapNames.{maps_named}
 use Rattle.image.proofs.Loops.{rest_none, every_more, every_fails, every_done}
 use Rattle.names.proofs.maps_named.Goals as goal
 

@@ -1,7 +1,6 @@
 -- `utf8::is_utf8` meets its contract: a text without a byte above 7F is well-formed, any other is walked.
 -- Assumes nothing.
 use mathlib.Core.Path.{sym, ◌∙◌}
-use borrow.Author.Tests.{not-true}
 use Rattle.utf8.proofs.Plain.{plain_text}
 use Rattle.utf8.proofs.is_utf8.Goals as goal
 

@@ -30,8 +30,10 @@ module _ {s : List ℕ} {number : ℕ} (l : Left s number) where
   module _ (lt : number < numbers_end) {node n : ℕ} (e : node ≡ first_faulty number s) (q : n ≡ node_count s) where
     found : node < n → Refused (record { number = number; node = node }) ≡ check_from (numbers_end - 11) 11 s
     found h = sym (l.same ∙ turn s number lt ∙ rw (← e, ← q, lt-ltb node n h))
+
     left_more : n ≤ node → Left s (number + 1)
     left_more h = record { within = omega arith; same = l.same ∙ turn s number lt ∙ rw (← e, ← q, le-ltb node n h) }
+
   accepted : numbers_end ≤ number → Accepted ≡ check_from (numbers_end - 11) 11 s
   unfolding check_from
   accepted h =

@@ -6,7 +6,7 @@ use mathlib.Core.List.{List}
 use native.Mathlib.Nat.{zero-add}
 use Rattle.image.specs.Faults.{fault, first_faulty}
 use Rattle.image.proofs.Loops.{rest_none, first_more, first_found, first_done}
-use Prim.Native.Nat.{ℕ, ◌+◌, ◌-◌}
+use Prim.Native.Nat.{ℕ, ◌+◌}
 use native.Mathlib.Omega.{arith}
 use Rattle.validate.proofs.first_faulty.Goals as goal
 

@@ -2,7 +2,6 @@
 -- The loop keeps that the runs below low end at or before the element, and those from high on above it.
 use mathlib.Core.Path.{refl}
 use Rattle.accepted.proofs.RunEnds.{bisect_start, bisect_small, bisect_up, bisect_down, bisect_done}
-use Prim.Native.Nat.{◌-◌}
 use native.Mathlib.Omega.{arith}
 use Rattle.accepted.proofs.runs.run_of.Goals as goal
 

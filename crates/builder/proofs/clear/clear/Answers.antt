@@ -1,6 +1,5 @@
 -- `clear` puts zeros over a part of the buffer.
 -- The loop keeps that the zeros from the place that is reached on, put over it, give the whole.
-use Prim.Native.Nat.{◌-◌}
 use Rattle.builder.proofs.Fields.{zeros_start, zeros_fit, zeros_more, zeros_done}
 use Rattle.builder.proofs.clear.clear.Goals as goal
 

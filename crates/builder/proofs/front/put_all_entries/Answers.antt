@@ -1,6 +1,5 @@
 -- `put_all_entries` puts the entries of all nodes.
 -- The loop keeps the entries that are still to be put.
-use Prim.Native.Nat.{◌-◌}
 use Rattle.laws.proofs.Accepted.{accepted}
 use Rattle.rows.proofs.Over.{pieces_start, pieces_place, pieces_done}
 use Rattle.builder.proofs.Fields.{piece_fits, piece_put}

@@ -1,6 +1,5 @@
 -- `put_entries` puts the entries of a node.
 -- The loop keeps the entries that are still to be put.
-use Prim.Native.Nat.{◌-◌}
 use Rattle.rows.proofs.Over.{pieces_start, pieces_fit, pieces_more, pieces_place, pieces_done}
 use Rattle.builder.specs.Front.{entries_from}
 use native.Mathlib.Omega.{arith}

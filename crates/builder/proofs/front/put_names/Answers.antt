@@ -1,6 +1,5 @@
 -- `put_names` puts the names of all nodes.
 -- The loop keeps the names that are still to be put.
-use Prim.Native.Nat.{◌-◌}
 use Rattle.laws.proofs.Accepted.{accepted}
 use Rattle.rows.proofs.Over.{pieces_start, pieces_place, pieces_done}
 use Rattle.builder.proofs.Fields.{piece_fits, piece_put}

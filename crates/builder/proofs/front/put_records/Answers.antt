@@ -1,6 +1,5 @@
 -- `put_records` puts the records of all nodes.
 -- The loop keeps the records that are still to be put, and where the next name would stand.
-use Prim.Native.Nat.{◌-◌}
 use Rattle.rows.proofs.Over.{pieces_start, pieces_place, pieces_done}
 use Rattle.builder.proofs.Fields.{piece_fits, piece_put}
 use Rattle.builder.proofs.Planning.{names_start, names_more}

@@ -1,6 +1,5 @@
 -- `fill` sets entries of a table.
 -- The loop keeps that the first k of them are set.
-use Prim.Native.Nat.{◌-◌}
 use Rattle.builder.proofs.Children.{fill_start, fill_more, fill_done}
 use native.Mathlib.Omega.{arith}
 use Rattle.builder.proofs.plan.fill.Goals as goal

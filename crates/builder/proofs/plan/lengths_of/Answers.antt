@@ -1,6 +1,5 @@
 -- `lengths_of` gives the length of each node.
 -- The loop keeps the lengths of the children of the nodes before node k.
-use Prim.Native.Nat.{◌-◌}
 use mathlib.Core.Path.{sym, ◌∙◌}
 use Rattle.laws.proofs.Accepted.{accepted}
 use Rattle.builder.proofs.Children.{lengths_start, children_fit, lengths_more, lengths_done}

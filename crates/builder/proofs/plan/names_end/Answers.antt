@@ -1,6 +1,5 @@
 -- `names_end` answers where the names end.
 -- The loop keeps where the name of node k would stand, and that it is near.
-use Prim.Native.Nat.{◌-◌}
 use Rattle.builder.proofs.Planning.{names_start, names_more, names_done}
 use native.Mathlib.Omega.{arith}
 use Rattle.builder.proofs.plan.names_end.Goals as goal

@@ -1,6 +1,5 @@
 -- `plan` gives the places of the parts and answers the size of the image.
 -- The loop keeps the places up to part q; a refusal needs no table.
-use Prim.Native.Nat.{◌-◌}
 use mathlib.Core.Path.{sym, ◌∙◌}
 use Rattle.laws.proofs.Accepted.{accepted}
 use Rattle.builder.proofs.Planning.{many_refused, few_rows, planning_start, planning_more, planning_long, planning_room, planning_done}

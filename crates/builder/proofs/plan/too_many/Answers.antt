@@ -1,6 +1,5 @@
 -- `too_many` answers whether a node has too many rows.
 -- The loop keeps that the nodes that are left decide.
-use Prim.Native.Nat.{◌-◌}
 use native.Mathlib.Nat.{zero-add}
 use borrow.Author.Tests.{lt-ltb, le-ltb}
 use Rattle.image.proofs.Loops.{rest_none, any_more, any_found, any_done}

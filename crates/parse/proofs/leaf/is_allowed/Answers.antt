@@ -1,8 +1,7 @@
 -- `is_allowed` looks at a text of characters, and lets any other bytes be.
 -- Its test is that of the definition.
 use mathlib.Core.Path.{sym, ◌∙◌}
-use mathlib.Core.Logic.{inl, inr, ⊎_elim}
-use borrow.Author.Tests.{eqb-true, eqb-false}
+use mathlib.Core.Logic.{inl, inr}
 use Rattle.parse.proofs.Leaves.{of_characters, of_others}
 use Rattle.image.specs.Bytes.{bytes_at}
 use Rattle.parse.proofs.leaf.is_allowed.Goals as goal

@@ -12,13 +12,11 @@
 -- A code that says a width has the layout of fixed widths, and its elements are so wide.
 use borrow.Enum.Refused.{opened}
 use Rattle.parse.proofs.Values.{node_few, layout_is, layout_told, null_value, boolean_value, bytes_value_lem, text_value_lem, list_value_lem, struct_value, other_value, first_child_lem, bitmap_told, struct_child, plain_value}
-use Prim.Native.Nat.{◌-◌}
 use native.Mathlib.Omega.{arith}
 use mathlib.Core.Path.{◌∙◌, sym}
 use Rattle.parse.proofs.Scans.{begun_at, begun_next}
 use Rattle.parse.proofs.Rows.{list_short, list_stop, list_room, list_go, row_too_deep, row_none, row_value, row_other, row_no_null, row_null}
 use Rattle.parse.proofs.Loops.{rows_begin, left_stop, left_next, left_done, children_begin}
-use Rattle.image.specs.Record.{first_child}
 use Rattle.parse.proofs.scan.+scan_by_layout_scan_list_scan_row_scan_rows_scan_struct_scan_value.Goals as goal
 
 pub scan_by_layout-scan_bytes-requires : goal.scan_by_layout-scan_bytes-requires

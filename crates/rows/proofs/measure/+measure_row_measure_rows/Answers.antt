@@ -6,7 +6,6 @@
 use mathlib.Core.Path.{sym, ◌∙◌}
 use Rattle.rows.proofs.RowParts.{row_null, side_few, row_part, value_of_lem, side_row}
 use Rattle.rows.proofs.Rooms.{measuring_start, measuring_more, measuring_short, measuring_done, none_short, null_left, value_short, value_left}
-use Prim.Native.Nat.{◌-◌}
 use native.Mathlib.Omega.{arith}
 use Rattle.accepted.proofs.Columns.{node_few, remembered_now}
 use Rattle.rows.proofs.Stretches.{first_row, rows_from, row_kept, none_measured, measured_start, row_short, row_took, row_takes, others_short, measured_more, measured_done}

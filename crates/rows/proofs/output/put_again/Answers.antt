@@ -2,7 +2,6 @@
 -- The loop keeps that the bytes from byte k on, put after those that were put, give the whole; what is read stands before.
 use mathlib.Core.Path.{refl}
 use Rattle.rows.proofs.Over.{bytes_start, bytes_done, again_more}
-use Prim.Native.Nat.{◌-◌}
 use native.Mathlib.Omega.{arith}
 use Rattle.rows.proofs.output.put_again.Goals as goal
 

@@ -1,7 +1,6 @@
 -- `put_bytes` puts bytes of an image over the buffer.
 -- The loop keeps that the bytes from byte k on, put after those that were put, give the whole.
 use mathlib.Core.Path.{refl}
-use Prim.Native.Nat.{◌-◌}
 use native.Mathlib.Omega.{arith}
 use Rattle.rows.proofs.Over.{bytes_start, bytes_more, bytes_done}
 use Rattle.rows.proofs.output.put_bytes.Goals as goal

@@ -1,7 +1,6 @@
 -- `put_number` puts the bytes of a number over the buffer.
 -- The loop keeps that the bytes of what is left of the number, put after those that were put, give the whole.
 use mathlib.Core.Path.{refl}
-use Prim.Native.Nat.{◌-◌}
 use native.Mathlib.Omega.{arith}
 use Rattle.rows.proofs.Over.{number_start, number_more, number_done}
 use Rattle.rows.proofs.output.put_number.Goals as goal

@@ -1,7 +1,6 @@
 -- `put_times` puts bytes of the buffer so many times behind them.
 -- The loop keeps how many times they stand before the place that is reached, and how many times they are still to be put.
 use Rattle.rows.proofs.Repeats.{repeating_start, again_requires, again_more, again_done}
-use Prim.Native.Nat.{◌-◌}
 use native.Mathlib.Omega.{arith}
 use Rattle.rows.proofs.output.put_times.Goals as goal
 

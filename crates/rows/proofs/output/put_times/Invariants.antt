@@ -2,7 +2,6 @@
 -- The loop keeps how many times they stand before the place that is reached, and how many times they are still to be put.
 use Rattle.image.specs.Bytes.{bytes_at}
 use Rattle.rows.proofs.Repeats.{Repeating}
-use Prim.Native.Nat.{◌-◌}
 use Rattle.rows.proofs.output.put_times.Given as goal
 
 abbrev pub invariant-loop-left : goal.invariant-loop-left

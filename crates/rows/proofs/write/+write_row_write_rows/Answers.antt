@@ -6,7 +6,6 @@ use mathlib.Core.Path.{sym, ◌∙◌}
 use Rattle.rows.proofs.RowParts.{row_null, side_few, row_part, value_of_lem, side_row}
 use Rattle.rows.proofs.Stretches.{and_last, first_row, rows_from, row_kept, none_written, writing_start, row_fits, others_fit, writing_more, writing_done}
 use Rattle.rows.proofs.Over.{put_last, pieces_from, pieces_fit, pieces_more, pieces_place, pieces_done, null_fits, null_put, value_fits, value_put}
-use Prim.Native.Nat.{◌-◌}
 use native.Mathlib.Omega.{arith}
 use Rattle.accepted.proofs.Columns.{node_few, remembered_now}
 use Rattle.rows.proofs.write.+write_row_write_rows.Goals as goal

@@ -1,7 +1,6 @@
 -- The characters up to a line feed or the chunk's end are taken to the line, and the place where the chunk goes on.
 -- The loop keeps that the line and its end are still those that were to come at the start.
 use Rattle.session.proofs.Chunks.{same_start, same_keeps, same_drops, at_feed, at_end}
-use Prim.Native.Nat.{◌-◌}
 use native.Mathlib.Omega.{arith}
 use borrow.Author.Rules.{rules}
 use Rattle.session.proofs.feed.feed.Goals as goal

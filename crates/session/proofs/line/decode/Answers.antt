@@ -1,7 +1,6 @@
 -- The bytes that a line stands for stand in the frame.
 -- The loop keeps that they are those in the frame so far, with what is found from the place on.
 use Rattle.session.proofs.Lines.{decoded_none, decoded_bad, decoded_full, decoded_more, decoded_done, rest_short, rest_high, rest_low, digit_small}
-use Prim.Native.Nat.{◌-◌}
 use native.Mathlib.Omega.{arith}
 use borrow.Author.Rules.{rules}
 use Rattle.session.proofs.line.decode.Goals as goal

@@ -2,7 +2,6 @@
 -- The loop keeps that the buffer is the one at entry with so many bytes of the output copied in.
 use Rattle.session.proofs.Texts.{copied}
 use Rattle.session.proofs.Copies.{pasted_none, pasted_more}
-use Prim.Native.Nat.{◌-◌}
 use lib.ListN.{length-take}
 use native.Mathlib.Omega.{arith}
 use borrow.Author.Rules.{rules}

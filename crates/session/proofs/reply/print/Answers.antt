@@ -2,7 +2,7 @@
 -- The loop keeps that the text begins with the characters of the bytes so far.
 use Rattle.session.proofs.Texts.{printed_none, printed_more, printed_done}
 use mathlib.Core.Path.{◌∙◌}
-use Prim.Native.Nat.{◌-◌, ◌*◌}
+use Prim.Native.Nat.{◌*◌}
 use lib.ListN.{length-set}
 use native.Mathlib.Omega.{arith}
 use Rattle.session.proofs.reply.print.Goals as goal

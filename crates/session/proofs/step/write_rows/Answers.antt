@@ -20,4 +20,5 @@ returns c =
     let image = front_image _ c.args.side_state _ c.filled-end.ensures in
     record {
       value = c.written_reply.ensures ∙ rw (c.write.ensures.value, image, closed);
-      out_after = c.write.ensures.out_after ∙ rw (image, closed) }
+      out_after = c.write.ensures.out_after ∙ rw (image, closed);
+    }

@@ -3,7 +3,6 @@
 use mathlib.Core.Path.{sym, ◌∙◌}
 use Rattle.image.proofs.Loops.{rest_none, any_jump, jump_found}
 use Rattle.utf8.proofs.Ends.{rest_last}
-use Prim.Native.Nat.{◌-◌}
 use native.Mathlib.Omega.{arith}
 use Rattle.utf8.proofs.ascii.has_high.Goals as goal
 

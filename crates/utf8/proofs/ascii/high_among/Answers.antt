@@ -1,7 +1,6 @@
 -- `utf8::ascii::high_among` meets its contract.
 -- The loop keeps that what was found is what stands in the bytes passed; the measure is how many are left.
 use mathlib.Core.Path.{◌≡◌}
-use Prim.Native.Nat.{◌-◌}
 use native.Mathlib.Omega.{arith}
 use borrow.Author.Rules.{rules}
 use Rattle.image.proofs.Loops.{any_empty, any_snoc}

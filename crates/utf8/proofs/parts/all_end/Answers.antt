@@ -1,7 +1,6 @@
 -- `utf8::parts::all_end` meets its contract: the answer stays what it was at the start.
 -- The loop keeps that each part is as many bytes further as were walked; the measure is how many are left.
 use mathlib.Core.Path.{sym, ◌∙◌}
-use Prim.Native.Nat.{◌-◌}
 use native.Mathlib.Omega.{arith}
 use borrow.Author.Rules.{rules}
 use Rattle.utf8.proofs.FourParts.{each_none, each_then, each_after, each_rest, each_same, ill_ends}

@@ -2,7 +2,6 @@
 -- The loop keeps that the search goes on from the place reached; the measure is how many places are left.
 use mathlib.Core.Path.{ap, sym, ◌∙◌}
 use mathlib.Core.Bool.{not}
-use Prim.Native.Nat.{◌-◌}
 use Rattle.image.proofs.Loops.{rest_none, first_more, first_found, first_done}
 use Rattle.utf8.specs.Cuts.{begins}
 use Rattle.utf8.proofs.parts.cut.Goals as goal

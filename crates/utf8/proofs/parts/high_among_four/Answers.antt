@@ -1,7 +1,6 @@
 -- `utf8::parts::high_among_four` meets its contract.
 -- The loop keeps that what was found is what stands in the bytes passed; the measure is how many are left.
 use mathlib.Core.Path.{◌≡◌}
-use Prim.Native.Nat.{◌-◌}
 use native.Mathlib.Omega.{arith}
 use borrow.Author.Rules.{rules}
 use Rattle.utf8.specs.Ascii.{high}

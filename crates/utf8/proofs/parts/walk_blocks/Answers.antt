@@ -1,7 +1,6 @@
 -- `utf8::parts::walk_blocks` meets its contract: plain blocks leave state 0 as it is, any others are walked 16 bytes at a time.
 -- The loop keeps that each part is as many bytes further as were walked; the measure is how many are left.
 use mathlib.Core.Path.{◌≡◌, sym, ◌∙◌}
-use Prim.Native.Nat.{◌-◌}
 use native.Mathlib.Omega.{arith}
 use borrow.Author.Rules.{rules}
 use Rattle.utf8.proofs.FourParts.{each_plain, each_none, each_then, each_after}

@@ -1,7 +1,6 @@
 -- `utf8::parts::walk_each` meets its contract.
 -- The loop keeps that each part is as many bytes further as it has turned; the measure is how many are left.
 use mathlib.Core.Path.{◌≡◌}
-use Prim.Native.Nat.{◌-◌}
 use native.Mathlib.Omega.{arith}
 use borrow.Author.Rules.{rules}
 use Rattle.utf8.proofs.FourParts.{each_none, each_then, each_after}

@@ -1,6 +1,5 @@
 -- `utf8::walk::walk_bytes` meets its contract.
 -- The loop keeps that the walk goes on from the state reached; the measure is how many bytes are left.
-use Prim.Native.Nat.{◌-◌}
 use borrow.Author.Rules.{rules}
 use Rattle.utf8.proofs.Steps.{walked_none, walked_more, walked_done}
 use Rattle.utf8.proofs.walk.walk_bytes.Goals as goal

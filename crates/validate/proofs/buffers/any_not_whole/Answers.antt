@@ -19,10 +19,13 @@ use Rattle.validate.proofs.buffers.any_not_whole.Goals as goal
 module _ (s : List ℕ) (k : ℕ) (l : Layout) where
   elements : OneOf (3 ∷ 4 ∷ 5 ∷ 11 ∷ []) (tag_of the_type l) → not (whole (buffer_length s k 0) (element_width s k)) ≡ not_whole l s k
   elements = at_layouts (3 ∷ 4 ∷ 5 ∷ 11 ∷ []) _ (λ l. not_whole l s k) refl l
+
   views : OneOf (6 ∷ []) (tag_of the_type l) → not_whole ListView s k ≡ not_whole l s k
   views = at_layouts (6 ∷ []) _ (λ l. not_whole l s k) refl l
+
   offsets : OneOf (9 ∷ []) (tag_of the_type l) → not (whole (buffer_length s k 1) 4) ≡ not_whole l s k
   offsets = at_layouts (9 ∷ []) _ (λ l. not_whole l s k) refl l
+
   none : OneOf (0 ∷ 1 ∷ 2 ∷ 7 ∷ 8 ∷ 10 ∷ 12 ∷ []) (tag_of the_type l) → false ≡ not_whole l s k
   none = at_layouts (0 ∷ 1 ∷ 2 ∷ 7 ∷ 8 ∷ 10 ∷ 12 ∷ []) _ (λ l. not_whole l s k) refl l
 

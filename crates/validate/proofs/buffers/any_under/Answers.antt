@@ -19,16 +19,22 @@ use Rattle.validate.proofs.buffers.any_under.Goals as goal
 module _ (s : List ℕ) (k e : ℕ) (l : Layout) where
   bits : OneOf (1 ∷ []) (tag_of the_type l) → ltb (8 * buffer_length s k 0) e ≡ too_few_elements l s k e
   bits = at_layouts (1 ∷ []) _ (λ l. too_few_elements l s k e) refl l
+
   elements : OneOf (2 ∷ 4 ∷ 11 ∷ []) (tag_of the_type l) → under s k 0 e (element_width s k) ≡ too_few_elements l s k e
   elements = at_layouts (2 ∷ 4 ∷ 11 ∷ []) _ (λ l. too_few_elements l s k e) refl l
+
   offsets : OneOf (3 ∷ 5 ∷ []) (tag_of the_type l) → under s k 0 (e + 1) (element_width s k) ≡ too_few_elements l s k e
   offsets = at_layouts (3 ∷ 5 ∷ []) _ (λ l. too_few_elements l s k e) refl l
+
   views : OneOf (6 ∷ []) (tag_of the_type l) → too_few_elements ListView s k e ≡ too_few_elements l s k e
   views = at_layouts (6 ∷ []) _ (λ l. too_few_elements l s k e) refl l
+
   dense : OneOf (9 ∷ []) (tag_of the_type l) → too_few_elements DenseUnion s k e ≡ too_few_elements l s k e
   dense = at_layouts (9 ∷ []) _ (λ l. too_few_elements l s k e) refl l
+
   ids : OneOf (10 ∷ []) (tag_of the_type l) → under s k 0 e 1 ≡ too_few_elements l s k e
   ids = at_layouts (10 ∷ []) _ (λ l. too_few_elements l s k e) refl l
+
   none : OneOf (0 ∷ 7 ∷ 8 ∷ 12 ∷ []) (tag_of the_type l) → false ≡ too_few_elements l s k e
   none = at_layouts (0 ∷ 7 ∷ 8 ∷ 12 ∷ []) _ (λ l. too_few_elements l s k e) refl l
 

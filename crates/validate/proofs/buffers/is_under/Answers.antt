@@ -14,6 +14,7 @@ by-quotient len count width ne = by (ltb (len / width) count) refl
   where
     pos : 0 < width
     pos = omega arith
+
     by : (b : Bool) → ltb (len / width) count ≡ b → ltb (len / width) count ≡ ltb len (count * width)
     by true e = e ∙ sym (lt-ltb len (count * width) ((div-lt_iff_lt-mul pos).0 (ltb-true (len / width) count e)))
     by false e = e ∙ sym (le-ltb len (count * width) ((le-div_iff_mul-le pos).0 (ltb-false (len / width) count e)))

@@ -3,7 +3,7 @@
 use mathlib.Core.Path.{◌≡◌}
 use mathlib.Core.Bool.{true, false}
 use mathlib.Core.List.{List}
-use Prim.Native.Nat.{ℕ, ◌-◌, ◌<◌, ◌≤◌}
+use Prim.Native.Nat.{ℕ, ◌<◌, ◌≤◌}
 use native.Mathlib.Omega.{arith}
 use borrow.Author.Tests.{lt-ltb, le-ltb}
 use Rattle.image.specs.Record.{length_of}
@@ -15,6 +15,7 @@ module _ (s : List ℕ) (n k r : ℕ) (e : r ≡ length_of s k) where
   few : r < n → rows_under s n k ≡ true
   unfolding rows_under
   few lt = rw (← e, lt-ltb r n lt)
+
   enough : n ≤ r → rows_under s n k ≡ false
   unfolding rows_under
   enough le = rw (← e, le-ltb r n le)

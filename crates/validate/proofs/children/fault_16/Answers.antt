@@ -18,10 +18,13 @@ use Rattle.validate.proofs.children.fault_16.Goals as goal
 module _ (s : List ℕ) (k : ℕ) (l : Layout) where
   fixed : OneOf (7 ∷ []) (tag_of the_type l) → ltb (length_of s (first_child s k)) (elements_of s k * p1_of s k) ≡ too_few_child_rows l s k
   fixed = at_layouts (7 ∷ []) _ (λ l. too_few_child_rows l s k) refl l
+
   parts : OneOf (8 ∷ 10 ∷ []) (tag_of the_type l) → child_under s k (elements_of s k) ≡ too_few_child_rows l s k
   parts = at_layouts (8 ∷ 10 ∷ []) _ (λ l. too_few_child_rows l s k) refl l
+
   runs : OneOf (12 ∷ []) (tag_of the_type l) → not (eqb (length_of s (first_child s k)) (length_of s (first_child s k + 1))) ≡ too_few_child_rows l s k
   runs = at_layouts (12 ∷ []) _ (λ l. too_few_child_rows l s k) refl l
+
   none : OneOf (0 ∷ 1 ∷ 2 ∷ 3 ∷ 4 ∷ 5 ∷ 6 ∷ 9 ∷ 11 ∷ []) (tag_of the_type l) → false ≡ too_few_child_rows l s k
   none = at_layouts (0 ∷ 1 ∷ 2 ∷ 3 ∷ 4 ∷ 5 ∷ 6 ∷ 9 ∷ 11 ∷ []) _ (λ l. too_few_child_rows l s k) refl l
 

@@ -6,12 +6,11 @@ use lib.Dec.{ltb}
 use native.Mathlib.Nat.{zero-add}
 use borrow.Author.Tests.{lt-ltb, le-ltb}
 use Rattle.image.specs.Bytes.{number_at}
-use Rattle.image.specs.Record.{first_child}
 use Rattle.image.specs.Element.{element_place, element_at, size_at}
 use Rattle.image.specs.Faults.{list_outside}
 use Rattle.image.proofs.Loops.{rest_none, any_more, any_found, any_done}
 use Rattle.validate.proofs.Elements.{element_inside}
-use Prim.Native.Nat.{ℕ, ◌+◌, ◌-◌, ◌*◌}
+use Prim.Native.Nat.{ℕ, ◌+◌, ◌*◌}
 use native.Mathlib.Omega.{arith}
 use Rattle.validate.proofs.offsets.lists_outside.Invariants.{Views}
 use Rattle.validate.proofs.offsets.lists_outside.Goals as goal

@@ -19,6 +19,7 @@ module _ (s : List ℕ) (k : ℕ) {place w e : ℕ} (p : place ≡ buffer_place 
   offsets-in : (end : ℕ) → rises 0 (number_in s place w) end 0 0 (e + 1) ≡ offsets_rise s k end
   unfolding offsets_rise number_in element_at element_place
   offsets-in end = rw (p, q, r) (rises_same 0 _ _ end 0 0 0 _ (λ j. refl))
+
   offsets-packed : Holds s k 0 (element_width s k) (elements_of s k + 1) → Packed (length s) place w (e + 1)
   offsets-packed h = rw (p, q, r) h
 

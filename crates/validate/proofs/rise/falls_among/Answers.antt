@@ -4,7 +4,6 @@ use mathlib.Core.Path.{sym, ◌∙◌}
 use native.Mathlib.Nat.{zero-add}
 use Rattle.image.proofs.Loops.{rest_none, any_more, any_found, any_done, any_jump, jump_found}
 use Rattle.image.proofs.Numbers.{packed_fewer}
-use Prim.Native.Nat.{◌-◌}
 use native.Mathlib.Omega.{arith}
 use Rattle.validate.proofs.rise.falls_among.Goals as goal
 

@@ -3,7 +3,6 @@
 use mathlib.Core.Path.{◌≡◌}
 use Rattle.image.proofs.Loops.{any_empty, any_snoc}
 use Rattle.image.proofs.Numbers.{packed_few, packed_fewer}
-use Prim.Native.Nat.{◌-◌}
 use native.Mathlib.Omega.{arith}
 use Rattle.validate.proofs.rise.falls_in_block.Goals as goal
 

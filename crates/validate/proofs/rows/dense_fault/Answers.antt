@@ -14,8 +14,8 @@ use Rattle.image.specs.Faults.{dense_row_fault, dense_outside}
 use Rattle.image.proofs.Loops.{rest_none, any_more, any_found, any_done}
 use Rattle.validate.proofs.Elements.{element_inside}
 use Rattle.validate.proofs.Unions.{Union, named, unnamed}
-use Prim.Native.Nat.{ℕ, ◌+◌, ◌-◌, ◌*◌, ◌<◌, ◌≤◌}
-use lib.ListN.{length, get_or}
+use Prim.Native.Nat.{ℕ, ◌+◌, ◌*◌, ◌<◌, ◌≤◌}
+use lib.ListN.{get_or}
 use native.Mathlib.Omega.{arith}
 use Rattle.validate.proofs.rows.dense_fault.Goals as goal
 
@@ -23,6 +23,7 @@ module _ {s : List ℕ} {k : ℕ} {table : List ℕ} {end ids from : ℕ} (u : U
   no-child : end ≤ get_or table id 0 → dense_row_fault s k (0 + i) ≡ true
   unfolding dense_row_fault
   no-child le = rw (unnamed u i read, le-leb end (get_or table id 0) le)
+
   -- the row has a child of so many rows
   child-row : get_or table id 0 < end → (offsets rows at : ℕ) → offsets ≡ buffer_place s k 1 → rows ≡ length_of s (get_or table id 0) → at ≡ number_at 4 s (offsets + (from + i) * 4)
       → dense_row_fault s k (0 + i) ≡ leb rows at

@@ -40,10 +40,12 @@ module _ (s : List ℕ) (k child rows p : ℕ) (signed : Bool) (node : child ≡
   unsigned : signed ≡ false → KeyLimit s k rows
   unfolding key_outside
   unsigned e = record { outside = λ j. rw (← node, ← count, ← key, ← test, e) (or-false _) }
+
   module _ (negative : signed ≡ true) (w sign : ℕ) (width : w ≡ element_width s k) (bit : sign ≡ sign_bit w) where
     low-sign : sign ≤ rows → KeyLimit s k sign
     unfolding key_outside
     low-sign le = record { outside = λ j. rw (← node, ← count, ← key, ← test, negative, ← width, ← bit) (second-lower rows sign _ le) }
+
     low_rows : rows ≤ sign → KeyLimit s k rows
     unfolding key_outside
     low_rows le = record { outside = λ j. rw (← node, ← count, ← key, ← test, negative, ← width, ← bit) (first-lower rows sign _ le) }

@@ -1,13 +1,11 @@
 -- `keys_fault` tells whether a row that is not null has a key outside the values.
 -- Without a bitmap it is the keys alone that decide; else the loop keeps what is left of the test.
 use mathlib.Core.Path.{refl, ◌∙◌}
-use mathlib.Core.Logic.{⊎_elim}
 use borrow.Author.Tests.{le-leb, lt-leb}
 use Rattle.image.proofs.Loops.{rest_none, any_more, any_found, any_done}
 use Rattle.image.proofs.Numbers.{width_most, packed_fewer}
 use Rattle.validate.proofs.Elements.{rows_inside}
 use Rattle.validate.proofs.KeyRows.{null_row, key_row, by_keys}
-use Prim.Native.Nat.{◌-◌}
 use native.Mathlib.Omega.{arith}
 use Rattle.validate.proofs.rows.keys_fault.Goals as goal
 use Rattle.validate.proofs.rows.keys_fault.Goals.{then-is_kept+else-limit-nth_inside, else-is_kept}

@@ -9,7 +9,7 @@ use Rattle.image.specs.Bytes.{byte_at}
 use Rattle.image.specs.Faults.{nonzero, padding_nonzero}
 use Rattle.image.proofs.Loops.{rest_none, any_more, any_found, any_done}
 use Rattle.validate.proofs.Padding.{front_padded, back_padded}
-use Prim.Native.Nat.{ℕ, ◌-◌}
+use Prim.Native.Nat.{ℕ}
 use native.Mathlib.Omega.{arith}
 use Rattle.validate.proofs.rows.padding_nonzero.Goals as goal
 

@@ -9,7 +9,7 @@ use Rattle.image.specs.Bytes.{number_at}
 use Rattle.image.proofs.Loops.{rest_none, any_more, any_found, any_done, any_jump, jump_found}
 use Rattle.image.proofs.Numbers.{packed_fewer}
 use Rattle.validate.specs.Numbers.{number_in, reaches}
-use Prim.Native.Nat.{ℕ, ◌+◌, ◌-◌, ◌*◌}
+use Prim.Native.Nat.{ℕ, ◌+◌, ◌*◌}
 use native.Mathlib.Omega.{arith}
 use Rattle.validate.proofs.rows.reach_among.Goals as goal
 

@@ -4,7 +4,6 @@ use mathlib.Core.Path.{◌≡◌}
 use Rattle.image.proofs.Loops.{any_empty, any_snoc}
 use Rattle.image.proofs.Numbers.{packed_few, packed_fewer}
 use Rattle.validate.specs.Numbers.{number_in, reaches}
-use Prim.Native.Nat.{◌-◌}
 use native.Mathlib.Omega.{arith}
 use Rattle.validate.proofs.rows.reach_in_block.Goals as goal
 

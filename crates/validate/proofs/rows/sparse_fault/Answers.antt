@@ -11,7 +11,7 @@ use Rattle.image.specs.Faults.{sparse_row_fault}
 use Rattle.image.proofs.Loops.{rest_none, any_more, any_found, any_done}
 use Rattle.validate.proofs.Elements.{element_inside}
 use Rattle.validate.proofs.Unions.{Union, unnamed}
-use Prim.Native.Nat.{ℕ, ◌+◌, ◌-◌, ◌*◌}
+use Prim.Native.Nat.{ℕ, ◌+◌, ◌*◌}
 use lib.ListN.{get_or}
 use native.Mathlib.Omega.{arith}
 use Rattle.validate.proofs.rows.sparse_fault.Goals as goal

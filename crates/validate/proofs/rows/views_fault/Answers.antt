@@ -2,10 +2,8 @@
 -- The loop keeps where the view of row i stands and what is left of the test; a row's view stands 16 bytes after the one
 -- before it.
 use mathlib.Core.Path.{◌∙◌}
-use mathlib.Core.Logic.{⊎_elim}
 use Rattle.image.proofs.Loops.{rest_none, any_more, any_found, any_done}
 use Rattle.validate.proofs.ViewRows.{entries_read, null_row, view_row_lem, view_at}
-use Prim.Native.Nat.{◌-◌}
 use native.Mathlib.Omega.{arith}
 use Rattle.validate.proofs.rows.views_fault.Goals as goal
 use Rattle.validate.proofs.rows.views_fault.Goals.{then-is_kept+else-view_fault, else-is_kept}

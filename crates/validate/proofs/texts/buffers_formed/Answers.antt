@@ -2,7 +2,6 @@
 -- The loop keeps that each before number j is.
 use mathlib.Core.Bool.{false≢true}
 use Rattle.validate.proofs.TextRows.{buffer_none, buffer_more, buffer_all, formed_here, data_inside}
-use Prim.Native.Nat.{◌-◌}
 use native.Mathlib.Omega.{arith}
 use Rattle.validate.proofs.texts.buffers_formed.Goals as goal
 

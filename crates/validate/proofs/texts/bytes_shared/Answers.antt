@@ -1,7 +1,6 @@
 -- The lengths of the views are added up, and the sum fits.
 -- The loop keeps that the sum is below 2 ^ 32 for each view.
 use Rattle.validate.proofs.TextRows.{small_image, few_rows, view_fits}
-use Prim.Native.Nat.{◌-◌}
 use native.Mathlib.Omega.{arith}
 use Rattle.validate.proofs.texts.bytes_shared.Goals as goal
 

@@ -1,10 +1,8 @@
 -- `letter_split` tells whether a row's text starts with a tail.
 -- The loop keeps what is left of the test.
 use mathlib.Core.Path.{◌∙◌}
-use mathlib.Core.Logic.{⊎_elim}
 use Rattle.image.proofs.Loops.{rest_none, any_more, any_found, any_done}
 use Rattle.validate.proofs.TextRows.{small_image, offset_inside, starts_inside, start_read, split, not_split}
-use Prim.Native.Nat.{◌-◌}
 use native.Mathlib.Omega.{arith}
 use Rattle.validate.proofs.texts.letter_split.Goals as goal
 use Rattle.validate.proofs.texts.letter_split.Goals.{then-start-end+else-is_tail, else-start-end}

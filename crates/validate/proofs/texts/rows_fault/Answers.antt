@@ -1,10 +1,8 @@
 -- `rows_fault` tells whether a row that is not null has an ill-formed text.
 -- The loop keeps what is left of the test.
 use mathlib.Core.Path.{sym, ◌∙◌}
-use mathlib.Core.Logic.{⊎_elim}
 use Rattle.image.proofs.Loops.{rest_none, any_more, any_found, any_done}
 use Rattle.validate.proofs.TextRows.{text_row, null_row}
-use Prim.Native.Nat.{◌-◌}
 use native.Mathlib.Omega.{arith}
 use Rattle.validate.proofs.texts.rows_fault.Goals as goal
 use Rattle.validate.proofs.texts.rows_fault.Goals.{then-is_kept+else-not-is_formed, else-is_kept}

@@ -2,7 +2,6 @@
 -- The loop keeps the sum of those before node k.
 use mathlib.Core.Path.{◌≡◌}
 use Rattle.validate.proofs.Parents.{children_none, children_more}
-use Prim.Native.Nat.{◌-◌}
 use native.Mathlib.Omega.{arith}
 use Rattle.validate.proofs.tree.child_start.Goals as goal
 

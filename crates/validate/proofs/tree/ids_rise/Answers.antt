@@ -3,7 +3,6 @@
 use mathlib.Core.Path.{◌∙◌}
 use Rattle.image.specs.Faults.{ids_rise}
 use Rattle.image.proofs.Loops.{rising_none, rising_more, rising_below, rising_above, rising_done}
-use Prim.Native.Nat.{◌-◌}
 use Rattle.validate.proofs.tree.ids_rise.Goals as goal
 
 pub loop-k-init : goal.loop-k-init

@@ -7,7 +7,7 @@ use native.Mathlib.Nat.{min-le_right}
 use Prim.Native.Nat.{min}
 use Rattle.image.specs.Record.{node_count, child_start}
 use Rattle.image.specs.Faults.{level_end}
-use Prim.Native.Nat.{ℕ, ◌+◌, ◌-◌, ◌≤◌}
+use Prim.Native.Nat.{ℕ, ◌+◌, ◌≤◌}
 use native.Mathlib.Omega.{arith}
 use Rattle.validate.proofs.tree.level_end.Goals as goal
 

@@ -1,7 +1,6 @@
 -- The parent is the first node whose children end past the node.
 -- The loop keeps that the children of each node before `parent` end at the node or before.
 use Rattle.validate.proofs.Parents.{passed_more}
-use Prim.Native.Nat.{◌-◌}
 use native.Mathlib.Omega.{arith}
 use Rattle.validate.proofs.tree.parent_from.Goals as goal
 

@@ -1,6 +1,5 @@
 -- The first bit in which two numbers differ.
 -- The invariant: the pairs of bits passed are the same, and what is left of both numbers is without these.
-use Prim.Native.Nat.{◌-◌}
 use Rattle.values.proofs.Steps.{passed_none, passed_one}
 use Rattle.values.proofs.FirstUnequal.{unequal_here, unequal_end}
 use Rattle.values.proofs.WordBits.{whole_number_lem, half_of, pair_same, pair_differs_lem}

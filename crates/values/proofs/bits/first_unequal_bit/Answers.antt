@@ -1,6 +1,5 @@
 -- The first unequal pair of two runs of bits: 64 at a time, then the rest.
 -- The invariant: the first k pairs are the same; words differ first where their bits do.
-use Prim.Native.Nat.{◌-◌}
 use Rattle.values.proofs.Steps.{passed_none}
 use Rattle.values.proofs.FirstUnequal.{unequal_front, unequal_passed, unequal_rest, unequal_most}
 use Rattle.values.proofs.WordBits.{word_passed, word_found}

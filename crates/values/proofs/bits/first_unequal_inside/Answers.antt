@@ -1,7 +1,7 @@
 -- The first unequal pair of two runs of whole words of bits, inside their slices.
 -- The invariant: the bits of the h words passed are the same; words differ first where their bits do.
 use mathlib.Core.Path.{◌≡◌}
-use Prim.Native.Nat.{◌+◌, ◌*◌, ◌-◌}
+use Prim.Native.Nat.{◌+◌, ◌*◌}
 use Rattle.values.proofs.Steps.{passed_none}
 use Rattle.values.proofs.FirstUnequal.{unequal_end, unequal_most}
 use Rattle.values.proofs.WordBits.{word_passed, word_found}

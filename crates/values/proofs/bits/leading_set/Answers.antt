@@ -2,8 +2,6 @@
 -- The invariant: the bits passed are set.
 use Rattle.values.proofs.Leads.{every_none}
 use Rattle.values.proofs.WordBits.{word_stops, word_more, word_ends}
-use mathlib.Core.Bool.{true}
-use Prim.Native.Nat.{◌-◌}
 use native.Mathlib.Omega.{arith}
 use Rattle.values.proofs.bits.leading_set.Goals as goal
 

@@ -2,8 +2,6 @@
 -- The loop keeps that the first r bits are set, and what is left of the number.
 use Rattle.values.proofs.Leads.{every_none, every_more, leading_stops, leading_all}
 use Rattle.values.proofs.WordBits.{whole_number_lem, half_of, bit_set, bit_unset}
-use mathlib.Core.Bool.{true}
-use Prim.Native.Nat.{◌-◌}
 use native.Mathlib.Omega.{arith}
 use Rattle.values.proofs.bits.ones.Goals as goal
 

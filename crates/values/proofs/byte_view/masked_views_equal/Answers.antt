@@ -1,10 +1,7 @@
 -- The answer is whether the rows of views are equal in turn, where their null masks agree.
 -- The loop keeps where the views of row k stand, and that the rows from it on decide; a turn passes over a null row or compares two views.
 use mathlib.Core.Path.{sym, ◌∙◌}
-use mathlib.Core.Logic.{⊎_elim}
-use Prim.Native.Nat.{◌-◌}
 use native.Mathlib.Omega.{arith}
-use borrow.Author.Tests.{not-false}
 use Rattle.image.specs.Row.{view_row}
 use Rattle.values.proofs.Steps.{left_none, left_more, left_fails, left_done, by_rows, row_test}
 use Rattle.accepted.proofs.Nodes.{side_small}

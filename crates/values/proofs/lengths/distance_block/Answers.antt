@@ -3,7 +3,6 @@
 use Rattle.values.proofs.Distances.{above_packed, above_read, above_few, distance_more}
 use Rattle.values.proofs.Steps.{all_none}
 use mathlib.Core.Path.{◌≡◌}
-use Prim.Native.Nat.{◌-◌}
 use native.Mathlib.Omega.{arith}
 use Rattle.values.proofs.lengths.distance_block.Goals as goal
 

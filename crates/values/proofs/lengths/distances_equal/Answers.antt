@@ -4,7 +4,6 @@ use Rattle.values.proofs.Distances.{above_ahead, above_few}
 use Rattle.values.proofs.Steps.{left_none, left_jump, jump_fails, left_rest}
 use native.Mathlib.Nat.{le_refl}
 use mathlib.Core.Path.{sym, ◌∙◌}
-use Prim.Native.Nat.{◌-◌}
 use native.Mathlib.Omega.{arith}
 use Rattle.values.proofs.lengths.distances_equal.Goals as goal
 

@@ -3,7 +3,6 @@
 use Rattle.values.proofs.ValidElements.{element_room, more_pairs, valid_test}
 use Rattle.values.proofs.Steps.{all_none}
 use mathlib.Core.Path.{◌≡◌}
-use Prim.Native.Nat.{◌-◌}
 use native.Mathlib.Omega.{arith}
 use Rattle.values.proofs.primitive.valid_same.Goals as goal
 

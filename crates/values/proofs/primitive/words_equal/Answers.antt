@@ -5,7 +5,6 @@ use Rattle.values.proofs.MaskedRows.{masked_ahead}
 use Rattle.accepted.proofs.Nodes.{side_small}
 use native.Mathlib.Nat.{le_refl}
 use mathlib.Core.Path.{sym, ◌∙◌}
-use Prim.Native.Nat.{◌-◌}
 use native.Mathlib.Omega.{arith}
 use Rattle.values.proofs.primitive.words_equal.Goals as goal
 

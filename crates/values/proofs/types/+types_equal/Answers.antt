@@ -3,7 +3,6 @@
 use mathlib.Core.Path.{refl, ◌∙◌}
 use Rattle.values.proofs.Steps.{left_none, left_more, left_fails, left_done}
 use Rattle.values.proofs.Levels.{labels_fail, labels_agree_lem, at_none, heads_fail, children}
-use Prim.Native.Nat.{◌-◌}
 use native.Mathlib.Omega.{arith}
 use Rattle.values.proofs.types.+types_equal.Goals as goal
 

@@ -3,7 +3,6 @@
 use Rattle.values.proofs.Steps.{all_none, all_snoc}
 use Rattle.values.specs.Pairs.{same_byte}
 use mathlib.Core.Path.{◌≡◌}
-use Prim.Native.Nat.{◌-◌}
 use native.Mathlib.Omega.{arith}
 use borrow.Author.Rules.{rules}
 use Rattle.values.proofs.utils.equal_block.Goals as goal

@@ -2,7 +2,6 @@
 -- The loop keeps that what is left to look at gives the answer; the measure is how much is left.
 use mathlib.Core.Path.{sym, ◌∙◌}
 use Rattle.values.proofs.Steps.{left_none, left_rest, left_jump, jump_fails, by_bytes}
-use Prim.Native.Nat.{◌-◌}
 use native.Mathlib.Omega.{arith}
 use Rattle.values.proofs.utils.equal_len.Goals as goal
 

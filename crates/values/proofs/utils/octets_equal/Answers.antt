@@ -2,7 +2,6 @@
 -- The loop keeps that the pairs so far are the same; the measure is how much is left.
 use mathlib.Core.Path.{sym, ◌∙◌}
 use Rattle.values.proofs.Steps.{passed_none, passed_more, passed_fails, passed_tail, by_bytes}
-use Prim.Native.Nat.{◌-◌}
 use native.Mathlib.Omega.{arith}
 use Rattle.values.proofs.utils.octets_equal.Goals as goal
 

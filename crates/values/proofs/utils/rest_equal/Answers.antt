@@ -2,7 +2,6 @@
 -- The loop keeps that what is left to look at gives the answer; the measure is how much is left.
 use mathlib.Core.Path.{sym, ◌∙◌}
 use Rattle.values.proofs.Steps.{left_none, left_more, left_fails, left_done, front_fails, passed_tail, by_bytes, same_byte_lem, other_byte}
-use Prim.Native.Nat.{◌-◌}
 use native.Mathlib.Omega.{arith}
 use Rattle.values.proofs.utils.rest_equal.Goals as goal
 
