@@ -29,7 +29,7 @@ from image import CODES
 
 TARGET = os.path.join(os.path.dirname(os.path.abspath(__file__)), "..", "..", "target")
 BUILT = os.path.join(TARGET, "rust")
-SESSION = os.environ.get("EDITIONS") or os.path.join(TARGET, "bin", "editions")
+SESSION = os.environ.get("EDITIONS") or os.path.join(TARGET, "..", "crates", "editions", "out", "editions")
 BOTH = "release/both"
 BATCH = 20000
 
