@@ -1,5 +1,6 @@
 pub mod Bools
 pub mod ById
+pub mod ChildTable
 pub mod CodeTable
 pub mod Compare
 pub mod Entries

@@ -21,6 +21,14 @@ byte_past s i le = get_or-eq_default s 0 {n = i} le
 pub read_through : {x y r bits : ℕ} → Read x bits r → Read y bits x → Read y bits r
 read_through p q = record { value = p.value ∙ q.value; small = p.small }
 
+-- a number that is the one that was read
+pub read_same : {x bits r q : ℕ} → q ≡ r → Read x bits r → Read x bits q
+read_same e p = rw e p
+
+-- a byte that stands there
+pub read_of : {x r : ℕ} → r ≡ x → x < 256 → Read x 8 r
+read_of e h = record { value = e; small = rw e h }
+
 -- a number whose width is known
 pub read_as : {w v r : ℕ} (s : List ℕ) (i : ℕ) → w ≡ v → Read (number_at v s i) (8 * v) r → Read (number_at w s i) (8 * w) r
 read_as s i e p = rw e p

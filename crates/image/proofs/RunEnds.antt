@@ -9,8 +9,9 @@ use Rattle.image.specs.Bytes.{number_at}
 use Rattle.image.specs.Record.{code_of, offset_of, first_child, buffer_place}
 use Rattle.image.specs.TypeCode.{integer_width}
 use Rattle.image.specs.Element.{run_end_width, run_end_at}
+use Rattle.image.specs.declared.bytes.Numbers.{Numbers}
 use Rattle.image.specs.declared.element.EndsAt.{EndsAt}
-use Rattle.image.specs.Reads.{Read, Nth, Ends}
+use Rattle.image.specs.Reads.{Read, Nth, EndsOf, Ends}
 use Rattle.image.proofs.Widths.{integer_width_lem, integer_width_least}
 
 -- where run ends start, as it is read
@@ -26,6 +27,18 @@ unfolding run_end_width
 ends_read s k v {e} {c} ee ec ew ep eo at = record {
   width = rw (← ee.value, ← ec) ew;
   place = rw (← ee.value, ← ep.value, ← eo.value) at;
+  some = rw ew (integer_width_least c);
+  narrow = rw ew (integer_width_lem c);
+  near = rw at (ends_small c ep eo ew);
+}
+
+pub ends_of : (s : List ℕ) (k : ℕ) (v : Numbers) {e c p o : ℕ} → v.bytes.now ≡ s → e ≡ first_child s k → c ≡ code_of s e → v.width ≡ integer_width c → Read (buffer_place s e 0) 32 p → Read (offset_of s e) 32 o
+    → v.place ≡ p + o * v.width → EndsOf s k v
+unfolding run_end_width
+ends_of s k v {e} {c} {p} {o} same ee ec ew ep eo at = record {
+  bytes = same;
+  width = rw (← ee, ← ec) ew;
+  place = rw (← ee, ← ep.value, ← eo.value) at;
   some = rw ew (integer_width_least c);
   narrow = rw ew (integer_width_lem c);
   near = rw at (ends_small c ep eo ew);

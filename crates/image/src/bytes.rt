@@ -10,22 +10,16 @@ pub fn byte(s: &[u8], i: usize) -> u8
     if i < s.len() { s[i] } else { 0 }
 }
 
-pub fn wide(x: u8) -> usize
-    ensures { Read x 8 result }
+// The number that the W bytes at a place make, which lie inside: one load.
+pub fn load<const W: usize>(s: &[u8], i: usize) -> usize
+    requires { (W ≤ 8) × (i + W ≤ length s.now) }
+    ensures { Read (number_at W s.now i) (8 * W) result }
 {
-    x as usize
-}
-
-// The number that the two bytes at a place make.
-pub fn le16(s: &[u8], i: usize) -> u32
-    ensures { Read (number_at 2 s.now i) 16 result }
-{
-    if s.len() <= i {
-        return 0;
+    let mut x: usize = 0;
+    for k in (0..W).rev() {
+        x = usize::from(s[i + k]) + 256 * x;
     }
-    let low = byte(s, i) as u32;
-    let high = byte(s, i + 1) as u32;
-    low + 256 * high
+    x
 }
 
 // The number that the w bytes at a place make, a byte at a time.
@@ -37,104 +31,33 @@ fn by_bytes(s: &[u8], i: usize, w: usize) -> usize
         return 0;
     }
     let mut x: usize = 0;
-    let mut k = w;
-    while k > 0 {
-        k -= 1;
-        x = wide(byte(s, i + k)) + 256 * x;
+    for k in (0..w).rev() {
+        x = usize::from(byte(s, i + k)) + 256 * x;
     }
     x
 }
 
-// The number that the two bytes at a place make, which lie inside: one load.
-pub fn pair(s: &[u8], i: usize) -> usize
-    requires { i + 2 ≤ length s.now }
-    ensures { Read (number_at 2 s.now i) 16 result }
+// The number that the W bytes at a place make.
+pub fn le<const W: usize>(s: &[u8], i: usize) -> usize
+    requires { W ≤ 8 }
+    ensures { Read (number_at W s.now i) (8 * W) result }
 {
-    wide(s[i]) + 256 * wide(s[i + 1])
-}
-
-// The number that the four bytes at a place make, which lie inside: one load.
-pub fn quad(s: &[u8], i: usize) -> usize
-    requires { i + 4 ≤ length s.now }
-    ensures { Read (number_at 4 s.now i) 32 result }
-{
-    wide(s[i]) + 256 * wide(s[i + 1]) + 65536 * wide(s[i + 2]) + 16777216 * wide(s[i + 3])
-}
-
-// The number that the eight bytes at a place make, which lie inside: one load.
-pub fn octet(s: &[u8], i: usize) -> usize
-    requires { i + 8 ≤ length s.now }
-    ensures { Read (number_at 8 s.now i) 64 result }
-{
-    quad(s, i) + 4294967296 * quad(s, i + 4)
-}
-
-// The number that the four bytes at a place make.
-pub fn le32(s: &[u8], i: usize) -> usize
-    ensures { Read (number_at 4 s.now i) 32 result }
-{
-    if 4 <= s.len() {
-        if i <= s.len() - 4 {
-            return quad(s, i);
-        }
+    if W <= s.len() && i <= s.len() - W {
+        return load::<W>(s, i);
     }
-    by_bytes(s, i, 4)
+    by_bytes(s, i, W)
 }
 
-// The number that the eight bytes at a place make.
-pub fn le64(s: &[u8], i: usize) -> usize
-    ensures { Read (number_at 8 s.now i) 64 result }
-{
-    if 8 <= s.len() {
-        if i <= s.len() - 8 {
-            return octet(s, i);
-        }
-    }
-    by_bytes(s, i, 8)
-}
-
-// The number that the w bytes at a place make.
+// The same, of w bytes.
 pub fn number(s: &[u8], i: usize, w: usize) -> usize
     requires { w ≤ 8 }
     ensures { Read (number_at w s.now i) (8 * w) result }
 {
-    if w <= s.len() {
-        if i <= s.len() - w {
-            if w == 4 {
-                return quad(s, i);
-            }
-            if w == 8 {
-                return octet(s, i);
-            }
-        }
+    match w {
+        4 => le::<4>(s, i),
+        8 => le::<8>(s, i),
+        _ => by_bytes(s, i, w),
     }
-    by_bytes(s, i, w)
-}
-
-// Number j of those of w bytes that stand one after the other from a place on.
-pub fn nth(s: &[u8], place: usize, w: usize, j: usize) -> usize
-    requires { Nth place w j }
-    ensures { Read (number_at w s.now (place + j * w)) (8 * w) result }
-{
-    number(s, place + j * w, w)
-}
-
-// The same where w is 1, 2, 4 or 8 and the number lies inside: no test but those of w, which a loop makes once.
-pub fn nth_inside(s: &[u8], place: usize, w: usize, j: usize) -> usize
-    requires { Packed (length s.now) place w (j + 1) }
-    ensures { Read (number_at w s.now (place + j * w)) (8 * w) result }
-{
-    let i = place + j * w;
-    if w == 4 {
-        return quad(s, i);
-    }
-    if w == 8 {
-        return octet(s, i);
-    }
-    if w == 2 {
-        return pair(s, i);
-    }
-    wide(s[i])
 }
 
 // Bit j of the bits that start at a place.
@@ -148,6 +71,108 @@ pub fn bit(s: &[u8], place: usize, j: usize) -> bool
     if n - place <= j / 8 {
         return false;
     }
-    let x = wide(s[place + j / 8]);
+    let x = usize::from(s[place + j / 8]);
     (x >> (j % 8)) % 2 == 1
+}
+
+// Numbers of one width that stand one after the other from a place on.
+#[derive(Clone, Copy)]
+pub struct Numbers<'a> {
+    pub bytes: &'a [u8],
+    pub place: usize,
+    pub width: usize,
+}
+
+impl Numbers<'_> {
+    // Number j.
+    pub fn at(self, j: usize) -> usize
+        requires { Nth self.place self.width j }
+        ensures { Read (number_at self.entry.width self.entry.bytes.now (self.entry.place + j * self.entry.width)) (8 * self.entry.width) result }
+    {
+        number(self.bytes, self.place + j * self.width, self.width)
+    }
+
+    // The same where the width is 1, 2, 4 or 8 and the number lies inside: no test but those of the width, which a loop
+    // makes once.
+    pub fn inside(self, j: usize) -> usize
+        requires { Packed (length self.bytes.now) self.place self.width (j + 1) }
+        ensures { Read (number_at self.entry.width self.entry.bytes.now (self.entry.place + j * self.entry.width)) (8 * self.entry.width) result }
+    {
+        let i = self.place + j * self.width;
+        match self.width {
+            4 => load::<4>(self.bytes, i),
+            8 => load::<8>(self.bytes, i),
+            2 => load::<2>(self.bytes, i),
+            _ => load::<1>(self.bytes, i),
+        }
+    }
+}
+
+pub fn wide(x: u8) -> usize
+    ensures { Read x 8 result }
+{
+    x as usize
+}
+
+pub fn le16(s: &[u8], i: usize) -> u32
+    ensures { Read (number_at 2 s.now i) 16 result }
+{
+    le::<2>(s, i) as u32
+}
+
+pub fn le32(s: &[u8], i: usize) -> usize
+    ensures { Read (number_at 4 s.now i) 32 result }
+{
+    le::<4>(s, i)
+}
+
+pub fn le64(s: &[u8], i: usize) -> usize
+    ensures { Read (number_at 8 s.now i) 64 result }
+{
+    le::<8>(s, i)
+}
+
+pub fn pair(s: &[u8], i: usize) -> usize
+    requires { i + 2 ≤ length s.now }
+    ensures { Read (number_at 2 s.now i) 16 result }
+{
+    load::<2>(s, i)
+}
+
+pub fn quad(s: &[u8], i: usize) -> usize
+    requires { i + 4 ≤ length s.now }
+    ensures { Read (number_at 4 s.now i) 32 result }
+{
+    load::<4>(s, i)
+}
+
+pub fn octet(s: &[u8], i: usize) -> usize
+    requires { i + 8 ≤ length s.now }
+    ensures { Read (number_at 8 s.now i) 64 result }
+{
+    load::<8>(s, i)
+}
+
+pub fn nth(s: &[u8], place: usize, w: usize, j: usize) -> usize
+    requires { Nth place w j }
+    ensures { Read (number_at w s.now (place + j * w)) (8 * w) result }
+{
+    Numbers {
+        bytes: s,
+        place: place,
+        width: w,
+    }
+    .at(j)
+}
+
+pub fn nth_inside(s: &[u8], place: usize, w: usize, j: usize) -> usize
+    requires { Packed (length s.now) place w (j + 1) }
+    ensures { Read (number_at w s.now (place + j * w)) (8 * w) result }
+{
+    Numbers {
+        bytes: s,
+        place: place,
+        width: w,
+    }
+    .inside(j)
 }

@@ -4,23 +4,35 @@ ghost use Rattle.image.specs.Bytes.{bytes_at};
 ghost use Rattle.image.specs.Types.{same_bytes, name_of};
 
 use crate::bytes::byte;
-use crate::record::{name_length, name_place};
+use crate::record::Node;
 
-// The name of a node is the n bytes at a place of another slice.
+impl Node<'_> {
+    // The name of the node is the n bytes at a place of another slice. Neither has to lie inside: what is past the end
+    // reads as 0, so that there may be no slice of them to compare.
+    pub fn name_is(self, other: &[u8], at: usize, n: usize) -> bool
+        requires { at < 2 ^ 32 }
+        ensures { result ≡ same_bytes (name_of self.entry.image.now self.entry.number) (bytes_at other.now at n) }
+    {
+        if self.name_length() != n {
+            return false;
+        }
+        let place = self.name_place();
+        for k in 0..n {
+            if byte(self.image, place + k) != byte(other, at + k) {
+                return false;
+            }
+        }
+        true
+    }
+}
+
 pub fn name_is(image: &[u8], node: u32, other: &[u8], at: usize, n: usize) -> bool
     requires { at < 2 ^ 32 }
     ensures { result ≡ same_bytes (name_of image.now node) (bytes_at other.now at n) }
 {
-    if name_length(image, node) != n {
-        return false;
+    Node {
+        image: image,
+        number: node,
     }
-    let place = name_place(image, node);
-    let mut k: usize = 0;
-    while k < n {
-        if byte(image, place + k) != byte(other, at + k) {
-            return false;
-        }
-        k += 1;
-    }
-    true
+    .name_is(other, at, n)
 }

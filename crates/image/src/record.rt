@@ -1,11 +1,11 @@
 // The image's header, the records of its nodes and the entries of its buffers.
 // A field of a node past the tables reads whatever stands there, and 0 past the image's end.
-ghost use Rattle.std.specs.Prelude.{◌≡◌, ◌+◌, ◌≤◌};
+ghost use Rattle.std.specs.Prelude.{◌≡◌, ◌+◌, ◌*◌, ◌<◌, ◌≤◌, ◌^◌};
 ghost use Rattle.image.specs.Bytes.{byte_at, number_at};
 ghost use Rattle.image.specs.Reads.{Read};
 ghost use Rattle.image.specs.Record.{record_size, node_count, buffer_total, record_place, entry_place, code_of, flags_of, id_of, name_length, p1_of, p2_of, length_of, offset_of, name_place, bitmap_place, bitmap_length, first_bit, first_child, child_count, first_buffer, buffer_count, nullable, has_bitmap, elements_of, buffer_place, buffer_length, tables_end};
 
-use crate::bytes::{byte, le16, le32, wide};
+use crate::bytes::{byte, le};
 
 // A table's depth is at most so much, the root being 1.
 pub const MAX_DEPTH: usize = 16;
@@ -26,180 +26,14 @@ pub const ENTRY_SIZE: usize = 8;
 pub fn node_count(image: &[u8]) -> u32
     ensures { Read (node_count image.now) 16 result }
 {
-    le16(image, 0)
+    le::<2>(image, 0) as u32
 }
 
 // m, the number of buffers.
 pub fn buffer_total(image: &[u8]) -> u32
     ensures { Read (buffer_total image.now) 16 result }
 {
-    le16(image, 2)
-}
-
-// Where the record of a node starts.
-fn record_place(node: u32) -> usize
-    ensures { Read (record_place node) 38 result }
-{
-    HEADER_SIZE + (node as usize) * RECORD_SIZE
-}
-
-// The field of one byte at a byte of the node's record.
-fn field8(image: &[u8], node: u32, at: usize) -> u8
-    requires { at ≤ record_size }
-    ensures { Read (byte_at image.now (record_place node + at)) 8 result }
-{
-    byte(image, record_place(node) + at)
-}
-
-// The field of two bytes.
-fn field16(image: &[u8], node: u32, at: usize) -> u32
-    requires { at ≤ record_size }
-    ensures { Read (number_at 2 image.now (record_place node + at)) 16 result }
-{
-    le16(image, record_place(node) + at)
-}
-
-// The field of four bytes.
-fn field32(image: &[u8], node: u32, at: usize) -> usize
-    requires { at ≤ record_size }
-    ensures { Read (number_at 4 image.now (record_place node + at)) 32 result }
-{
-    le32(image, record_place(node) + at)
-}
-
-// The type code.
-pub fn code(image: &[u8], node: u32) -> u8
-    ensures { Read (code_of image.now node) 8 result }
-{
-    byte(image, record_place(node))
-}
-
-// The flags: 1 nullable, 2 has bitmap.
-pub fn flags(image: &[u8], node: u32) -> u8
-    ensures { Read (flags_of image.now node) 8 result }
-{
-    field8(image, node, 1)
-}
-
-// The type id of a union's child.
-pub fn type_id(image: &[u8], node: u32) -> u8
-    ensures { Read (id_of image.now node) 8 result }
-{
-    field8(image, node, 2)
-}
-
-// The length of the node's name.
-pub fn name_length(image: &[u8], node: u32) -> usize
-    ensures { Read (name_length image.now node) 8 result }
-{
-    wide(field8(image, node, 3))
-}
-
-// p1, an i32: a negative number reads as 2 ^ 32 more.
-pub fn p1(image: &[u8], node: u32) -> usize
-    ensures { Read (p1_of image.now node) 32 result }
-{
-    field32(image, node, 4)
-}
-
-// p2, as p1.
-pub fn p2(image: &[u8], node: u32) -> usize
-    ensures { Read (p2_of image.now node) 32 result }
-{
-    field32(image, node, 8)
-}
-
-// The number of rows.
-pub fn length(image: &[u8], node: u32) -> usize
-    ensures { Read (length_of image.now node) 32 result }
-{
-    field32(image, node, 12)
-}
-
-// The element that row 0 reads.
-pub fn offset(image: &[u8], node: u32) -> usize
-    ensures { Read (offset_of image.now node) 32 result }
-{
-    field32(image, node, 16)
-}
-
-// Where the node's name stands.
-pub fn name_place(image: &[u8], node: u32) -> usize
-    ensures { Read (name_place image.now node) 32 result }
-{
-    field32(image, node, 20)
-}
-
-// Where the bitmap starts.
-pub fn bitmap_place(image: &[u8], node: u32) -> usize
-    ensures { Read (bitmap_place image.now node) 32 result }
-{
-    field32(image, node, 24)
-}
-
-// The bitmap's length in bytes.
-pub fn bitmap_length(image: &[u8], node: u32) -> usize
-    ensures { Read (bitmap_length image.now node) 32 result }
-{
-    field32(image, node, 28)
-}
-
-// The bitmap's bit of row 0.
-pub fn first_bit(image: &[u8], node: u32) -> usize
-    ensures { Read (first_bit image.now node) 32 result }
-{
-    field32(image, node, 32)
-}
-
-// The first child's node.
-pub fn first_child(image: &[u8], node: u32) -> u32
-    ensures { Read (first_child image.now node) 16 result }
-{
-    field16(image, node, 36)
-}
-
-// The number of children.
-pub fn child_count(image: &[u8], node: u32) -> u32
-    ensures { Read (child_count image.now node) 16 result }
-{
-    field16(image, node, 38)
-}
-
-// The node's first buffer among all buffers.
-pub fn first_buffer(image: &[u8], node: u32) -> u32
-    ensures { Read (first_buffer image.now node) 16 result }
-{
-    field16(image, node, 40)
-}
-
-// The number of buffers.
-pub fn buffer_count(image: &[u8], node: u32) -> u32
-    ensures { Read (buffer_count image.now node) 16 result }
-{
-    field16(image, node, 42)
-}
-
-// Flag 1: the node may hold nulls.
-pub fn is_nullable(image: &[u8], node: u32) -> bool
-    ensures { result ≡ nullable image.now node }
-{
-    let bits = flags(image, node);
-    bits % 2 == 1
-}
-
-// Flag 2: the node has a bitmap.
-pub fn has_bitmap(image: &[u8], node: u32) -> bool
-    ensures { result ≡ has_bitmap image.now node }
-{
-    let bits = flags(image, node);
-    bits / 2 % 2 == 1
-}
-
-// e, the sum of length and offset.
-pub fn elements(image: &[u8], node: u32) -> usize
-    ensures { Read (elements_of image.now node) 33 result }
-{
-    length(image, node) + offset(image, node)
+    le::<2>(image, 2) as u32
 }
 
 // Where the entry of a buffer starts, counted among all buffers.
@@ -207,29 +41,11 @@ fn entry_place(image: &[u8], buffer: usize) -> usize
     requires { buffer ≤ 8589934592 }
     ensures { Read (entry_place image.now buffer) 40 result }
 {
-    record_place(node_count(image)) + buffer * ENTRY_SIZE
-}
-
-// The entry of buffer j of a node, counted from 0 within the node.
-pub fn node_entry(image: &[u8], node: u32, j: u32) -> usize
-    ensures { Read (entry_place image.now (first_buffer image.now node + j)) 40 result }
-{
-    let first = first_buffer(image, node) as usize;
-    entry_place(image, first + j as usize)
-}
-
-// Where buffer j of a node starts.
-pub fn buffer_place(image: &[u8], node: u32, j: u32) -> usize
-    ensures { Read (buffer_place image.now node j) 32 result }
-{
-    le32(image, node_entry(image, node, j))
-}
-
-// The length of buffer j of a node, in bytes.
-pub fn buffer_length(image: &[u8], node: u32, j: u32) -> usize
-    ensures { Read (buffer_length image.now node j) 32 result }
-{
-    le32(image, node_entry(image, node, j) + 4)
+    let tables = Node {
+        image: image,
+        number: node_count(image),
+    };
+    tables.record_place() + buffer * ENTRY_SIZE
 }
 
 // The length of header and tables.
@@ -237,4 +53,423 @@ pub fn tables_end(image: &[u8]) -> usize
     ensures { Read (tables_end image.now) 40 result }
 {
     entry_place(image, buffer_total(image) as usize)
+}
+
+// A node of an image.
+#[derive(Clone, Copy)]
+pub struct Node<'a> {
+    pub image: &'a [u8],
+    pub number: u32,
+}
+
+impl<'a> Node<'a> {
+    // Where the node's record starts.
+    fn record_place(self) -> usize
+        ensures { Read (record_place self.entry.number) 38 result }
+    {
+        HEADER_SIZE + (self.number as usize) * RECORD_SIZE
+    }
+
+    // The field of one byte at a byte of the node's record.
+    fn byte_field(self, at: usize) -> u8
+        requires { at ≤ record_size }
+        ensures { Read (byte_at self.entry.image.now (record_place self.entry.number + at)) 8 result }
+    {
+        byte(self.image, self.record_place() + at)
+    }
+
+    // The field of W bytes.
+    fn field<const W: usize>(self, at: usize) -> usize
+        requires { (W ≤ 8) × (at ≤ record_size) }
+        ensures { Read (number_at W self.entry.image.now (record_place self.entry.number + at)) (8 * W) result }
+    {
+        le::<W>(self.image, self.record_place() + at)
+    }
+
+    // The type code.
+    pub fn code(self) -> u8
+        ensures { Read (code_of self.entry.image.now self.entry.number) 8 result }
+    {
+        byte(self.image, self.record_place())
+    }
+
+    // The flags: 1 nullable, 2 has bitmap.
+    pub fn flags(self) -> u8
+        ensures { Read (flags_of self.entry.image.now self.entry.number) 8 result }
+    {
+        self.byte_field(1)
+    }
+
+    // The type id of a union's child.
+    pub fn type_id(self) -> u8
+        ensures { Read (id_of self.entry.image.now self.entry.number) 8 result }
+    {
+        self.byte_field(2)
+    }
+
+    // The length of the node's name.
+    pub fn name_length(self) -> usize
+        ensures { Read (name_length self.entry.image.now self.entry.number) 8 result }
+    {
+        usize::from(self.byte_field(3))
+    }
+
+    // p1, an i32: a negative number reads as 2 ^ 32 more.
+    pub fn p1(self) -> usize
+        ensures { Read (p1_of self.entry.image.now self.entry.number) 32 result }
+    {
+        self.field::<4>(4)
+    }
+
+    // p2, as p1.
+    pub fn p2(self) -> usize
+        ensures { Read (p2_of self.entry.image.now self.entry.number) 32 result }
+    {
+        self.field::<4>(8)
+    }
+
+    // The number of rows.
+    pub fn length(self) -> usize
+        ensures { Read (length_of self.entry.image.now self.entry.number) 32 result }
+    {
+        self.field::<4>(12)
+    }
+
+    // The element that row 0 reads.
+    pub fn offset(self) -> usize
+        ensures { Read (offset_of self.entry.image.now self.entry.number) 32 result }
+    {
+        self.field::<4>(16)
+    }
+
+    // Where the node's name stands.
+    pub fn name_place(self) -> usize
+        ensures { Read (name_place self.entry.image.now self.entry.number) 32 result }
+    {
+        self.field::<4>(20)
+    }
+
+    // Where the bitmap starts.
+    pub fn bitmap_place(self) -> usize
+        ensures { Read (bitmap_place self.entry.image.now self.entry.number) 32 result }
+    {
+        self.field::<4>(24)
+    }
+
+    // The bitmap's length in bytes.
+    pub fn bitmap_length(self) -> usize
+        ensures { Read (bitmap_length self.entry.image.now self.entry.number) 32 result }
+    {
+        self.field::<4>(28)
+    }
+
+    // The bitmap's bit of row 0.
+    pub fn first_bit(self) -> usize
+        ensures { Read (first_bit self.entry.image.now self.entry.number) 32 result }
+    {
+        self.field::<4>(32)
+    }
+
+    // The first child's node.
+    pub fn first_child(self) -> u32
+        ensures { Read (first_child self.entry.image.now self.entry.number) 16 result }
+    {
+        self.field::<2>(36) as u32
+    }
+
+    // Child c.
+    pub fn child(self, c: u32) -> Node<'a>
+        requires { c < 2 ^ 31 }
+        ensures image { result.image ≡ self.entry.image }
+        ensures number { result.number ≡ first_child self.entry.image.now self.entry.number + c }
+        ensures near { result.number < c + 2 ^ 16 }
+    {
+        Node {
+            image: self.image,
+            number: self.first_child() + c,
+        }
+    }
+
+    // The number of children.
+    pub fn child_count(self) -> u32
+        ensures { Read (child_count self.entry.image.now self.entry.number) 16 result }
+    {
+        self.field::<2>(38) as u32
+    }
+
+    // The node's first buffer among all buffers.
+    pub fn first_buffer(self) -> u32
+        ensures { Read (first_buffer self.entry.image.now self.entry.number) 16 result }
+    {
+        self.field::<2>(40) as u32
+    }
+
+    // The number of buffers.
+    pub fn buffer_count(self) -> u32
+        ensures { Read (buffer_count self.entry.image.now self.entry.number) 16 result }
+    {
+        self.field::<2>(42) as u32
+    }
+
+    // Flag 1: the node may hold nulls.
+    pub fn is_nullable(self) -> bool
+        ensures { result ≡ nullable self.entry.image.now self.entry.number }
+    {
+        self.flags() % 2 == 1
+    }
+
+    // Flag 2: the node has a bitmap.
+    pub fn has_bitmap(self) -> bool
+        ensures { result ≡ has_bitmap self.entry.image.now self.entry.number }
+    {
+        self.flags() / 2 % 2 == 1
+    }
+
+    // e, the sum of length and offset.
+    pub fn elements(self) -> usize
+        ensures { Read (elements_of self.entry.image.now self.entry.number) 33 result }
+    {
+        self.length() + self.offset()
+    }
+
+    // The entry of buffer j of a node, counted from 0 within the node.
+    pub fn node_entry(self, j: u32) -> usize
+        ensures { Read (entry_place self.entry.image.now (first_buffer self.entry.image.now self.entry.number + j)) 40 result }
+    {
+        entry_place(self.image, self.first_buffer() as usize + j as usize)
+    }
+
+    // Where buffer j of a node starts.
+    pub fn buffer_place(self, j: u32) -> usize
+        ensures { Read (buffer_place self.entry.image.now self.entry.number j) 32 result }
+    {
+        le::<4>(self.image, self.node_entry(j))
+    }
+
+    // The length of buffer j of a node, in bytes.
+    pub fn buffer_length(self, j: u32) -> usize
+        ensures { Read (buffer_length self.entry.image.now self.entry.number j) 32 result }
+    {
+        le::<4>(self.image, self.node_entry(j) + 4)
+    }
+}
+
+pub fn code(image: &[u8], node: u32) -> u8
+    ensures { Read (code_of image.now node) 8 result }
+{
+    Node {
+        image: image,
+        number: node,
+    }
+    .code()
+}
+
+pub fn flags(image: &[u8], node: u32) -> u8
+    ensures { Read (flags_of image.now node) 8 result }
+{
+    Node {
+        image: image,
+        number: node,
+    }
+    .flags()
+}
+
+pub fn type_id(image: &[u8], node: u32) -> u8
+    ensures { Read (id_of image.now node) 8 result }
+{
+    Node {
+        image: image,
+        number: node,
+    }
+    .type_id()
+}
+
+pub fn name_length(image: &[u8], node: u32) -> usize
+    ensures { Read (name_length image.now node) 8 result }
+{
+    Node {
+        image: image,
+        number: node,
+    }
+    .name_length()
+}
+
+pub fn p1(image: &[u8], node: u32) -> usize
+    ensures { Read (p1_of image.now node) 32 result }
+{
+    Node {
+        image: image,
+        number: node,
+    }
+    .p1()
+}
+
+pub fn p2(image: &[u8], node: u32) -> usize
+    ensures { Read (p2_of image.now node) 32 result }
+{
+    Node {
+        image: image,
+        number: node,
+    }
+    .p2()
+}
+
+pub fn length(image: &[u8], node: u32) -> usize
+    ensures { Read (length_of image.now node) 32 result }
+{
+    Node {
+        image: image,
+        number: node,
+    }
+    .length()
+}
+
+pub fn offset(image: &[u8], node: u32) -> usize
+    ensures { Read (offset_of image.now node) 32 result }
+{
+    Node {
+        image: image,
+        number: node,
+    }
+    .offset()
+}
+
+pub fn name_place(image: &[u8], node: u32) -> usize
+    ensures { Read (name_place image.now node) 32 result }
+{
+    Node {
+        image: image,
+        number: node,
+    }
+    .name_place()
+}
+
+pub fn bitmap_place(image: &[u8], node: u32) -> usize
+    ensures { Read (bitmap_place image.now node) 32 result }
+{
+    Node {
+        image: image,
+        number: node,
+    }
+    .bitmap_place()
+}
+
+pub fn bitmap_length(image: &[u8], node: u32) -> usize
+    ensures { Read (bitmap_length image.now node) 32 result }
+{
+    Node {
+        image: image,
+        number: node,
+    }
+    .bitmap_length()
+}
+
+pub fn first_bit(image: &[u8], node: u32) -> usize
+    ensures { Read (first_bit image.now node) 32 result }
+{
+    Node {
+        image: image,
+        number: node,
+    }
+    .first_bit()
+}
+
+pub fn first_child(image: &[u8], node: u32) -> u32
+    ensures { Read (first_child image.now node) 16 result }
+{
+    Node {
+        image: image,
+        number: node,
+    }
+    .first_child()
+}
+
+pub fn child_count(image: &[u8], node: u32) -> u32
+    ensures { Read (child_count image.now node) 16 result }
+{
+    Node {
+        image: image,
+        number: node,
+    }
+    .child_count()
+}
+
+pub fn first_buffer(image: &[u8], node: u32) -> u32
+    ensures { Read (first_buffer image.now node) 16 result }
+{
+    Node {
+        image: image,
+        number: node,
+    }
+    .first_buffer()
+}
+
+pub fn buffer_count(image: &[u8], node: u32) -> u32
+    ensures { Read (buffer_count image.now node) 16 result }
+{
+    Node {
+        image: image,
+        number: node,
+    }
+    .buffer_count()
+}
+
+pub fn is_nullable(image: &[u8], node: u32) -> bool
+    ensures { result ≡ nullable image.now node }
+{
+    Node {
+        image: image,
+        number: node,
+    }
+    .is_nullable()
+}
+
+pub fn has_bitmap(image: &[u8], node: u32) -> bool
+    ensures { result ≡ has_bitmap image.now node }
+{
+    Node {
+        image: image,
+        number: node,
+    }
+    .has_bitmap()
+}
+
+pub fn elements(image: &[u8], node: u32) -> usize
+    ensures { Read (elements_of image.now node) 33 result }
+{
+    Node {
+        image: image,
+        number: node,
+    }
+    .elements()
+}
+
+pub fn node_entry(image: &[u8], node: u32, j: u32) -> usize
+    ensures { Read (entry_place image.now (first_buffer image.now node + j)) 40 result }
+{
+    Node {
+        image: image,
+        number: node,
+    }
+    .node_entry(j)
+}
+
+pub fn buffer_place(image: &[u8], node: u32, j: u32) -> usize
+    ensures { Read (buffer_place image.now node j) 32 result }
+{
+    Node {
+        image: image,
+        number: node,
+    }
+    .buffer_place(j)
+}
+
+pub fn buffer_length(image: &[u8], node: u32, j: u32) -> usize
+    ensures { Read (buffer_length image.now node j) 32 result }
+{
+    Node {
+        image: image,
+        number: node,
+    }
+    .buffer_length(j)
 }

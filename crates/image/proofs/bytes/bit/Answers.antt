@@ -13,4 +13,4 @@ returns-then-n-place-2 c = bit_past c.args.s.now c.args.place c.args.j (omega ar
 
 pub returns : goal.returns
 unfolding bit_at
-returns c = rw c.wide-x.ensures.value
+returns c = rw c.from-x.ensures

@@ -1,8 +1,0 @@
--- `octet` gives the number of the eight bytes at a place.
--- The low four bytes and the high four make it.
-use Rattle.image.proofs.Numbers.{number_eight}
-use native.Mathlib.Omega.{arith}
-use Rattle.image.proofs.bytes.octet.Goals as goal
-
-pub returns : goal.returns
-returns c = record { value = rw (number_eight, ← c.quad.ensures.value, ← c.quad-2.ensures.value); small = omega (arith, c.quad.ensures.small, c.quad-2.ensures.small) }

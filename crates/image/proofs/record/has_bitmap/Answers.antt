@@ -1,8 +1,0 @@
--- `image::record::has_bitmap` meets its contract.
--- The definition is rewritten by what the calls ensure and by the tests on the way.
-use Rattle.image.specs.Record.{has_bitmap}
-use Rattle.image.proofs.record.has_bitmap.Goals as goal
-
-pub returns : goal.returns
-unfolding has_bitmap
-returns c = rw (← c.flags-bits.ensures.value)

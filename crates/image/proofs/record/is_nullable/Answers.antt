@@ -1,8 +1,0 @@
--- `image::record::is_nullable` meets its contract.
--- The definition is rewritten by what the calls ensure and by the tests on the way.
-use Rattle.image.specs.Record.{nullable}
-use Rattle.image.proofs.record.is_nullable.Goals as goal
-
-pub returns : goal.returns
-unfolding nullable
-returns c = rw (← c.flags-bits.ensures.value)
