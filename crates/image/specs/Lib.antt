@@ -4,6 +4,7 @@ pub mod Record
 pub mod TypeCode
 pub mod Element
 pub mod Reads
+pub mod Of
 pub mod Utf8
 pub mod Faults
 pub mod Types

@@ -1,6 +1,7 @@
 // What stands at a row of a node: its bitmap bit, an element of its first buffer, the union's child that a type id names,
 // and the ends of runs.
 ghost use Rattle.std.specs.Prelude.{◌≡◌, ◌<◌, ◌≤◌, ◌^◌};
+ghost use Rattle.image.specs.Of.{◌of◌};
 ghost use Rattle.image.specs.Reads.{Read, BitmapOf, ChildrenById, NamedChild, EndsOf, MaskRead, ById, Ends};
 ghost use Rattle.image.specs.Element.{valid, element_width, element_at, child_with_id, run_end_at};
 
@@ -27,7 +28,7 @@ pub struct Bitmap {
 impl<'a> Node<'a> {
     // The bitmap, where there is one.
     pub fn bitmap(self) -> Option<Bitmap>
-        ensures { BitmapOf self.entry.image.now self.entry.number result }
+        ensures { (BitmapOf of self.entry) result }
     {
         if !self.has_bitmap() {
             return None;
@@ -40,8 +41,8 @@ impl<'a> Node<'a> {
 
     // Row i is not null, by the node's bitmap: its bit is 1, or there is no bitmap.
     pub fn is_kept(self, bitmap: Option<Bitmap>, i: usize) -> bool
-        requires { BitmapOf self.image.now self.number bitmap × (i < 2 ^ 34) }
-        ensures { result ≡ valid self.entry.image.now self.entry.number i }
+        requires { (BitmapOf of self) bitmap × (i < 2 ^ 34) }
+        ensures { result ≡ (valid of self.entry) i }
     {
         match bitmap {
             None => true,
@@ -51,15 +52,15 @@ impl<'a> Node<'a> {
 
     // The width in bytes of an element of the first buffer.
     pub fn element_width(self) -> usize
-        ensures { result ≡ element_width self.entry.image.now self.entry.number }
+        ensures { result ≡ element_width of self.entry }
     {
         TypeCode::width(self.code(), self.p1() as u32)
     }
 
     // Element j of the first buffer as a number: an offset or a key.
     pub fn offset_at(self, j: usize) -> usize
-        requires { (element_width self.image.now self.number ≤ 8) × (j < 2 ^ 40) }
-        ensures { result ≡ element_at self.entry.image.now self.entry.number j }
+        requires { ((element_width of self) ≤ 8) × (j < 2 ^ 40) }
+        ensures { result ≡ (element_at of self.entry) j }
     {
         let offsets = Numbers {
             bytes: self.image,
@@ -71,7 +72,7 @@ impl<'a> Node<'a> {
 
     // The children of a union by their type ids: entry id is the child that has it.
     pub fn children_by_id(self) -> [Option<u32>; 256]
-        ensures { ChildrenById self.entry.image.now self.entry.number result }
+        ensures { (ChildrenById of self.entry) result }
     {
         let mut table = [None; 256];
         for c in (0..self.child_count()).rev() {
@@ -84,7 +85,7 @@ impl<'a> Node<'a> {
 
     // The child of a union that has the type id.
     pub fn child_with_id(self, id: u8) -> Option<u32>
-        ensures { NamedChild self.entry.image.now self.entry.number id result }
+        ensures { (NamedChild of self.entry) id result }
     {
         for c in 0..self.child_count() {
             let child = self.child(c);
@@ -97,7 +98,7 @@ impl<'a> Node<'a> {
 
     // The ends of a run node's runs: how wide they are, and where the first of them starts.
     pub fn ends(self) -> Numbers<'a>
-        ensures { EndsOf self.entry.image.now self.entry.number result }
+        ensures { (EndsOf of self.entry) result }
     {
         let ends = self.child(0);
         let width = TypeCode::integer_width(ends.code() as u32);

@@ -1,5 +1,6 @@
 // The names of nodes.
 ghost use Rattle.std.specs.Prelude.{◌≡◌, ◌<◌, ◌^◌};
+ghost use Rattle.image.specs.Of.{◌of◌};
 ghost use Rattle.image.specs.Bytes.{bytes_at};
 ghost use Rattle.image.specs.Types.{same_bytes, name_of};
 
@@ -11,7 +12,7 @@ impl Node<'_> {
     // reads as 0, so that there may be no slice of them to compare.
     pub fn name_is(self, other: &[u8], at: usize, n: usize) -> bool
         requires { at < 2 ^ 32 }
-        ensures { result ≡ same_bytes (name_of self.entry.image.now self.entry.number) (bytes_at other.now at n) }
+        ensures { result ≡ same_bytes (name_of of self.entry) (bytes_at other.now at n) }
     {
         if self.name_length() != n {
             return false;

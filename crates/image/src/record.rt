@@ -1,6 +1,7 @@
 // The image's header, the records of its nodes and the entries of its buffers.
 // A field of a node past the tables reads whatever stands there, and 0 past the image's end.
 ghost use Rattle.std.specs.Prelude.{◌≡◌, ◌+◌, ◌*◌, ◌<◌, ◌≤◌, ◌^◌};
+ghost use Rattle.image.specs.Of.{◌of◌};
 ghost use Rattle.image.specs.Bytes.{byte_at, number_at};
 ghost use Rattle.image.specs.Reads.{Read};
 ghost use Rattle.image.specs.Record.{record_size, node_count, buffer_total, record_place, entry_place, code_of, flags_of, id_of, name_length, p1_of, p2_of, length_of, offset_of, name_place, bitmap_place, bitmap_length, first_bit, first_child, child_count, first_buffer, buffer_count, nullable, has_bitmap, elements_of, buffer_place, buffer_length, tables_end};
@@ -88,91 +89,91 @@ impl<'a> Node<'a> {
 
     // The type code.
     pub fn code(self) -> u8
-        ensures { Read (code_of self.entry.image.now self.entry.number) 8 result }
+        ensures { Read (code_of of self.entry) 8 result }
     {
         byte(self.image, self.record_place())
     }
 
     // The flags: 1 nullable, 2 has bitmap.
     pub fn flags(self) -> u8
-        ensures { Read (flags_of self.entry.image.now self.entry.number) 8 result }
+        ensures { Read (flags_of of self.entry) 8 result }
     {
         self.byte_field(1)
     }
 
     // The type id of a union's child.
     pub fn type_id(self) -> u8
-        ensures { Read (id_of self.entry.image.now self.entry.number) 8 result }
+        ensures { Read (id_of of self.entry) 8 result }
     {
         self.byte_field(2)
     }
 
     // The length of the node's name.
     pub fn name_length(self) -> usize
-        ensures { Read (name_length self.entry.image.now self.entry.number) 8 result }
+        ensures { Read (name_length of self.entry) 8 result }
     {
         usize::from(self.byte_field(3))
     }
 
     // p1, an i32: a negative number reads as 2 ^ 32 more.
     pub fn p1(self) -> usize
-        ensures { Read (p1_of self.entry.image.now self.entry.number) 32 result }
+        ensures { Read (p1_of of self.entry) 32 result }
     {
         self.field::<4>(4)
     }
 
     // p2, as p1.
     pub fn p2(self) -> usize
-        ensures { Read (p2_of self.entry.image.now self.entry.number) 32 result }
+        ensures { Read (p2_of of self.entry) 32 result }
     {
         self.field::<4>(8)
     }
 
     // The number of rows.
     pub fn length(self) -> usize
-        ensures { Read (length_of self.entry.image.now self.entry.number) 32 result }
+        ensures { Read (length_of of self.entry) 32 result }
     {
         self.field::<4>(12)
     }
 
     // The element that row 0 reads.
     pub fn offset(self) -> usize
-        ensures { Read (offset_of self.entry.image.now self.entry.number) 32 result }
+        ensures { Read (offset_of of self.entry) 32 result }
     {
         self.field::<4>(16)
     }
 
     // Where the node's name stands.
     pub fn name_place(self) -> usize
-        ensures { Read (name_place self.entry.image.now self.entry.number) 32 result }
+        ensures { Read (name_place of self.entry) 32 result }
     {
         self.field::<4>(20)
     }
 
     // Where the bitmap starts.
     pub fn bitmap_place(self) -> usize
-        ensures { Read (bitmap_place self.entry.image.now self.entry.number) 32 result }
+        ensures { Read (bitmap_place of self.entry) 32 result }
     {
         self.field::<4>(24)
     }
 
     // The bitmap's length in bytes.
     pub fn bitmap_length(self) -> usize
-        ensures { Read (bitmap_length self.entry.image.now self.entry.number) 32 result }
+        ensures { Read (bitmap_length of self.entry) 32 result }
     {
         self.field::<4>(28)
     }
 
     // The bitmap's bit of row 0.
     pub fn first_bit(self) -> usize
-        ensures { Read (first_bit self.entry.image.now self.entry.number) 32 result }
+        ensures { Read (first_bit of self.entry) 32 result }
     {
         self.field::<4>(32)
     }
 
     // The first child's node.
     pub fn first_child(self) -> u32
-        ensures { Read (first_child self.entry.image.now self.entry.number) 16 result }
+        ensures { Read (first_child of self.entry) 16 result }
     {
         self.field::<2>(36) as u32
     }
@@ -181,7 +182,7 @@ impl<'a> Node<'a> {
     pub fn child(self, c: u32) -> Node<'a>
         requires { c < 2 ^ 31 }
         ensures image { result.image ≡ self.entry.image }
-        ensures number { result.number ≡ first_child self.entry.image.now self.entry.number + c }
+        ensures number { result.number ≡ (first_child of self.entry) + c }
         ensures near { result.number < c + 2 ^ 16 }
     {
         Node {
@@ -192,63 +193,63 @@ impl<'a> Node<'a> {
 
     // The number of children.
     pub fn child_count(self) -> u32
-        ensures { Read (child_count self.entry.image.now self.entry.number) 16 result }
+        ensures { Read (child_count of self.entry) 16 result }
     {
         self.field::<2>(38) as u32
     }
 
     // The node's first buffer among all buffers.
     pub fn first_buffer(self) -> u32
-        ensures { Read (first_buffer self.entry.image.now self.entry.number) 16 result }
+        ensures { Read (first_buffer of self.entry) 16 result }
     {
         self.field::<2>(40) as u32
     }
 
     // The number of buffers.
     pub fn buffer_count(self) -> u32
-        ensures { Read (buffer_count self.entry.image.now self.entry.number) 16 result }
+        ensures { Read (buffer_count of self.entry) 16 result }
     {
         self.field::<2>(42) as u32
     }
 
     // Flag 1: the node may hold nulls.
     pub fn is_nullable(self) -> bool
-        ensures { result ≡ nullable self.entry.image.now self.entry.number }
+        ensures { result ≡ nullable of self.entry }
     {
         self.flags() % 2 == 1
     }
 
     // Flag 2: the node has a bitmap.
     pub fn has_bitmap(self) -> bool
-        ensures { result ≡ has_bitmap self.entry.image.now self.entry.number }
+        ensures { result ≡ has_bitmap of self.entry }
     {
         self.flags() / 2 % 2 == 1
     }
 
     // e, the sum of length and offset.
     pub fn elements(self) -> usize
-        ensures { Read (elements_of self.entry.image.now self.entry.number) 33 result }
+        ensures { Read (elements_of of self.entry) 33 result }
     {
         self.length() + self.offset()
     }
 
     // The entry of buffer j of a node, counted from 0 within the node.
     pub fn node_entry(self, j: u32) -> usize
-        ensures { Read (entry_place self.entry.image.now (first_buffer self.entry.image.now self.entry.number + j)) 40 result }
+        ensures { Read (entry_place self.entry.image.now ((first_buffer of self.entry) + j)) 40 result }
     {
         entry_place(self.image, self.first_buffer() as usize + j as usize)
     }
 
     // Where buffer j of a node starts.
     pub fn buffer_place(self, j: u32) -> usize
-        ensures { Read (buffer_place self.entry.image.now self.entry.number j) 32 result }
+        ensures { Read ((buffer_place of self.entry) j) 32 result }
     {
         le::<4>(self.image, self.node_entry(j))
     }
 
     // The length of buffer j of a node, in bytes.
     pub fn buffer_length(self, j: u32) -> usize
-        ensures { Read (buffer_length self.entry.image.now self.entry.number j) 32 result }
+        ensures { Read ((buffer_length of self.entry) j) 32 result }
     {
         le::<4>(self.image, self.node_entry(j) + 4)
     }
