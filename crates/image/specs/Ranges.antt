@@ -1,5 +1,5 @@
 -- Tests, searches, sums and lists over the numbers i, i + 1, .. of a range of n numbers.
-use Rattle.std.specs.Prelude.{Bool, true, false, cond, ◌&&◌, ◌||◌, List, [], ◌++◌, ℕ, zero, suc, ◌+◌, leb}
+use Rattle.std.specs.Prelude.{◌≡◌, Bool, true, false, cond, ◌&&◌, ◌||◌, List, [], ◌++◌, ℕ, zero, suc, ◌+◌, ◌<◌, leb}
 
 -- one of the n numbers from i on passes the test
 unfoldable pub any : (ℕ → Bool) → ℕ → ℕ → Bool
@@ -30,3 +30,7 @@ rises step f top least i (suc n) = leb least (f i) && leb (f i) top && rises ste
 unfoldable pub pieces : (ℕ → List ℕ) → ℕ → ℕ → List ℕ
 pieces p i zero = []
 pieces p i (suc n) = p i ++ pieces p (suc i) n
+
+-- whatever may be answered of a number below n is what the test says of it
+abbrev pub Tells : (ℕ → Bool → Type 0) → ℕ → (ℕ → Bool) → Type 0
+Tells answers n p = (k : ℕ) (b : Bool) → k < n → answers k b → b ≡ p k

@@ -3,6 +3,7 @@
 #![tactic(auto)]
 
 pub mod answer;
+pub mod blocks;
 pub mod bytes;
 pub mod element;
 pub mod labels;
