@@ -45,6 +45,16 @@ ends_of s k v {e} {c} {p} {o} same ee ec ew ep eo at = record {
 }
 
 -- a run end, as it is read
+pub ends_nth : {s : List ℕ} {k r : ℕ} {v : Numbers} → EndsOf s k v → r < 2 ^ 33 → Nth v.place v.width r
+ends_nth f lt = record { near = f.near; narrow = f.narrow; few = omega arith }
+
+pub ends_at : (s : List ℕ) (k r : ℕ) (v : Numbers) → EndsOf s k v → number_at v.width s (v.place + r * v.width) ≡ run_end_at s k r
+unfolding run_end_at
+ends_at s k r v f =
+    let d : (offset_of s (first_child s k) + r) * v.width ≡ offset_of s (first_child s k) * v.width + r * v.width = add-mul (offset_of s (first_child s k)) r v.width in
+    let at : buffer_place s (first_child s k) 0 + (offset_of s (first_child s k) + r) * v.width ≡ v.place + r * v.width = omega (arith, f.place) in
+    rw (← f.width, at)
+
 pub run_end_nth : {s : List ℕ} {k r : ℕ} {v : EndsAt} → Ends s k v → r < 2 ^ 33 → Nth v.place v.width r
 run_end_nth f lt = record { near = f.near; narrow = f.narrow; few = omega arith }
 

@@ -35,5 +35,5 @@ module _ {s : List ℕ} {k w limit keys : ℕ} (r : Keys s k w limit keys) where
   full_row none i = rw (none, r.limits.outside _, ← r.width, ← shift (buffer_place s k 0) (offset_of s k) i w, ← r.place)
 
   -- without a bitmap it is the keys that decide
-  pub by_keys : {b x : Bool} {rows : ℕ} → b ≡ has_bitmap s k → b ≡ false → rows ≡ length_of s k → x ≡ any (reaches limit (number_in s keys w)) 0 rows → x ≡ any (key_row_fault s k) 0 (length_of s k)
-  by_keys {rows = rows} e none count p = p ∙ any_same _ _ 0 rows (full_row (rw (← e) none)) ∙ rw count
+  pub by_keys : {x : Bool} {rows : ℕ} → has_bitmap s k ≡ false → rows ≡ length_of s k → x ≡ any (reaches limit (number_in s keys w)) 0 rows → x ≡ any (key_row_fault s k) 0 (length_of s k)
+  by_keys {rows = rows} none count p = p ∙ any_same _ _ 0 rows (full_row none) ∙ rw count

@@ -19,7 +19,22 @@ use Rattle.image.proofs.Bools.{fails_and}
 use Rattle.image.proofs.Loops.{sum_more}
 use Rattle.image.proofs.Ranges.{any_none, any_only, sum_grows}
 use Rattle.validate.specs.declared.tree.Parent.{Parent}
-use Rattle.validate.specs.Walks.{Sum, Passed, Parents}
+use Rattle.validate.specs.Walks.{Sum, Total, Passed, Parents}
+
+-- sums of counts, each a u16, one count at a time
+pub sum_none : (f : ℕ → ℕ) → Total (sum_to f 0) 0 0
+unfolding sum_to
+sum_none f = record { value = refl; small = omega arith }
+
+pub sum_next : (f : ℕ → ℕ) (k : ℕ) {x r : ℕ} → Total (sum_to f k) k r → Read (f k) 16 x → Total (sum_to f (k + 1)) (k + 1) (r + x)
+sum_next f k {x} {r} sum read =
+    record {
+      value = omega (arith, sum.value, sum_more f k x read.value);
+      small = omega (arith, sum.small, read.small);
+    }
+
+pub sum_all : (f : ℕ → ℕ) (k n : ℕ) {r : ℕ} → Total (sum_to f k) k r → k ≡ n → Total (sum_to f n) n r
+sum_all f k n sum e = rw (← e) sum
 
 module _ (s : List ℕ) where
   pub children_none : Sum (child_start s 0) 0 1

@@ -13,10 +13,10 @@ use Rattle.image.specs.Record.{length_of, first_child}
 use Rattle.image.specs.TypeCode.{sign_bit}
 use Rattle.image.specs.Faults.{run_ends_rise}
 use Rattle.image.proofs.CodeTable.{agree}
-use Rattle.image.specs.declared.element.EndsAt.{EndsAt}
-use Rattle.image.specs.Reads.{Packed, Ends}
+use Rattle.image.specs.declared.bytes.Numbers.{Numbers}
+use Rattle.image.specs.Reads.{Packed, EndsOf}
 use Rattle.image.proofs.Loops.{rises_same}
-use Rattle.image.proofs.RunEnds.{run_end_is}
+use Rattle.image.proofs.RunEnds.{ends_at}
 use Rattle.validate.specs.Numbers.{EndsInside, number_in}
 use Rattle.validate.proofs.Elements.{rows_inside}
 
@@ -26,12 +26,12 @@ unfolding sign_bit
 sign_least w low high = leb-true 1 (sign_bit w) (agree (λ (w : ℕ). leb 1 (sign_bit w)) (λ (w : ℕ). true) 1 8 refl w low (omega arith))
 
 -- the run ends of all rows of their child lie inside
-pub ends_packed : (s : List ℕ) (k : ℕ) (v : EndsAt) {count : ℕ} → EndsInside s k → Ends s k v → count ≡ length_of s (first_child s k) → Packed (length s) v.place v.width count
+pub ends_packed : (s : List ℕ) (k : ℕ) (v : Numbers) {count : ℕ} → EndsInside s k → EndsOf s k v → count ≡ length_of s (first_child s k) → Packed (length s) v.place v.width count
 ends_packed s k v inside r rows = rw r.place (rows_inside s (first_child s k) 0 inside r.width refl refl rows)
 
-pub ends_rise : (s : List ℕ) (k : ℕ) (v : EndsAt) {sign count : ℕ} → Ends s k v → sign ≡ sign_bit v.width → count ≡ length_of s (first_child s k)
+pub ends_rise : (s : List ℕ) (k : ℕ) (v : Numbers) {sign count : ℕ} → EndsOf s k v → sign ≡ sign_bit v.width → count ≡ length_of s (first_child s k)
     → rises 1 (number_in s v.place v.width) (sign - 1) 1 0 count ≡ run_ends_rise s k
 unfolding run_ends_rise number_in
 ends_rise s k v {sign} {count} r e rows =
     rw (e, ← r.width, ← rows)
-    (rises_same 1 _ _ (sign_bit v.width - 1) 1 0 0 count (λ j. run_end_is s k (0 + j) v r))
+    (rises_same 1 _ _ (sign_bit v.width - 1) 1 0 0 count (λ j. ends_at s k (0 + j) v r))

@@ -1,7 +1,8 @@
 -- What a walk over the nodes knows at a node.
-use Rattle.std.specs.Prelude.{◌≡◌, List, ℕ, ◌+◌, ◌*◌, ◌≤◌, ◌<◌, suc}
+use Rattle.std.specs.Prelude.{◌≡◌, Option, None, Some, List, ℕ, ◌+◌, ◌*◌, ◌≤◌, ◌<◌, suc}
+use Rattle.image.specs.Reads.{Read}
 use Rattle.image.specs.Record.{max_depth, node_count, child_start, buffer_start}
-use Rattle.image.specs.Faults.{level_end}
+use Rattle.image.specs.Faults.{level_end, first_faulty}
 use Rattle.validate.specs.declared.tree.Parent.{Parent}
 use Rattle.validate.specs.declared.tree.Walk.{Walk}
 
@@ -9,6 +10,15 @@ use Rattle.validate.specs.declared.tree.Walk.{Walk}
 pub record Sum (x k r : ℕ) : Type 0 where
   pub value : r ≡ x
   pub small : r ≤ 1 + 65535 * k
+
+-- the result is x, the sum of n counts, each a u16
+pub record Total (x n r : ℕ) : Type 0 where
+  pub value : r ≡ x
+  pub small : r ≤ 65535 * n
+
+-- whatever may be answered of a number below n is what f says of it, a u16
+abbrev pub Counts : (ℕ → ℕ → Type 0) → ℕ → (ℕ → ℕ) → Type 0
+Counts answers n f = (k r : ℕ) → k < n → answers k r → Read (f k) 16 r
 
 -- the children of node p end before node e, and those of each node before p end at node k or before
 pub record Passed (s : List ℕ) (k p e : ℕ) : Type 0 where
@@ -29,3 +39,8 @@ pub record Walks (s : List ℕ) (k : ℕ) (w : Walk) : Type 0 where
   pub all_children : w.all_children ≡ child_start s (node_count s)
   pub all_buffers : w.all_buffers ≡ buffer_start s (node_count s)
   pub shallow : w.shallow ≡ level_end s max_depth
+
+-- the first node that has a fault of the number, or none
+abbrev pub FirstFaulty : ℕ → List ℕ → Option ℕ → Type 0
+FirstFaulty number s None = node_count s ≤ first_faulty number s
+FirstFaulty number s (Some k) = (k ≡ first_faulty number s) × (k < node_count s)

@@ -5,63 +5,34 @@ ghost use Rattle.image.specs.Record.{code_of, bitmap_place, bitmap_length, first
 ghost use Rattle.image.specs.TypeCode.{layout_of, buffer_rule, counts};
 ghost use Rattle.image.specs.Faults.{fault14, fault15, outside, buffer_outside, whole, not_whole, under, too_few_elements};
 ghost use Rattle.image.specs.declared.type_code.Layout.TheVariants.{ListView, DenseUnion};
+ghost use Rattle.image.specs.Of.{◌of◌};
 ghost use Rattle.validate.specs.Walks.{Walks};
 
 use crate::names::is_outside;
-use crate::tree::Walk;
-use image::element::element_width;
-use image::record::{
-    MOST_ELEMENTS, bitmap_length, bitmap_place, buffer_count, buffer_length, buffer_place,
-    buffer_total, code, elements, first_bit, first_buffer, has_bitmap, length,
-};
+use crate::tree::{Walk, count_wrong, total_wrong};
+use image::record::{MOST_ELEMENTS, Node, buffer_total};
 use image::type_code::{Layout, TypeCode};
 
-// The number of buffers is not what the code's rule says.
-fn count_wrong(image: &[u8], node: u32) -> bool
-    ensures { result ≡ not (counts (buffer_rule (layout_of (code_of image.now node))) (buffer_count image.now node)) }
-{
-    let rule = TypeCode::buffers(code(image, node));
-    let count = buffer_count(image, node);
-    !rule.allows(count as u16)
-}
-
-// Node 0 stands for the total: the buffer counts make the number of buffers.
-fn total_wrong(image: &[u8], node: u32, all: usize) -> bool
-    ensures { result ≡ (eqb node 0 && not (eqb all (buffer_total image.now))) }
-{
-    if node != 0 {
-        return false;
-    }
-    all != buffer_total(image) as usize
-}
-
 // A buffer of the node does not lie inside the image.
-fn any_outside(image: &[u8], node: u32) -> bool
-    ensures { result ≡ any (buffer_outside image.now node) 0 (buffer_count image.now node) }
+fn any_outside(node: Node) -> bool
+    ensures { result ≡ any (buffer_outside of node.entry) 0 (buffer_count of node.entry) }
 {
-    let count = buffer_count(image, node);
-    let mut j: u32 = 0;
-    while j < count {
-        if is_outside(
-            image,
-            buffer_place(image, node, j),
-            buffer_length(image, node, j),
-        ) {
+    for j in 0..node.buffer_count() {
+        if is_outside(node.image, node.buffer_place(j), node.buffer_length(j)) {
             return true;
         }
-        j += 1;
     }
     false
 }
 
 // The node has a bitmap that does not lie inside the image.
-fn bitmap_outside(image: &[u8], node: u32) -> bool
-    ensures { result ≡ (has_bitmap image.now node && outside image.now (bitmap_place image.now node) (bitmap_length image.now node)) }
+fn bitmap_outside(node: Node) -> bool
+    ensures { result ≡ (has_bitmap of node.entry && outside node.entry.image.now (bitmap_place of node.entry) (bitmap_length of node.entry)) }
 {
-    if !has_bitmap(image, node) {
+    if !node.has_bitmap() {
         return false;
     }
-    is_outside(image, bitmap_place(image, node), bitmap_length(image, node))
+    is_outside(node.image, node.bitmap_place(), node.bitmap_length())
 }
 
 // A buffer of `len` bytes does not hold whole elements of `width` bytes.
@@ -75,56 +46,56 @@ fn is_not_whole(len: usize, width: usize) -> bool
 }
 
 // A buffer of offsets, sizes, keys or views that does not hold whole elements.
-fn any_not_whole(image: &[u8], node: u32) -> bool
-    ensures { result ≡ not_whole (layout_of (code_of image.now node)) image.now node }
+fn any_not_whole(node: Node) -> bool
+    ensures { result ≡ not_whole (layout_of (code_of of node.entry)) node.entry.image.now node.entry.number }
 {
-    let layout = TypeCode::layout(code(image, node));
+    let layout = TypeCode::layout(node.code());
     match layout {
         Layout::VariableSize | Layout::View | Layout::List | Layout::Dictionary => is_not_whole(
-            buffer_length(image, node, 0),
-            element_width(image, node),
+            node.buffer_length(0),
+            node.element_width(),
         ),
-        Layout::ListView => list_views_not_whole(image, node),
-        Layout::DenseUnion => is_not_whole(buffer_length(image, node, 1), 4),
+        Layout::ListView => list_views_not_whole(node),
+        Layout::DenseUnion => is_not_whole(node.buffer_length(1), 4),
         _ => false,
     }
 }
 
 // A list view's offsets or sizes are not whole elements.
-fn list_views_not_whole(image: &[u8], node: u32) -> bool
-    ensures { result ≡ not_whole ListView image.now node }
+fn list_views_not_whole(node: Node) -> bool
+    ensures { result ≡ ((not_whole ListView) of node.entry) }
 {
-    let width = element_width(image, node);
-    if is_not_whole(buffer_length(image, node, 0), width) {
+    let width = node.element_width();
+    if is_not_whole(node.buffer_length(0), width) {
         return true;
     }
-    is_not_whole(buffer_length(image, node, 1), width)
+    is_not_whole(node.buffer_length(1), width)
 }
 
 // The node has fault 14.
-pub fn fault_14(image: &[u8], node: u32, walk: Walk) -> bool
-    requires { Walks image.now node walk }
-    ensures { result ≡ fault14 image.now node }
+pub fn fault_14(node: Node, walk: Walk) -> bool
+    requires { (Walks of node) walk }
+    ensures { result ≡ fault14 of node.entry }
 {
-    if count_wrong(image, node) {
+    if count_wrong(TypeCode::buffers(node.code()), node.buffer_count()) {
         return true;
     }
-    if first_buffer(image, node) as usize != walk.buffers {
+    if node.first_buffer() as usize != walk.buffers {
         return true;
     }
-    if total_wrong(image, node, walk.all_buffers) {
+    if total_wrong(node.number, walk.all_buffers, buffer_total(node.image)) {
         return true;
     }
-    if any_outside(image, node) {
+    if any_outside(node) {
         return true;
     }
-    if bitmap_outside(image, node) {
+    if bitmap_outside(node) {
         return true;
     }
-    if MOST_ELEMENTS < elements(image, node) {
+    if MOST_ELEMENTS < node.elements() {
         return true;
     }
-    any_not_whole(image, node)
+    any_not_whole(node)
 }
 
 // A part of `len` bytes is under `count` elements of `width` bytes. Nothing is multiplied, so nothing wraps.
@@ -138,78 +109,71 @@ pub fn is_under(len: usize, count: usize, width: usize) -> bool
 }
 
 // Buffer j of the node is under `count` elements of `width` bytes.
-fn buffer_under(image: &[u8], node: u32, j: u32, count: usize, width: usize) -> bool
-    ensures { result ≡ under image.now node j count width }
+fn buffer_under(node: Node, j: u32, count: usize, width: usize) -> bool
+    ensures { result ≡ (under of node.entry) j count width }
 {
-    is_under(buffer_length(image, node, j), count, width)
+    is_under(node.buffer_length(j), count, width)
 }
 
 // The node has a bitmap of under first bit + length bits.
-fn bitmap_under(image: &[u8], node: u32) -> bool
-    ensures { result ≡ (has_bitmap image.now node && ltb (8 * bitmap_length image.now node) (first_bit image.now node + length_of image.now node)) }
+fn bitmap_under(node: Node) -> bool
+    ensures { result ≡ (has_bitmap of node.entry && ltb (8 * (bitmap_length of node.entry)) ((first_bit of node.entry) + (length_of of node.entry))) }
 {
-    if !has_bitmap(image, node) {
+    if !node.has_bitmap() {
         return false;
     }
-    8 * bitmap_length(image, node) < first_bit(image, node) + length(image, node)
+    8 * node.bitmap_length() < node.first_bit() + node.length()
 }
 
 // A list view's offsets or sizes are under e elements.
-fn views_under(image: &[u8], node: u32, e: usize) -> bool
-    ensures { result ≡ too_few_elements ListView image.now node e }
+fn views_under(node: Node, e: usize) -> bool
+    ensures { result ≡ ((too_few_elements ListView) of node.entry) e }
 {
-    let width = element_width(image, node);
-    if buffer_under(image, node, 0, e, width) {
+    let width = node.element_width();
+    if buffer_under(node, 0, e, width) {
         return true;
     }
-    buffer_under(image, node, 1, e, width)
+    buffer_under(node, 1, e, width)
 }
 
 // A dense union's type ids or offsets are under e elements.
-fn dense_under(image: &[u8], node: u32, e: usize) -> bool
-    ensures { result ≡ too_few_elements DenseUnion image.now node e }
+fn dense_under(node: Node, e: usize) -> bool
+    ensures { result ≡ ((too_few_elements DenseUnion) of node.entry) e }
 {
-    if buffer_under(image, node, 0, e, 1) {
+    if buffer_under(node, 0, e, 1) {
         return true;
     }
-    buffer_under(image, node, 1, e, 4)
+    buffer_under(node, 1, e, 4)
 }
 
 // A buffer of the node is under e elements.
-fn any_under(image: &[u8], node: u32, e: usize) -> bool
+fn any_under(node: Node, e: usize) -> bool
     requires { e < 2 ^ 33 }
-    ensures { result ≡ too_few_elements (layout_of (code_of image.now node)) image.now node e }
+    ensures { result ≡ too_few_elements (layout_of (code_of of node.entry)) node.entry.image.now node.entry.number e }
 {
-    let layout = TypeCode::layout(code(image, node));
+    let layout = TypeCode::layout(node.code());
     match layout {
-        Layout::Boolean => 8 * buffer_length(image, node, 0) < e,
+        Layout::Boolean => 8 * node.buffer_length(0) < e,
         Layout::FixedWidth | Layout::View | Layout::Dictionary => buffer_under(
-            image,
             node,
             0,
             e,
-            element_width(image, node),
+            node.element_width(),
         ),
-        Layout::VariableSize | Layout::List => buffer_under(
-            image,
-            node,
-            0,
-            e + 1,
-            element_width(image, node),
-        ),
-        Layout::ListView => views_under(image, node, e),
-        Layout::DenseUnion => dense_under(image, node, e),
-        Layout::SparseUnion => buffer_under(image, node, 0, e, 1),
+        Layout::VariableSize | Layout::List => buffer_under(node, 0, e + 1, node.element_width()),
+        Layout::ListView => views_under(node, e),
+        Layout::DenseUnion => dense_under(node, e),
+        Layout::SparseUnion => buffer_under(node, 0, e, 1),
         _ => false,
     }
 }
 
 // The node has fault 15.
-pub fn fault_15(image: &[u8], node: u32) -> bool
-    ensures { result ≡ fault15 image.now node }
+pub fn fault_15(node: Node) -> bool
+    ensures { result ≡ fault15 of node.entry }
 {
-    if bitmap_under(image, node) {
+    if bitmap_under(node) {
         return true;
     }
-    any_under(image, node, elements(image, node))
+    any_under(node, node.elements())
 }

@@ -13,16 +13,17 @@ pub mod texts;
 pub mod tree;
 
 ghost use Rattle.std.specs.Prelude.{◌≡◌, ◌<◌, ◌≤◌, ◌^◌};
+ghost use Rattle.image.specs.Of.{◌of◌};
 ghost use Rattle.image.specs.Record.{node_count};
 ghost use Rattle.image.specs.Faults.{fault10, fault, first_faulty, check_image};
 ghost use Rattle.laws.specs.Accepted.{NoneBelow};
-ghost use Rattle.validate.specs.Walks.{Walks};
+ghost use Rattle.validate.specs.Walks.{Walks, FirstFaulty};
 
 use buffers::{fault_14, fault_15};
 use children::fault_16;
 use codes::fault_11;
 use image::answer::{Checked, Fault};
-use image::record::{HEADER_SIZE, LONGEST_IMAGE, buffer_total, node_count, tables_end};
+use image::record::{HEADER_SIZE, LONGEST_IMAGE, Node, buffer_total, node_count, tables_end};
 use names::fault_13;
 use offsets::fault_17;
 use rows::fault_18;
@@ -62,41 +63,39 @@ fn fault_10(image: &[u8]) -> bool
 }
 
 // The node has a fault of the number, where no node has one of a lower number.
-fn has_fault(image: &[u8], number: u8, node: u32, walk: Walk) -> bool
-    requires walks { Walks image.now node walk }
-    requires none_below { NoneBelow number image.now × (11 ≤ number) × (node < node_count image.now) }
-    ensures { result ≡ fault number image.now node }
+fn has_fault(number: u8, node: Node, walk: Walk) -> bool
+    requires walks { (Walks of node) walk }
+    requires none_below { NoneBelow number node.image.now × (11 ≤ number) × (node.number < node_count node.image.now) }
+    ensures { result ≡ (fault number) of node.entry }
 {
     match number {
-        11 => fault_11(image, node),
-        12 => fault_12(image, node, walk),
-        13 => fault_13(image, node),
-        14 => fault_14(image, node, walk),
-        15 => fault_15(image, node),
-        16 => fault_16(image, node),
-        17 => fault_17(image, node),
-        18 => fault_18(image, node),
-        _ => fault_19(image, node),
+        11 => fault_11(node),
+        12 => fault_12(node, walk),
+        13 => fault_13(node),
+        14 => fault_14(node, walk),
+        15 => fault_15(node),
+        16 => fault_16(node),
+        17 => fault_17(node),
+        18 => fault_18(node),
+        _ => fault_19(node.image, node.number),
     }
 }
 
-// The first node that has a fault of the number, or n where none has; none has one of a lower number.
-fn first_faulty(image: &[u8], number: u8, start: Walk) -> u32
+// The first node that has a fault of the number; none has one of a lower number.
+fn first_faulty(image: &[u8], number: u8, start: Walk) -> Option<u16>
     requires walks { Walks image.now 0 start }
     requires none_below { NoneBelow number image.now × (11 ≤ number) }
-    ensures { (result ≡ first_faulty number image.now) × (result < 2 ^ 16) }
+    ensures { FirstFaulty number image.now result }
 {
-    let n = node_count(image);
     let mut walk = start;
-    let mut node: u32 = 0;
-    while node < n {
-        if has_fault(image, number, node, walk) {
-            return node;
+    for k in 0..node_count(image) {
+        let node = Node { image, number: k };
+        if has_fault(number, node, walk) {
+            return Some(k as u16);
         }
-        walk = walk.next(image, node);
-        node += 1;
+        walk = walk.next(node);
     }
-    n
+    None
 }
 
 // The image check.
@@ -109,18 +108,11 @@ pub fn check(image: &[u8]) -> Checked
             node: 0,
         });
     }
-    let n = node_count(image);
     let start = Walk::start(image);
-    let mut number: u8 = FIRST_NUMBER;
-    while number < NUMBERS_END {
-        let node = first_faulty(image, number, start);
-        if node < n {
-            return Checked::Refused(Fault {
-                number: number,
-                node: node as u16,
-            });
+    for number in FIRST_NUMBER..NUMBERS_END {
+        if let Some(node) = first_faulty(image, number, start) {
+            return Checked::Refused(Fault { number, node });
         }
-        number += 1;
     }
     Checked::Accepted
 }

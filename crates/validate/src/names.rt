@@ -1,8 +1,9 @@
 // 13: name too long or outside the image. Also: what lies outside an image.
 ghost use Rattle.std.specs.Prelude.{◌≡◌, ◌<◌, ◌^◌};
+ghost use Rattle.image.specs.Of.{◌of◌};
 ghost use Rattle.image.specs.Faults.{fault13, outside};
 
-use image::record::{name_length, name_place};
+use image::record::Node;
 
 const LONGEST_NAME: usize = 64;
 
@@ -15,15 +16,15 @@ pub fn is_outside(image: &[u8], place: usize, len: usize) -> bool
 }
 
 // The node has fault 13.
-pub fn fault_13(image: &[u8], node: u32) -> bool
-    ensures { result ≡ fault13 image.now node }
+pub fn fault_13(node: Node) -> bool
+    ensures { result ≡ fault13 of node.entry }
 {
-    let len = name_length(image, node);
+    let len = node.name_length();
     if LONGEST_NAME < len {
         return true;
     }
     if len == 0 {
         return false;
     }
-    is_outside(image, name_place(image, node), len)
+    is_outside(node.image, node.name_place(), len)
 }

@@ -1,5 +1,6 @@
 // 17: offsets that are negative, fall or pass the end, and list views outside their child.
 ghost use Rattle.std.specs.Prelude.{◌≡◌, not, ◌+◌, ◌<◌};
+ghost use Rattle.image.specs.Of.{◌of◌};
 ghost use Rattle.image.specs.Ranges.{any};
 ghost use Rattle.image.specs.Record.{node_count, elements_of};
 ghost use Rattle.image.specs.Element.{element_width};
@@ -8,58 +9,65 @@ ghost use Rattle.laws.specs.Accepted.{NoneBelow};
 ghost use Rattle.validate.specs.Numbers.{Holds};
 
 use crate::rise::rise;
-use image::bytes::nth_inside;
-use image::element::element_width;
-use image::record::{buffer_length, buffer_place, code, elements, first_child, length};
+use image::bytes::Numbers;
+use image::record::Node;
 use image::type_code::{Layout, TypeCode};
 
 // The node's offsets at places 0 to e do not rise up to the end.
-fn offsets_fall(image: &[u8], node: u32, end: usize) -> bool
-    requires { Holds image.now node 0 (element_width image.now node) (elements_of image.now node + 1) }
-    ensures { result ≡ not (offsets_rise image.now node end) }
+fn offsets_fall(node: Node, end: usize) -> bool
+    requires { (Holds of node) 0 (element_width of node) ((elements_of of node) + 1) }
+    ensures { result ≡ not ((offsets_rise of node.entry) end) }
 {
-    let width = element_width(image, node);
-    let place = buffer_place(image, node, 0);
-    !rise(image, place, width, 0, end, 0, elements(image, node) + 1)
+    let offsets = Numbers {
+        bytes: node.image,
+        place: node.buffer_place(0),
+        width: node.element_width(),
+    };
+    !rise(offsets, 0, end, 0, node.elements() + 1)
 }
 
 // A list view of the node does not lie inside its child. The size is compared with what the offset leaves, so that
 // nothing is added before it is bounded.
-fn lists_outside(image: &[u8], node: u32) -> bool
-    requires holds { Holds image.now node 0 (element_width image.now node) (elements_of image.now node) }
-    requires holds_2 { Holds image.now node 1 (element_width image.now node) (elements_of image.now node) }
-    ensures { result ≡ any (list_outside image.now node) 0 (elements_of image.now node) }
+fn lists_outside(node: Node) -> bool
+    requires holds { (Holds of node) 0 (element_width of node) (elements_of of node) }
+    requires holds_2 { (Holds of node) 1 (element_width of node) (elements_of of node) }
+    ensures { result ≡ any (list_outside of node.entry) 0 (elements_of of node.entry) }
 {
-    let width = element_width(image, node);
-    let offsets = buffer_place(image, node, 0);
-    let sizes = buffer_place(image, node, 1);
-    let end = length(image, first_child(image, node));
-    let e = elements(image, node);
-    let mut j: usize = 0;
-    while j < e {
-        let offset = nth_inside(image, offsets, width, j);
-        let size = nth_inside(image, sizes, width, j);
+    let width = node.element_width();
+    let offsets = Numbers {
+        bytes: node.image,
+        place: node.buffer_place(0),
+        width: width,
+    };
+    let sizes = Numbers {
+        bytes: node.image,
+        place: node.buffer_place(1),
+        width: width,
+    };
+    let end = node.child(0).length();
+    for j in 0..node.elements() {
+        let offset = offsets.inside(j);
+        let size = sizes.inside(j);
         if end < offset {
             return true;
         }
         if end - offset < size {
             return true;
         }
-        j += 1;
     }
     false
 }
 
 // The node has fault 17.
-pub fn fault_17(image: &[u8], node: u32) -> bool
-    requires { NoneBelow 17 image.now × (node < node_count image.now) }
-    ensures { result ≡ fault17 image.now node }
+pub fn fault_17(node: Node) -> bool
+    requires { NoneBelow 17 node.image.now × (node.number < node_count node.image.now) }
+    ensures { result ≡ fault17 of node.entry }
 {
-    let layout = TypeCode::layout(code(image, node));
+    let layout = TypeCode::layout(node.code());
     match layout {
-        Layout::VariableSize => offsets_fall(image, node, buffer_length(image, node, 1)),
-        Layout::List => offsets_fall(image, node, length(image, first_child(image, node))),
-        Layout::ListView => lists_outside(image, node),
+        Layout::VariableSize => offsets_fall(node, node.buffer_length(1)),
+        Layout::List => offsets_fall(node, node.child(0).length()),
+        Layout::ListView => lists_outside(node),
         _ => false,
     }
 }

@@ -1,5 +1,6 @@
 // 18: in its rows a node names a child, a key, a view or a dense offset that is not there, or its run ends are wrong.
 ghost use Rattle.std.specs.Prelude.{◌≡◌, ◌||◌, not, ◌+◌, ◌<◌, ◌≤◌, length};
+ghost use Rattle.image.specs.Of.{◌of◌};
 ghost use Rattle.image.specs.Ranges.{any};
 ghost use Rattle.image.specs.Reads.{Packed};
 ghost use Rattle.image.specs.Record.{node_count, length_of, elements_of};
@@ -9,135 +10,104 @@ ghost use Rattle.laws.specs.Accepted.{NoneBelow};
 ghost use Rattle.validate.specs.Numbers.{KeyLimit, Holds, EndsInside, number_in, reaches};
 ghost use Rattle.validate.specs.Views.{ViewAt, ViewsInside};
 
-use crate::rise::{BLOCK, rise};
-use image::bytes::{nth_inside, octet, quad};
-use image::element::{
-    INLINE_LENGTH, VIEW_SIZE, children_by_id, element_width, ends_of, is_kept, mask_of, run_end,
-};
-use image::record::{
-    ENTRY_SIZE, buffer_count, buffer_place, child_count, code, elements, first_child, has_bitmap,
-    length, node_entry, offset, p1,
-};
+use crate::rise::rise;
+use image::blocks::any_in_blocks;
+use image::bytes::{Numbers, load};
+use image::element::{INLINE_LENGTH, VIEW_SIZE};
+use image::record::{ENTRY_SIZE, Node};
 use image::type_code::{Layout, TypeCode};
 
 // A row of a dense union has a type id without a child, or an offset outside the child that its id names.
-fn dense_fault(image: &[u8], node: u32) -> bool
-    requires { Holds image.now node 0 1 (elements_of image.now node) × Holds image.now node 1 4 (elements_of image.now node) }
-    ensures { result ≡ any (dense_row_fault image.now node) 0 (length_of image.now node) }
+fn dense_fault(node: Node) -> bool
+    requires { (Holds of node) 0 1 (elements_of of node) × (Holds of node) 1 4 (elements_of of node) }
+    ensures { result ≡ any (dense_row_fault of node.entry) 0 (length_of of node.entry) }
 {
-    let table = children_by_id(image, node);
-    let end = first_child(image, node) + child_count(image, node);
-    let ids = buffer_place(image, node, 0);
-    let offsets = buffer_place(image, node, 1);
-    let from = offset(image, node);
-    let rows = length(image, node);
-    let mut i: usize = 0;
-    while i < rows {
-        let j = from + i;
-        let child = table[nth_inside(image, ids, 1, j)];
-        if end <= child {
+    let children = node.children_by_id();
+    let ids = Numbers {
+        bytes: node.image,
+        place: node.buffer_place(0),
+        width: 1,
+    };
+    let offsets = Numbers {
+        bytes: node.image,
+        place: node.buffer_place(1),
+        width: 4,
+    };
+    let from = node.offset();
+    for i in 0..node.length() {
+        let id = ids.inside(from + i);
+        let Some(number) = children[id] else {
+            return true;
+        };
+        let child = Node {
+            image: node.image,
+            number: number,
+        };
+        if child.length() <= offsets.inside(from + i) {
             return true;
         }
-        if length(image, child) <= nth_inside(image, offsets, 4, j) {
-            return true;
-        }
-        i += 1;
     }
     false
 }
 
 // A row of a sparse union has a type id without a child.
-fn sparse_fault(image: &[u8], node: u32) -> bool
-    requires { Holds image.now node 0 1 (elements_of image.now node) }
-    ensures { result ≡ any (sparse_row_fault image.now node) 0 (length_of image.now node) }
+fn sparse_fault(node: Node) -> bool
+    requires { (Holds of node) 0 1 (elements_of of node) }
+    ensures { result ≡ any (sparse_row_fault of node.entry) 0 (length_of of node.entry) }
 {
-    let table = children_by_id(image, node);
-    let end = first_child(image, node) + child_count(image, node);
-    let ids = buffer_place(image, node, 0);
-    let from = offset(image, node);
-    let rows = length(image, node);
-    let mut i: usize = 0;
-    while i < rows {
-        let child = table[nth_inside(image, ids, 1, from + i)];
-        if end <= child {
+    let children = node.children_by_id();
+    let ids = Numbers {
+        bytes: node.image,
+        place: node.buffer_place(0),
+        width: 1,
+    };
+    let from = node.offset();
+    for i in 0..node.length() {
+        let id = ids.inside(from + i);
+        if children[id].is_none() {
             return true;
         }
-        i += 1;
     }
     false
 }
 
 // The first key that lies outside `rows` rows: a key of so many bytes is read as an unsigned number, and where keys are
 // signed a negative one reads as at least the sign bit.
-fn key_limit(image: &[u8], node: u32, width: usize) -> usize
-    requires { (width ≡ element_width image.now node) × (width ≤ 8) }
-    ensures { KeyLimit image.now node result }
+fn key_limit(node: Node, width: usize) -> usize
+    requires { (width ≡ element_width of node) × (width ≤ 8) }
+    ensures { (KeyLimit of node.entry) result }
 {
-    let rows = length(image, first_child(image, node));
-    if !TypeCode::key_signed(p1(image, node) as u32) {
+    let rows = node.child(0).length();
+    if !TypeCode::key_signed(node.p1() as u32) {
         return rows;
     }
     let sign = TypeCode::sign_bit(width) as usize;
-    if sign < rows { sign } else { rows }
-}
-
-// One of 64 numbers from number k on is not below the limit. There is no way out of the loop, so that the compiler
-// compares many at once.
-fn reach_in_block(image: &[u8], place: usize, width: usize, limit: usize, k: usize) -> bool
-    requires { Packed (length image.now) place width (k + 64) }
-    ensures { result ≡ any (reaches limit (number_in image.now place width)) k 64 }
-{
-    let mut found = false;
-    let mut j: usize = 0;
-    while j < BLOCK {
-        found = found | (limit <= nth_inside(image, place, width, k + j));
-        j += 1;
-    }
-    found
-}
-
-// One of n numbers is not below the limit.
-fn reach_among(image: &[u8], place: usize, width: usize, limit: usize, n: usize) -> bool
-    requires { Packed (length image.now) place width n }
-    ensures { result ≡ any (reaches limit (number_in image.now place width)) 0 n }
-{
-    let mut k: usize = 0;
-    while BLOCK <= n - k {
-        if reach_in_block(image, place, width, limit, k) {
-            return true;
-        }
-        k += BLOCK;
-    }
-    while k < n {
-        if limit <= nth_inside(image, place, width, k) {
-            return true;
-        }
-        k += 1;
-    }
-    false
+    rows.min(sign)
 }
 
 // A row of a Dictionary that is not null has a key outside the values. Without a bitmap it is the keys alone that tell.
-fn keys_fault(image: &[u8], node: u32) -> bool
-    requires { Holds image.now node 0 (element_width image.now node) (elements_of image.now node) }
-    ensures { result ≡ any (key_row_fault image.now node) 0 (length_of image.now node) }
+fn keys_fault(node: Node) -> bool
+    requires { (Holds of node) 0 (element_width of node) (elements_of of node) }
+    ensures { result ≡ any (key_row_fault of node.entry) 0 (length_of of node.entry) }
 {
-    let width = element_width(image, node);
-    let limit = key_limit(image, node, width);
-    let keys = buffer_place(image, node, 0) + offset(image, node) * width;
-    let rows = length(image, node);
-    if !has_bitmap(image, node) {
-        return reach_among(image, keys, width, limit, rows);
+    let width = node.element_width();
+    let limit = key_limit(node, width);
+    let keys = Numbers {
+        bytes: node.image,
+        place: node.buffer_place(0) + node.offset() * width,
+        width: width,
+    };
+    let rows = node.length();
+    let bitmap = node.bitmap();
+    if bitmap.is_none() {
+        return any_in_blocks(rows, |i| limit <= keys.inside(i));
     }
-    let mask = mask_of(image, node);
-    let mut i: usize = 0;
-    while i < rows {
-        if is_kept(image, node, mask, i) {
-            if limit <= nth_inside(image, keys, width, i) {
+    for i in 0..rows {
+        if node.is_kept(bitmap, i) {
+            if limit <= keys.inside(i) {
                 return true;
             }
         }
-        i += 1;
     }
     false
 }
@@ -150,119 +120,110 @@ fn padding_nonzero(image: &[u8], view: usize, len: usize) -> bool
 {
     let at = view + 4 + len;
     if len <= 4 {
-        if octet(image, at) != 0 {
+        if load::<8>(image, at) != 0 {
             return true;
         }
-        return octet(image, view + 8) != 0;
+        return load::<8>(image, view + 8) != 0;
     }
     if len <= 8 {
-        if quad(image, at) != 0 {
+        if load::<4>(image, at) != 0 {
             return true;
         }
-        return quad(image, view + 12) != 0;
+        return load::<4>(image, view + 12) != 0;
     }
-    let count = INLINE_LENGTH - len;
-    let mut k: usize = 0;
-    while k < count {
+    for k in 0..INLINE_LENGTH - len {
         if image[at + k] != 0 {
             return true;
         }
-        k += 1;
     }
     false
 }
 
 // The view at a place breaks a rule; `entries` is where those of the node's buffers start, `count` how many they are.
-fn view_fault(image: &[u8], node: u32, view: usize, entries: usize, count: usize) -> bool
-    requires { ViewAt image.now node view entries count }
-    ensures { result ≡ view_fault image.now node view }
+fn view_fault(node: Node, view: usize, entries: usize, count: usize) -> bool
+    requires { (ViewAt of node) view entries count }
+    ensures { result ≡ (view_fault of node.entry) view }
 {
-    let len = quad(image, view);
+    let len = load::<4>(node.image, view);
     if len <= INLINE_LENGTH {
-        return padding_nonzero(image, view, len);
+        return padding_nonzero(node.image, view, len);
     }
-    let buffer = 1 + quad(image, view + 8);
+    let buffer = 1 + load::<4>(node.image, view + 8);
     if count <= buffer {
         return true;
     }
     let entry = entries + buffer * ENTRY_SIZE;
-    let at = quad(image, view + 12);
-    if quad(image, entry + 4) < at + len {
+    let at = load::<4>(node.image, view + 12);
+    if load::<4>(node.image, entry + 4) < at + len {
         return true;
     }
-    quad(image, view + 4) != quad(image, quad(image, entry) + at)
+    load::<4>(node.image, view + 4) != load::<4>(node.image, load::<4>(node.image, entry) + at)
 }
 
 // A row of views that is not null has a view that breaks a rule.
-fn views_fault(image: &[u8], node: u32) -> bool
-    requires { ViewsInside image.now node }
-    ensures { result ≡ any (view_row_fault image.now node) 0 (length_of image.now node) }
+fn views_fault(node: Node) -> bool
+    requires { ViewsInside of node }
+    ensures { result ≡ any (view_row_fault of node.entry) 0 (length_of of node.entry) }
 {
-    let place = buffer_place(image, node, 0) + offset(image, node) * VIEW_SIZE;
-    let entries = node_entry(image, node, 0);
-    let count = buffer_count(image, node) as usize;
-    let rows = length(image, node);
-    let mask = mask_of(image, node);
-    let mut view = place;
-    let mut i: usize = 0;
-    while i < rows {
-        if is_kept(image, node, mask, i) {
-            if view_fault(image, node, view, entries, count) {
+    let place = node.buffer_place(0) + node.offset() * VIEW_SIZE;
+    let entries = node.node_entry(0);
+    let count = node.buffer_count() as usize;
+    let bitmap = node.bitmap();
+    for i in 0..node.length() {
+        if node.is_kept(bitmap, i) {
+            if view_fault(node, place + i * VIEW_SIZE, entries, count) {
                 return true;
             }
         }
-        view += VIEW_SIZE;
-        i += 1;
     }
     false
 }
 
 // The run ends, over all rows of their child, are not positive and strictly rising.
-fn run_ends_fall(image: &[u8], node: u32) -> bool
-    requires { EndsInside image.now node }
-    ensures { result ≡ not (run_ends_rise image.now node) }
+fn run_ends_fall(node: Node) -> bool
+    requires { EndsInside of node }
+    ensures { result ≡ not (run_ends_rise of node.entry) }
 {
-    let ends = ends_of(image, node);
+    let ends = node.ends();
     let top = TypeCode::sign_bit(ends.width) as usize - 1;
-    let count = length(image, first_child(image, node));
-    !rise(image, ends.place, ends.width, 1, top, 1, count)
+    !rise(ends, 1, top, 1, node.child(0).length())
 }
 
 // The last run end lies below e; without run ends e is not 0.
-fn last_end_below(image: &[u8], node: u32) -> bool
-    ensures { result ≡ last_end_below image.now node }
+fn last_end_below(node: Node) -> bool
+    ensures { result ≡ last_end_below of node.entry }
 {
-    let e = elements(image, node);
-    let count = length(image, first_child(image, node));
+    let e = node.elements();
+    let count = node.child(0).length();
     if count == 0 {
         return e != 0;
     }
-    run_end(image, node, ends_of(image, node), count - 1) < e
+    node.ends().at(count - 1) < e
 }
 
 // Runs whose run ends break a rule.
-fn runs_fault(image: &[u8], node: u32) -> bool
-    requires { EndsInside image.now node }
-    ensures { result ≡ (not (run_ends_rise image.now node) || last_end_below image.now node) }
+fn runs_fault(node: Node) -> bool
+    requires { EndsInside of node }
+    ensures { result ≡ (not (run_ends_rise of node.entry) || last_end_below of node.entry) }
 {
-    if run_ends_fall(image, node) {
+    if run_ends_fall(node) {
         return true;
     }
-    last_end_below(image, node)
+    last_end_below(node)
 }
 
 // The node has fault 18.
-pub fn fault_18(image: &[u8], node: u32) -> bool
-    requires { NoneBelow 18 image.now × (node < node_count image.now) }
-    ensures { result ≡ fault18 image.now node }
+pub fn fault_18(node: Node) -> bool
+    requires { NoneBelow 18 node.image.now × (node.number < node_count node.image.now) }
+    ensures { result ≡ fault18 of node.entry }
 {
-    let layout = TypeCode::layout(code(image, node));
+    let layout = TypeCode::layout(node.code());
     match layout {
-        Layout::View => views_fault(image, node),
-        Layout::DenseUnion => dense_fault(image, node),
-        Layout::SparseUnion => sparse_fault(image, node),
-        Layout::Dictionary => keys_fault(image, node),
-        Layout::Runs => runs_fault(image, node),
+        Layout::View => views_fault(node),
+        Layout::DenseUnion => dense_fault(node),
+        Layout::SparseUnion => sparse_fault(node),
+        Layout::Dictionary => keys_fault(node),
+        Layout::Runs => runs_fault(node),
         _ => false,
     }
 }

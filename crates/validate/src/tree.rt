@@ -1,15 +1,14 @@
 // 12: the tree is broken.
-ghost use Rattle.std.specs.Prelude.{◌≡◌, ◌&&◌, not, ◌+◌, ◌<◌, ◌^◌, min, eqb};
+ghost use Rattle.std.specs.Prelude.{◌≡◌, ◌&&◌, not, ℕ, ◌+◌, ◌<◌, ◌^◌, eqb};
+ghost use Rattle.image.specs.Of.{◌of◌};
 ghost use Rattle.image.specs.Record.{max_depth, node_count, code_of, id_of, child_count, child_start, buffer_start};
 ghost use Rattle.image.specs.TypeCode.{layout_of, child_rule, counts, is_union};
 ghost use Rattle.image.specs.Faults.{fault12, level_end, ids_rise, under_union, map_entries, run_ends};
-ghost use Rattle.validate.specs.Walks.{Sum, Passed, Parents, Walks};
+ghost use Rattle.image.specs.Ranges.{sum_to};
+ghost use Rattle.validate.specs.Walks.{Sum, Total, Counts, Passed, Parents, Walks};
 
-use image::bytes::wide;
-use image::record::{
-    MAX_DEPTH, buffer_count, child_count, code, first_child, has_bitmap, node_count, type_id,
-};
-use image::type_code::TypeCode;
+use image::record::{MAX_DEPTH, Node, node_count};
+use image::type_code::{Count, TypeCode};
 
 const LARGEST_ID: usize = 127;
 
@@ -33,74 +32,66 @@ pub struct Walk {
     pub shallow: usize,
 }
 
-// 1 plus the child counts of the nodes before a node.
-fn child_start(image: &[u8], node: usize) -> usize
-    requires { node < 2 ^ 16 }
-    ensures { Sum (child_start image.now node) node result }
+// What the nodes below n make in all, each with a count of its own.
+fn sum_below<F: Fn(u32) -> u32>(n: u32, count: F) -> usize
+    requires { (k : ℕ) → k < n → F.pre count k }
+    ensures { (f : ℕ → ℕ) → Counts (F.post count) n f → Total (sum_to f n) n result }
 {
-    let mut sum: usize = 1;
-    let mut k: u32 = 0;
-    while (k as usize) < node {
-        sum += child_count(image, k) as usize;
-        k += 1;
+    let mut sum: usize = 0;
+    for k in 0..n {
+        sum += count(k) as usize;
     }
     sum
+}
+
+// 1 plus the child counts of the nodes before a node.
+fn child_start(image: &[u8], node: u32) -> usize
+    ensures { Sum (child_start image.now node) node result }
+{
+    1 + sum_below(node, |k| Node { image, number: k }.child_count())
 }
 
 // The buffer counts of the nodes before a node.
-fn buffer_start(image: &[u8], node: usize) -> usize
-    requires { node < 2 ^ 16 }
+fn buffer_start(image: &[u8], node: u32) -> usize
     ensures { Sum (buffer_start image.now node) node result }
 {
-    let mut sum: usize = 0;
-    let mut k: u32 = 0;
-    while (k as usize) < node {
-        sum += buffer_count(image, k) as usize;
-        k += 1;
-    }
-    sum
+    sum_below(node, |k| Node { image, number: k }.buffer_count())
 }
 
 // How many nodes are not too deep.
-fn level_end(image: &[u8], n: usize) -> usize
+fn level_end(image: &[u8], n: u32) -> u32
     requires { (n ≡ node_count image.now) × (n < 2 ^ 16) }
     ensures { result ≡ level_end image.now max_depth }
 {
-    let mut end: usize = 0;
-    let mut d: usize = 0;
-    while d < MAX_DEPTH {
-        end = least(child_start(image, end), n);
-        d += 1;
+    let mut end = 0;
+    for d in 0..MAX_DEPTH {
+        end = child_start(image, end).min(n as usize) as u32;
     }
     end
 }
 
-fn least(a: usize, b: usize) -> usize
-    ensures { result ≡ min a b }
-{
-    if a < b { a } else { b }
-}
-
 // The parent of a node: the first node whose children end past it, looked for from one on that is not past the parent
 // and up to the node itself, which is given where there is none.
-fn parent_from(image: &[u8], node: u32, from: Parent) -> Parent
-    requires { Passed image.now node from.node from.end × (node < 2 ^ 17) }
-    ensures { Parents image.now node result }
+fn parent_from(node: Node, from: Parent) -> Parent
+    requires { (Passed of node) from.node from.end × (node.number < 2 ^ 17) }
+    ensures { (Parents of node.entry) result }
 {
-    let mut parent = from.node;
     let mut end = from.end;
-    while parent < node {
-        if (node as usize) < end {
+    for parent in from.node..node.number {
+        if (node.number as usize) < end {
             return Parent {
                 node: parent,
                 end: end,
             };
         }
-        parent += 1;
-        end += child_count(image, parent) as usize;
+        let next = Node {
+            image: node.image,
+            number: parent + 1,
+        };
+        end += next.child_count() as usize;
     }
     Parent {
-        node: parent,
+        node: node.number,
         end: end,
     }
 }
@@ -110,32 +101,36 @@ impl Walk {
     pub fn start(image: &[u8]) -> Walk
         ensures { Walks image.now 0 result }
     {
-        let n = node_count(image) as usize;
-        let first_end = 1 + child_count(image, 0) as usize;
+        let n = node_count(image);
+        let root = Node { image, number: 0 };
         Walk {
             children: 1,
             buffers: 0,
             parent: Parent {
                 node: 0,
-                end: first_end,
+                end: 1 + root.child_count() as usize,
             },
             all_children: child_start(image, n),
             all_buffers: buffer_start(image, n),
-            shallow: level_end(image, n),
+            shallow: level_end(image, n) as usize,
         }
     }
 
     // The walk at the next node.
-    pub fn next(self, image: &[u8], node: u32) -> Walk
-        requires { (Walks image.now node self) × (node < 2 ^ 16) }
-        ensures { Walks image.now (node + 1) result }
+    pub fn next(self, node: Node) -> Walk
+        requires { (Walks of node) self × (node.number < 2 ^ 16) }
+        ensures { Walks node.entry.image.now (node.entry.number + 1) result }
     {
-        let children = self.children + child_count(image, node) as usize;
-        let buffers = self.buffers + buffer_count(image, node) as usize;
+        let children = self.children + node.child_count() as usize;
+        let buffers = self.buffers + node.buffer_count() as usize;
+        let next = Node {
+            image: node.image,
+            number: node.number + 1,
+        };
         Walk {
             children: children,
             buffers: buffers,
-            parent: parent_from(image, node + 1, self.parent),
+            parent: parent_from(next, self.parent),
             all_children: self.all_children,
             all_buffers: self.all_buffers,
             shallow: self.shallow,
@@ -143,35 +138,31 @@ impl Walk {
     }
 }
 
-// The number of children is not what the code's rule says.
-fn count_wrong(image: &[u8], node: u32) -> bool
-    ensures { result ≡ not (counts (child_rule (layout_of (code_of image.now node))) (child_count image.now node)) }
+// The number of children or buffers is not what the code's rule says.
+pub fn count_wrong(rule: Count, count: u32) -> bool
+    requires { count < 2 ^ 16 }
+    ensures { result ≡ not (counts rule count) }
 {
-    let rule = TypeCode::children(code(image, node));
-    let count = child_count(image, node);
     !rule.allows(count as u16)
 }
 
-// Node 0 stands for the total: 1 plus all child counts is the number of nodes.
-fn total_wrong(image: &[u8], node: u32, all: usize) -> bool
-    ensures { result ≡ (eqb node 0 && not (eqb all (node_count image.now))) }
+// Node 0 stands for the total: the counts of all nodes make what the header or the tables say.
+pub fn total_wrong(node: u32, all: usize, total: u32) -> bool
+    ensures { result ≡ (eqb node 0 && not (eqb all total)) }
 {
     if node != 0 {
         return false;
     }
-    all != node_count(image) as usize
+    all != total as usize
 }
 
 // The type ids of a node's children rise strictly within 0 to 127.
-fn ids_rise(image: &[u8], node: u32) -> bool
-    ensures { result ≡ ids_rise image.now node }
+fn ids_rise(node: Node) -> bool
+    ensures { result ≡ ids_rise of node.entry }
 {
-    let first = first_child(image, node);
-    let count = child_count(image, node);
     let mut least: usize = 0;
-    let mut k: u32 = 0;
-    while k < count {
-        let id = wide(type_id(image, first + k));
+    for c in 0..node.child_count() {
+        let id = usize::from(node.child(c).type_id());
         if id < least {
             return false;
         }
@@ -179,104 +170,107 @@ fn ids_rise(image: &[u8], node: u32) -> bool
             return false;
         }
         least = id + 1;
-        k += 1;
     }
     true
 }
 
 // A union whose type ids do not rise.
-fn ids_fall(image: &[u8], node: u32) -> bool
-    ensures { result ≡ (is_union (code_of image.now node) && not (ids_rise image.now node)) }
+fn ids_fall(node: Node) -> bool
+    ensures { result ≡ (is_union (code_of of node.entry) && not (ids_rise of node.entry)) }
 {
-    if !TypeCode::is_union(code(image, node)) {
+    if !TypeCode::is_union(node.code()) {
         return false;
     }
-    !ids_rise(image, node)
+    !ids_rise(node)
 }
 
 // The node is a union's child.
-fn is_under_union(image: &[u8], node: u32, parent: Parent) -> bool
-    requires { Parents image.now node parent }
-    ensures { result ≡ under_union image.now node }
+fn is_under_union(node: Node, parent: Parent) -> bool
+    requires { (Parents of node) parent }
+    ensures { result ≡ under_union of node.entry }
 {
-    if node <= parent.node {
+    if node.number <= parent.node {
         return false;
     }
-    TypeCode::is_union(code(image, parent.node))
+    let above = Node {
+        image: node.image,
+        number: parent.node,
+    };
+    TypeCode::is_union(above.code())
 }
 
 // A type id where no union is above.
-fn id_alone(image: &[u8], node: u32, parent: Parent) -> bool
-    requires { Parents image.now node parent }
-    ensures { result ≡ (not (eqb (id_of image.now node) 0) && not (under_union image.now node)) }
+fn id_alone(node: Node, parent: Parent) -> bool
+    requires { (Parents of node) parent }
+    ensures { result ≡ (not (eqb (id_of of node.entry) 0) && not (under_union of node.entry)) }
 {
-    if type_id(image, node) == 0 {
+    if node.type_id() == 0 {
         return false;
     }
-    !is_under_union(image, node, parent)
+    !is_under_union(node, parent)
 }
 
 // A Map whose child is not a Struct of two.
-fn map_broken(image: &[u8], node: u32) -> bool
-    ensures { result ≡ (eqb (code_of image.now node) 42 && not (map_entries image.now node)) }
+fn map_broken(node: Node) -> bool
+    ensures { result ≡ (eqb (code_of of node.entry) 42 && not (map_entries of node.entry)) }
 {
-    if code(image, node) != TypeCode::MAP {
+    if node.code() != TypeCode::MAP {
         return false;
     }
-    let entries = first_child(image, node);
-    if code(image, entries) != TypeCode::STRUCT {
+    let entries = node.child(0);
+    if entries.code() != TypeCode::STRUCT {
         return true;
     }
-    child_count(image, entries) != 2
+    entries.child_count() != 2
 }
 
 // Runs whose run ends are not Int16, Int32 or Int64, or have a bitmap.
-fn runs_broken(image: &[u8], node: u32) -> bool
-    ensures { result ≡ (eqb (code_of image.now node) 43 && not (run_ends image.now node)) }
+fn runs_broken(node: Node) -> bool
+    ensures { result ≡ (eqb (code_of of node.entry) 43 && not (run_ends of node.entry)) }
 {
-    if code(image, node) != TypeCode::RUN_END_ENCODED {
+    if node.code() != TypeCode::RUN_END_ENCODED {
         return false;
     }
-    let ends = first_child(image, node);
-    let c = code(image, ends);
+    let ends = node.child(0);
+    let c = ends.code();
     if c < TypeCode::INT16 {
         return true;
     }
     if TypeCode::INT64 < c {
         return true;
     }
-    has_bitmap(image, ends)
+    ends.has_bitmap()
 }
 
 // The node has fault 12.
-pub fn fault_12(image: &[u8], node: u32, walk: Walk) -> bool
-    requires { Walks image.now node walk }
-    ensures { result ≡ fault12 image.now node }
+pub fn fault_12(node: Node, walk: Walk) -> bool
+    requires { (Walks of node) walk }
+    ensures { result ≡ fault12 of node.entry }
 {
-    if count_wrong(image, node) {
+    if count_wrong(TypeCode::children(node.code()), node.child_count()) {
         return true;
     }
-    let first = first_child(image, node);
+    let first = node.first_child();
     if first as usize != walk.children {
         return true;
     }
-    if first <= node {
+    if first <= node.number {
         return true;
     }
-    if total_wrong(image, node, walk.all_children) {
+    if total_wrong(node.number, walk.all_children, node_count(node.image)) {
         return true;
     }
-    if walk.shallow <= node as usize {
+    if walk.shallow <= node.number as usize {
         return true;
     }
-    if ids_fall(image, node) {
+    if ids_fall(node) {
         return true;
     }
-    if id_alone(image, node, walk.parent) {
+    if id_alone(node, walk.parent) {
         return true;
     }
-    if map_broken(image, node) {
+    if map_broken(node) {
         return true;
     }
-    runs_broken(image, node)
+    runs_broken(node)
 }

@@ -12,6 +12,8 @@ use Rattle.image.specs.Faults.{first_faulty, numbers_end, check_from, check_imag
 use Rattle.laws.proofs.NoneBelow.{none_yet, none_more}
 use Prim.Native.Nat.{ℕ, ◌+◌, ◌-◌, ◌<◌, ◌≤◌}
 use native.Mathlib.Omega.{arith}
+use Rattle.std.specs.Prelude.{Option, None, Some}
+use Rattle.validate.specs.Walks.{FirstFaulty}
 use Rattle.validate.proofs.check.Invariants.{Left}
 use Rattle.validate.proofs.check.Goals as goal
 
@@ -27,18 +29,23 @@ turn s number lt =
     rw (e, x)
 
 module _ {s : List ℕ} {number : ℕ} (l : Left s number) where
-  module _ (lt : number < numbers_end) {node n : ℕ} (e : node ≡ first_faulty number s) (q : n ≡ node_count s) where
-    found : node < n → Refused (record { number = number; node = node }) ≡ check_from (numbers_end - 11) 11 s
-    found h = sym (l.same ∙ turn s number lt ∙ rw (← e, ← q, lt-ltb node n h))
+  module _ (lt : number < numbers_end) where
+    found : {k : ℕ} → FirstFaulty number s (Some k) → Refused (record { number = number; node = k }) ≡ check_from (numbers_end - 11) 11 s
+    found f = sym (l.same ∙ turn s number lt ∙ rw (← f.0, lt-ltb _ _ f.1))
 
-    left_more : n ≤ node → Left s (number + 1)
-    left_more h = record { within = omega arith; same = l.same ∙ turn s number lt ∙ rw (← e, ← q, le-ltb node n h) }
+    left_more : node_count s ≤ first_faulty number s → Left s (number + 1)
+    left_more none = record { within = omega arith; same = l.same ∙ turn s number lt ∙ rw (le-ltb _ _ none) }
 
   accepted : numbers_end ≤ number → Accepted ≡ check_from (numbers_end - 11) 11 s
   unfolding check_from
   accepted h =
       let e : numbers_end - number ≡ 0 = omega arith in
       sym (l.same ∙ rw e)
+
+-- no node has a fault of the number where none was found
+not_found : (number : ℕ) (s : List ℕ) (o : Option ℕ) → FirstFaulty number s o → ((k : ℕ) → o ≡ Some k → ⊥) → node_count s ≤ first_faulty number s
+not_found number s None none f = none
+not_found number s (Some k) some f = absurd (f k refl)
 
 pub returns-then-fault_10 : goal.returns-then-fault_10
 unfolding check_image
@@ -47,18 +54,17 @@ returns-then-fault_10 c = rw (← c.fault_10.ensures, c.if-fault_10.true)
 pub loop-number-init : goal.loop-number-init
 loop-number-init c = (left-all _, none_yet (sym c.fault_10.ensures ∙ c.if-fault_10.false), omega arith)
 
-pub first_faulty-node-requires : goal.first_faulty-node-requires
-first_faulty-node-requires c = record { walks = c.start-start.ensures; none_below = (c.loop-number.invariant.1, c.loop-number.invariant.2) }
+pub first_faulty-requires : goal.first_faulty-requires
+first_faulty-requires c = record { walks = c.start-start.ensures; none_below = (c.loop-number.invariant.1, c.loop-number.invariant.2) }
 
-pub overflow_cast-result : goal.overflow_cast-result
-overflow_cast-result c = omega (arith, c.first_faulty-node.ensures.1)
-
-pub returns-then-node-n : goal.returns-then-node-n
+pub returns-in-Some : goal.returns-in-Some
 unfolding check_image
-returns-then-node-n c = rw (← c.fault_10.ensures, c.if-fault_10.false) (found c.loop-number.invariant.0 c.loop-number-test.true c.first_faulty-node.ensures.0 c.node_count-n.ensures.value c.if-node-n.true)
+returns-in-Some c = rw (← c.fault_10.ensures, c.if-fault_10.false) (found c.loop-number.invariant.0 c.loop-number-test.true (rw c.in-Some.is at c.first_faulty.ensures))
 
 pub loop-number-preserved : goal.loop-number-preserved
-loop-number-preserved c = (left_more c.loop-number.invariant.0 c.loop-number-test.true c.first_faulty-node.ensures.0 c.node_count-n.ensures.value c.if-node-n.false, none_more c.loop-number.invariant.1 (rw (← c.node_count-n.ensures.value, ← c.first_faulty-node.ensures.0) c.if-node-n.false), omega arith)
+loop-number-preserved c =
+    let none = not_found _ _ _ c.first_faulty.ensures c.in_default.not-Some in
+    (left_more c.loop-number.invariant.0 c.loop-number-test.true none, none_more c.loop-number.invariant.1 none, omega arith)
 
 pub returns : goal.returns
 unfolding check_image

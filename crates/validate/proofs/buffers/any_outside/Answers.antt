@@ -18,10 +18,10 @@ pub loop-j-init : goal.loop-j-init
 loop-j-init c = rest_none _ _ _
 
 pub returns-then-is_outside : goal.returns-then-is_outside
-returns-then-is_outside c = rw (← c.buffer_count-count.ensures.value) (any_found _ _ _ _ c.loop-j-test.true c.loop-j.invariant (told _ _ _ _ _ _ _ c.buffer_place.ensures.value c.buffer_length.ensures.value c.is_outside.ensures c.if-is_outside.true))
+returns-then-is_outside c = rw (← c.buffer_count-j-end.ensures.value) (any_found _ _ _ _ c.loop-j-test.true c.loop-j.invariant (told _ _ _ _ _ _ _ c.buffer_place.ensures.value c.buffer_length.ensures.value c.is_outside.ensures c.if-is_outside.true))
 
 pub loop-j-preserved : goal.loop-j-preserved
 loop-j-preserved c = any_more _ _ _ _ c.loop-j-test.true c.loop-j.invariant (told _ _ _ _ _ _ _ c.buffer_place.ensures.value c.buffer_length.ensures.value c.is_outside.ensures c.if-is_outside.false)
 
 pub returns : goal.returns
-returns c = rw (← c.buffer_count-count.ensures.value) (any_done _ _ _ _ c.loop-j-test.false c.loop-j.invariant)
+returns c = rw (← c.buffer_count-j-end.ensures.value) (any_done _ _ _ _ c.loop-j-test.false c.loop-j.invariant)

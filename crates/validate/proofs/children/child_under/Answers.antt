@@ -4,7 +4,6 @@ use mathlib.Core.Path.{◌≡◌}
 use mathlib.Core.Bool.{true, false}
 use mathlib.Core.List.{List}
 use Prim.Native.Nat.{ℕ, ◌<◌, ◌≤◌}
-use native.Mathlib.Omega.{arith}
 use borrow.Author.Tests.{lt-ltb, le-ltb}
 use Rattle.image.specs.Record.{length_of}
 use Rattle.image.specs.Faults.{rows_under, child_under}
@@ -20,19 +19,20 @@ module _ (s : List ℕ) (n k r : ℕ) (e : r ≡ length_of s k) where
   unfolding rows_under
   enough le = rw (← e, le-ltb r n le)
 
-pub loop-k-init : goal.loop-k-init
-loop-k-init c = rest_none _ _ _
-
-pub overflow_add-first : goal.overflow_add-first
-overflow_add-first c = omega (arith, c.first_child-first.ensures.small, c.child_count-count.ensures.small)
+pub loop-c-init : goal.loop-c-init
+loop-c-init c = rest_none _ _ _
 
 pub returns-then-length-rows : goal.returns-then-length-rows
 unfolding child_under
-returns-then-length-rows c = rw (← c.first_child-first.ensures.value, ← c.child_count-count.ensures.value) (any_found _ _ _ _ c.loop-k-test.true c.loop-k.invariant (few _ _ _ _ c.length.ensures.value c.if-length-rows.true))
+returns-then-length-rows c =
+    let read = rw (c.child.ensures.image, c.child.ensures.number) at c.length.ensures.value in
+    rw (← c.child_count-c-end.ensures.value) (any_found _ _ _ _ c.loop-c-test.true c.loop-c.invariant (few _ _ _ _ read c.if-length-rows.true))
 
-pub loop-k-preserved : goal.loop-k-preserved
-loop-k-preserved c = any_more _ _ _ _ c.loop-k-test.true c.loop-k.invariant (enough _ _ _ _ c.length.ensures.value c.if-length-rows.false)
+pub loop-c-preserved : goal.loop-c-preserved
+loop-c-preserved c =
+    let read = rw (c.child.ensures.image, c.child.ensures.number) at c.length.ensures.value in
+    any_more _ _ _ _ c.loop-c-test.true c.loop-c.invariant (enough _ _ _ _ read c.if-length-rows.false)
 
 pub returns : goal.returns
 unfolding child_under
-returns c = rw (← c.first_child-first.ensures.value, ← c.child_count-count.ensures.value) (any_done _ _ _ _ c.loop-k-test.false c.loop-k.invariant)
+returns c = rw (← c.child_count-c-end.ensures.value) (any_done _ _ _ _ c.loop-c-test.false c.loop-c.invariant)

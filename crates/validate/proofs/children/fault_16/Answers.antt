@@ -1,5 +1,6 @@
 -- `fault_16` tests the children that its layout has.
 -- Each arm is one test over its layouts, numbered by their places in the declaration.
+use native.Mathlib.Nat.{add-zero}
 use borrow.Enum.Refused.{opened}
 use mathlib.Core.Path.{◌≡◌, refl, ◌∙◌}
 use mathlib.Core.Bool.{false, not}
@@ -30,7 +31,9 @@ module _ (s : List ℕ) (k : ℕ) (l : Layout) where
 
 pub returns-in-FixedList : goal.returns-in-FixedList
 unfolding fault16
-returns-in-FixedList c = rw (← c.code.ensures.value, ← c.layout-layout.ensures) (c.is_under.ensures ∙ rw (c.length.ensures.value, c.first_child-first.ensures.value, c.elements.ensures.value, c.p1.ensures.value) (fixed _ _ c.layout-layout.result c.in-FixedList.in-FixedList-own.keys1))
+returns-in-FixedList c =
+    let rows = rw (c.child.ensures.image, c.child.ensures.number, add-zero) at c.length.ensures.value in
+    rw (← c.code.ensures.value, ← c.layout-layout.ensures) (c.is_under.ensures ∙ rw (rows, c.elements.ensures.value, c.p1.ensures.value) (fixed _ _ c.layout-layout.result c.in-FixedList.in-FixedList-own.keys1))
 
 pub returns-in-Struct : goal.returns-in-Struct
 unfolding fault16
@@ -38,7 +41,10 @@ returns-in-Struct c = rw (← c.code.ensures.value, ← c.layout-layout.ensures)
 
 pub returns-in-Runs : goal.returns-in-Runs
 unfolding fault16
-returns-in-Runs c = rw (← c.code.ensures.value, ← c.layout-layout.ensures, c.length-in-Runs.ensures.value, c.length-in-Runs-2.ensures.value, c.first_child-first.ensures.value) (runs _ _ c.layout-layout.result c.in-Runs.in-Runs-own.keys3)
+returns-in-Runs c =
+    let ends = rw (c.child-in-Runs.ensures.image, c.child-in-Runs.ensures.number, add-zero) at c.length-in-Runs.ensures.value in
+    let values = rw (c.child-in-Runs-2.ensures.image, c.child-in-Runs-2.ensures.number) at c.length-in-Runs-2.ensures.value in
+    rw (← c.code.ensures.value, ← c.layout-layout.ensures, ends, values) (runs _ _ c.layout-layout.result c.in-Runs.in-Runs-own.keys3)
 
 pub returns-in_default : goal.returns-in_default
 unfolding fault16

@@ -1,5 +1,6 @@
 -- `fault_17` tells whether the node has fault 17.
 -- Each arm of the `match` answers for its layout, whose offsets and sizes lie inside by the lower numbers.
+use native.Mathlib.Nat.{add-zero}
 use borrow.Enum.Refused.{opened}
 use mathlib.Core.Path.{refl, sym, ◌∙◌}
 use mathlib.Core.Bool.{false}
@@ -24,16 +25,18 @@ lists_outside-requires c =
 
 pub returns-in-VariableSize : goal.returns-in-VariableSize
 unfolding fault17
-returns-in-VariableSize c = at_place 3 _ (λ l. offset_fault l c.args.image.now c.args.node) (c.offsets_fall.ensures ∙ rw c.buffer_length.ensures.value) c.layout-layout.result c.in-VariableSize.in-VariableSize-own.keys1 _ _ c.layout-layout.ensures c.code.ensures.value
+returns-in-VariableSize c = at_place 3 _ (λ l. offset_fault l c.args.node.image.now c.args.node.number) (c.offsets_fall.ensures ∙ rw c.buffer_length.ensures.value) c.layout-layout.result c.in-VariableSize.in-VariableSize-own.keys1 _ _ c.layout-layout.ensures c.code.ensures.value
 
 pub returns-in-List : goal.returns-in-List
 unfolding fault17
-returns-in-List c = at_place 5 _ (λ l. offset_fault l c.args.image.now c.args.node) (c.offsets_fall-in-List.ensures ∙ rw (c.length.ensures.value, c.first_child.ensures.value)) c.layout-layout.result c.in-List.in-List-own.keys2 _ _ c.layout-layout.ensures c.code.ensures.value
+returns-in-List c =
+    let rows = rw (c.child.ensures.image, c.child.ensures.number, add-zero) at c.length.ensures.value in
+    at_place 5 _ (λ l. offset_fault l c.args.node.image.now c.args.node.number) (c.offsets_fall-in-List.ensures ∙ rw rows) c.layout-layout.result c.in-List.in-List-own.keys2 _ _ c.layout-layout.ensures c.code.ensures.value
 
 pub returns-in-ListView : goal.returns-in-ListView
 unfolding fault17
-returns-in-ListView c = at_place 6 _ (λ l. offset_fault l c.args.image.now c.args.node) c.lists_outside.ensures c.layout-layout.result c.in-ListView.in-ListView-own.keys3 _ _ c.layout-layout.ensures c.code.ensures.value
+returns-in-ListView c = at_place 6 _ (λ l. offset_fault l c.args.node.image.now c.args.node.number) c.lists_outside.ensures c.layout-layout.result c.in-ListView.in-ListView-own.keys3 _ _ c.layout-layout.ensures c.code.ensures.value
 
 pub returns-in_default : goal.returns-in_default
 unfolding fault17
-returns-in_default c = at_code (0 ∷ 1 ∷ 2 ∷ 4 ∷ 7 ∷ 8 ∷ 9 ∷ 10 ∷ 11 ∷ 12 ∷ []) false (λ l. offset_fault l c.args.image.now c.args.node) refl c.layout-layout.result (opened c.in_default.in_default-own.keys4) _ _ c.layout-layout.ensures c.code.ensures.value
+returns-in_default c = at_code (0 ∷ 1 ∷ 2 ∷ 4 ∷ 7 ∷ 8 ∷ 9 ∷ 10 ∷ 11 ∷ 12 ∷ []) false (λ l. offset_fault l c.args.node.image.now c.args.node.number) refl c.layout-layout.result (opened c.in_default.in_default-own.keys4) _ _ c.layout-layout.ensures c.code.ensures.value

@@ -6,15 +6,15 @@ use Rattle.validate.proofs.Rises.{falls_by}
 use native.Mathlib.Omega.{arith}
 use Rattle.validate.proofs.rise.falls_at.Goals as goal
 
-pub nth_inside-low-requires : goal.nth_inside-low-requires
-nth_inside-low-requires c = packed_fewer _ (omega arith) c.requires.0
+pub inside-low-requires : goal.inside-low-requires
+inside-low-requires c = packed_fewer _ (omega arith) c.requires.0
 
 pub overflow_add-k : goal.overflow_add-k
 overflow_add-k c = omega (arith, packed_few c.requires.0)
 
-pub nth_inside-high-requires : goal.nth_inside-high-requires
-nth_inside-high-requires c = packed_fewer _ (omega arith) c.requires.0
+pub inside-high-requires : goal.inside-high-requires
+inside-high-requires c = packed_fewer _ (omega arith) c.requires.0
 
 pub returns : goal.returns
 unfolding falls number_in
-returns c = rw (← c.nth_inside-low.ensures.value, ← c.nth_inside-high.ensures.value) (falls_by _ _ _ c.requires.1)
+returns c = rw (← c.inside-low.ensures.value, ← c.inside-high.ensures.value) (falls_by _ _ _ c.requires.1)

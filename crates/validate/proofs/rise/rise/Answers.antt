@@ -6,7 +6,8 @@ use mathlib.Core.List.{List}
 use Rattle.image.specs.Ranges.{rises}
 use Rattle.image.specs.Bytes.{number_at}
 use Rattle.image.proofs.Numbers.{packed_fewer}
-use Rattle.validate.specs.Numbers.{number_in}
+use borrow.Author.Rules.{rules}
+use Rattle.validate.specs.Numbers.{number_in, falls}
 use Rattle.validate.proofs.Rises.{first_below, last_above, by_falls}
 use Prim.Native.Nat.{ℕ, ◌+◌, ◌*◌}
 use native.Mathlib.Omega.{arith}
@@ -23,20 +24,22 @@ no_number step f top least count e = rw e refl
 pub returns-then-count-eq0 : goal.returns-then-count-eq0
 returns-then-count-eq0 c = no_number _ _ _ _ _ c.if-count-eq0.true
 
-pub nth_inside-requires : goal.nth_inside-requires
-nth_inside-requires c = packed_fewer _ (omega arith) c.requires.0
+pub inside-requires : goal.inside-requires
+inside-requires c = packed_fewer _ (omega arith) c.requires.0
 
-pub returns-then-nth_inside-least : goal.returns-then-nth_inside-least
-returns-then-nth_inside-least c = first_below _ _ _ _ _ _ 0 (omega arith) (numbered _ _ _ _ c.nth_inside.ensures.value) c.if-nth_inside-least.true
+pub returns-then-inside-least : goal.returns-then-inside-least
+returns-then-inside-least c = first_below _ _ _ _ _ _ 0 (omega arith) (numbered _ _ _ _ c.inside.ensures.value) c.if-inside-least.true
 
-pub nth_inside-requires-2 : goal.nth_inside-requires-2
-nth_inside-requires-2 c = packed_fewer _ (omega arith) c.requires.0
+pub inside-requires-2 : goal.inside-requires-2
+inside-requires-2 c = packed_fewer _ (omega arith) c.requires.0
 
-pub returns-then-top-nth_inside : goal.returns-then-top-nth_inside
-returns-then-top-nth_inside c = last_above _ _ _ _ _ _ _ (omega arith) (numbered _ _ _ _ c.nth_inside.ensures.value) c.if-nth_inside-least.false (numbered _ _ _ _ c.nth_inside-2.ensures.value) c.if-top-nth_inside.true
+pub returns-then-top-inside : goal.returns-then-top-inside
+returns-then-top-inside c = last_above _ _ _ _ _ _ _ (omega arith) (numbered _ _ _ _ c.inside.ensures.value) c.if-inside-least.false (numbered _ _ _ _ c.inside-2.ensures.value) c.if-top-inside.true
 
-pub falls_among-requires : goal.falls_among-requires
-falls_among-requires c = (packed_fewer _ (omega arith) c.requires.0, c.requires.1)
+pub any_in_blocks-requires : goal.any_in_blocks-requires
+any_in_blocks-requires c = λ k lt _ _ _ _ _ _ _. (packed_fewer _ (omega arith) c.requires.0, c.requires.1)
 
 pub returns : goal.returns
-returns c = by_falls _ _ _ _ _ _ _ (omega arith) (numbered _ _ _ _ c.nth_inside.ensures.value) c.if-nth_inside-least.false (numbered _ _ _ _ c.nth_inside-2.ensures.value) c.if-top-nth_inside.false c.falls_among.ensures
+returns c =
+    let none = c.any_in_blocks.ensures (falls c.args.step (number_in c.args.numbers.bytes.now c.args.numbers.place c.args.numbers.width)) (λ k b lt p. search rules) in
+    by_falls _ _ _ _ _ _ _ (omega arith) (numbered _ _ _ _ c.inside.ensures.value) c.if-inside-least.false (numbered _ _ _ _ c.inside-2.ensures.value) c.if-top-inside.false none

@@ -3,7 +3,8 @@
 use mathlib.Core.Path.{◌≡◌, refl, sym}
 use mathlib.Core.Bool.{Bool, true, false, ◌||◌}
 use mathlib.Core.List.{List}
-use Prim.Native.Nat.{ℕ, ◌<◌, ◌≤◌}
+use Prim.Native.Nat.{ℕ, ◌<◌, ◌≤◌, min}
+use native.Mathlib.Nat.{add-zero}
 use lib.Dec.{leb}
 use borrow.Author.Tests.{leb-true, leb-false, le-leb, lt-leb}
 use Rattle.image.specs.Record.{p1_of, length_of, first_child}
@@ -50,11 +51,25 @@ module _ (s : List ℕ) (k child rows p : ℕ) (signed : Bool) (node : child ≡
     unfolding key_outside
     low_rows le = record { outside = λ j. rw (← node, ← count, ← key, ← test, negative, ← width, ← bit) (first-lower rows sign _ le) }
 
+    lower : {r : ℕ} → r ≡ min rows sign → KeyLimit s k r
+    lower {r} e = cases (leb rows sign) refl
+      where
+        cases : (b : Bool) → leb rows sign ≡ b → KeyLimit s k r
+        cases true h =
+            let le : rows ≤ sign = leb-true rows sign h in
+            let q : r ≡ rows = omega (arith, e) in
+            rw q (low_rows le)
+        cases false h =
+            let lt : sign < rows = leb-false rows sign h in
+            let q : r ≡ sign = omega (arith, e) in
+            rw q (low-sign (omega arith))
+
 pub returns-then-not-key_signed : goal.returns-then-not-key_signed
-returns-then-not-key_signed c = unsigned _ _ _ _ _ _ c.first_child.ensures.value c.length-rows.ensures.value c.p1.ensures.value c.key_signed.ensures (c.if-not-key_signed.true)
+returns-then-not-key_signed c =
+    let rows = rw c.child.ensures.image at c.length-rows.ensures.value in
+    unsigned _ _ _ _ _ _ (rw add-zero at c.child.ensures.number) rows c.p1.ensures.value c.key_signed.ensures c.if-not-key_signed.true
 
-pub returns-then-sign-rows : goal.returns-then-sign-rows
-returns-then-sign-rows c = low-sign _ _ _ _ _ _ c.first_child.ensures.value c.length-rows.ensures.value c.p1.ensures.value c.key_signed.ensures (c.if-not-key_signed.false) _ _ c.requires.0 c.sign_bit-sign.ensures (omega arith)
-
-pub returns-else-sign-rows : goal.returns-else-sign-rows
-returns-else-sign-rows c = low_rows _ _ _ _ _ _ c.first_child.ensures.value c.length-rows.ensures.value c.p1.ensures.value c.key_signed.ensures (c.if-not-key_signed.false) _ _ c.requires.0 c.sign_bit-sign.ensures c.if-sign-rows.false
+pub returns : goal.returns
+returns c =
+    let rows = rw c.child.ensures.image at c.length-rows.ensures.value in
+    lower _ _ _ _ _ _ (rw add-zero at c.child.ensures.number) rows c.p1.ensures.value c.key_signed.ensures c.if-not-key_signed.false _ _ c.requires.0 c.sign_bit-sign.ensures c.min.ensures

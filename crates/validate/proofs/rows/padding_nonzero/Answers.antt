@@ -21,17 +21,17 @@ other_byte : (s : List ℕ) (p x : ℕ) → x ≡ byte_at s p → (x ≡ 0 → �
 unfolding nonzero
 other_byte s p x e z = rw (← e, ne_eqb x 0 z)
 
-pub returns-then-octet-ne0 : goal.returns-then-octet-ne0
-returns-then-octet-ne0 c = front_padded _ _ c.requires.1 8 (omega arith) c.octet.ensures.value c.if-octet-ne0.true
+pub returns-then-load-ne0 : goal.returns-then-load-ne0
+returns-then-load-ne0 c = front_padded _ _ c.requires.1 8 (omega arith) c.load.ensures.value c.if-load-ne0.true
 
 pub returns-then-len-le4 : goal.returns-then-len-le4
-returns-then-len-le4 c = back_padded _ _ c.requires.1 8 (omega arith) c.octet.ensures.value _ c.requires.2 (omega arith) (omega arith) c.if-octet-ne0.false c.octet-then-len-le4.ensures.value
+returns-then-len-le4 c = back_padded _ _ c.requires.1 8 (omega arith) c.load.ensures.value _ c.requires.2 (omega arith) (omega arith) c.if-load-ne0.false c.load-then-len-le4.ensures.value
 
-pub returns-then-quad-ne0 : goal.returns-then-quad-ne0
-returns-then-quad-ne0 c = front_padded _ _ c.requires.1 4 (omega arith) c.quad.ensures.value c.if-quad-ne0.true
+pub returns-then-load-ne0-2 : goal.returns-then-load-ne0-2
+returns-then-load-ne0-2 c = front_padded _ _ c.requires.1 4 (omega arith) c.load-then-len-le8.ensures.value c.if-load-ne0-2.true
 
 pub returns-then-len-le8 : goal.returns-then-len-le8
-returns-then-len-le8 c = back_padded _ _ c.requires.1 4 (omega arith) c.quad.ensures.value _ c.requires.2 (omega arith) (omega arith) c.if-quad-ne0.false c.quad-then-len-le8.ensures.value
+returns-then-len-le8 c = back_padded _ _ c.requires.1 4 (omega arith) c.load-then-len-le8.ensures.value _ c.requires.2 (omega arith) (omega arith) c.if-load-ne0-2.false c.load-then-len-le8-2.ensures.value
 
 pub loop-k-init : goal.loop-k-init
 loop-k-init c = rest_none _ _ _

@@ -4,11 +4,7 @@
 use Rattle.image.specs.Ranges.{any}
 use Rattle.image.specs.Faults.{nonzero}
 use Rattle.image.proofs.Loops.{Rest}
-use Prim.Native.Nat.{◌-◌}
 use Rattle.validate.proofs.rows.padding_nonzero.Given as goal
 
 abbrev pub invariant-loop-k : goal.invariant-loop-k
-invariant-loop-k l = Rest (any (nonzero l.image)) l.at l.count l.k
-
-abbrev pub decreases-loop-k : goal.decreases-loop-k
-decreases-loop-k l = l.count - l.k
+invariant-loop-k l = Rest (any (nonzero l.image)) l.at l.k-end l.k

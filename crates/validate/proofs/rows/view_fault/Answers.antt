@@ -9,15 +9,15 @@ use Rattle.validate.proofs.rows.view_fault.Goals as goal
 
 pub padding_nonzero-requires : goal.padding_nonzero-requires
 unfolding view_length
-padding_nonzero-requires c = (c.requires.fits, c.quad-len.ensures.value, c.if-len-le-INLINE_LENGTH.true)
+padding_nonzero-requires c = (c.requires.fits, c.load-len.ensures.value, c.if-len-le-INLINE_LENGTH.true)
 
 pub returns-then-len-le-INLINE_LENGTH : goal.returns-then-len-le-INLINE_LENGTH
 unfolding view_fault view_length
-returns-then-len-le-INLINE_LENGTH c = rw (← c.quad-len.ensures.value, le-leb _ _ c.if-len-le-INLINE_LENGTH.true) c.padding_nonzero.ensures
+returns-then-len-le-INLINE_LENGTH c = rw (← c.load-len.ensures.value, le-leb _ _ c.if-len-le-INLINE_LENGTH.true) c.padding_nonzero.ensures
 
 pub returns-then-count-buffer : goal.returns-then-count-buffer
 unfolding view_fault view_length long_view_fault view_buffer
-returns-then-count-buffer c = rw (← c.quad-len.ensures.value, lt-leb _ _ c.if-len-le-INLINE_LENGTH.false, ← c.requires.known.number.value, ← c.quad-buffer.ensures.value, le-leb _ _ c.if-count-buffer.true)
+returns-then-count-buffer c = rw (← c.load-len.ensures.value, lt-leb _ _ c.if-len-le-INLINE_LENGTH.false, ← c.requires.known.number.value, ← c.load-buffer.ensures.value, le-leb _ _ c.if-count-buffer.true)
 
 pub overflow_mul-entry : goal.overflow_mul-entry
 overflow_mul-entry c = omega (arith, c.requires.known.number.small, c.if-count-buffer.false)
@@ -28,19 +28,19 @@ overflow_add-entry c = omega (arith, entry_inside c.requires.known _ c.if-count-
 pub overflow_add-entry-2 : goal.overflow_add-entry-2
 overflow_add-entry-2 c = omega (arith, entry_inside c.requires.known _ c.if-count-buffer.false)
 
-pub quad-requires : goal.quad-requires
-quad-requires c = omega (arith, entry_inside c.requires.known _ c.if-count-buffer.false)
+pub load-requires : goal.load-requires
+load-requires c = omega (arith, entry_inside c.requires.known _ c.if-count-buffer.false)
 
-pub returns-then-quad-at : goal.returns-then-quad-at
+pub returns-then-load-at : goal.returns-then-load-at
 unfolding view_fault view_length long_view_fault view_buffer view_offset view_data
-returns-then-quad-at c = rw (← c.quad-len.ensures.value, lt-leb _ _ c.if-len-le-INLINE_LENGTH.false, ← c.requires.known.number.value, ← c.quad-buffer.ensures.value, lt-leb _ _ c.if-count-buffer.false, length_at c.requires.known _, ← c.quad.ensures.value, ← c.quad-at.ensures.value, lt-ltb _ _ c.if-quad-at.true)
+returns-then-load-at c = rw (← c.load-len.ensures.value, lt-leb _ _ c.if-len-le-INLINE_LENGTH.false, ← c.requires.known.number.value, ← c.load-buffer.ensures.value, lt-leb _ _ c.if-count-buffer.false, length_at c.requires.known _, ← c.load.ensures.value, ← c.load-at.ensures.value, lt-ltb _ _ c.if-load-at.true)
 
-pub quad-requires-3 : goal.quad-requires-3
-quad-requires-3 c = omega (arith, entry_inside c.requires.known _ c.if-count-buffer.false)
+pub load-requires-3 : goal.load-requires-3
+load-requires-3 c = omega (arith, entry_inside c.requires.known _ c.if-count-buffer.false)
 
-pub quad-requires-4 : goal.quad-requires-4
-quad-requires-4 c = data_inside c.requires.known _ _ _ c.if-count-buffer.false c.if-len-le-INLINE_LENGTH.false c.quad-3.ensures.value c.quad.ensures.value c.if-quad-at.false
+pub load-requires-4 : goal.load-requires-4
+load-requires-4 c = (omega arith, data_inside c.requires.known _ _ _ c.if-count-buffer.false c.if-len-le-INLINE_LENGTH.false c.load-3.ensures.value c.load.ensures.value c.if-load-at.false)
 
 pub returns : goal.returns
 unfolding view_fault view_length long_view_fault view_buffer view_offset view_data
-returns c = rw (← c.quad-len.ensures.value, lt-leb _ _ c.if-len-le-INLINE_LENGTH.false, ← c.requires.known.number.value, ← c.quad-buffer.ensures.value, lt-leb _ _ c.if-count-buffer.false, length_at c.requires.known _, ← c.quad.ensures.value, ← c.quad-at.ensures.value, le-ltb _ _ c.if-quad-at.false, place_at c.requires.known _, ← c.quad-3.ensures.value, ← c.quad-2.ensures.value, ← c.quad-4.ensures.value)
+returns c = rw (← c.load-len.ensures.value, lt-leb _ _ c.if-len-le-INLINE_LENGTH.false, ← c.requires.known.number.value, ← c.load-buffer.ensures.value, lt-leb _ _ c.if-count-buffer.false, length_at c.requires.known _, ← c.load.ensures.value, ← c.load-at.ensures.value, le-ltb _ _ c.if-load-at.false, place_at c.requires.known _, ← c.load-3.ensures.value, ← c.load-2.ensures.value, ← c.load-4.ensures.value)

@@ -1,19 +1,14 @@
--- The sum is that of the child counts before the node.
--- The loop keeps the sum of those before node k.
-use mathlib.Core.Path.{◌≡◌}
-use Rattle.validate.proofs.Parents.{children_none, children_more}
+-- `child_start` gives the sum of the child counts before a node, and 1.
+use borrow.Author.Rules.{rules}
 use native.Mathlib.Omega.{arith}
+use Rattle.image.specs.Record.{child_start, child_count}
 use Rattle.validate.proofs.tree.child_start.Goals as goal
 
-pub loop-k-init : goal.loop-k-init
-loop-k-init c = (omega arith, children_none _)
-
-pub overflow_add-sum : goal.overflow_add-sum
-overflow_add-sum c = omega (arith, c.child_count.ensures.small, c.loop-k.invariant.1.small, c.requires)
-
-pub loop-k-preserved : goal.loop-k-preserved
-loop-k-preserved c = (omega arith, children_more _ c.loop-k.invariant.1 c.child_count.ensures)
+pub overflow_add-result : goal.overflow_add-result
+overflow_add-result c = omega (arith, (c.sum_below.ensures (child_count c.args.image.now) (λ k r lt p. search rules)).small)
 
 pub returns : goal.returns
-returns c = let e : c.loop-k.k ≡ c.args.node = omega arith in
-    rw e at c.loop-k.invariant.1
+unfolding child_start
+returns c =
+    let t = c.sum_below.ensures (child_count c.args.image.now) (λ k r lt p. search rules) in
+    record { value = rw t.value; small = omega (arith, t.small) }

@@ -5,20 +5,26 @@ use Rattle.image.specs.Faults.{ids_rise}
 use Rattle.image.proofs.Loops.{rising_none, rising_more, rising_below, rising_above, rising_done}
 use Rattle.validate.proofs.tree.ids_rise.Goals as goal
 
-pub loop-k-init : goal.loop-k-init
-loop-k-init c = rising_none _ _ _ _ _ _
+pub loop-c-init : goal.loop-c-init
+loop-c-init c = rising_none _ _ _ _ _ _
 
 pub returns-then-id-least : goal.returns-then-id-least
 unfolding ids_rise
-returns-then-id-least c = rw (← c.first_child-first.ensures.value, ← c.child_count-count.ensures.value) (rising_below _ _ _ _ _ _ _ _ _ c.loop-k-test.true c.loop-k.invariant (c.wide-id.ensures.value ∙ c.type_id.ensures.value) c.if-id-least.true)
+returns-then-id-least c =
+    let read = rw (c.child.ensures.image, c.child.ensures.number) at c.type_id.ensures.value in
+    rw (← c.child_count-c-end.ensures.value) (rising_below _ _ _ _ _ _ _ _ _ c.loop-c-test.true c.loop-c.invariant (c.from-id.ensures ∙ read) c.if-id-least.true)
 
 pub returns-then-id-gt-LARGEST_ID : goal.returns-then-id-gt-LARGEST_ID
 unfolding ids_rise
-returns-then-id-gt-LARGEST_ID c = rw (← c.first_child-first.ensures.value, ← c.child_count-count.ensures.value) (rising_above _ _ _ _ _ _ _ _ _ c.loop-k-test.true c.loop-k.invariant (c.wide-id.ensures.value ∙ c.type_id.ensures.value) c.if-id-least.false c.if-id-gt-LARGEST_ID.true)
+returns-then-id-gt-LARGEST_ID c =
+    let read = rw (c.child.ensures.image, c.child.ensures.number) at c.type_id.ensures.value in
+    rw (← c.child_count-c-end.ensures.value) (rising_above _ _ _ _ _ _ _ _ _ c.loop-c-test.true c.loop-c.invariant (c.from-id.ensures ∙ read) c.if-id-least.false c.if-id-gt-LARGEST_ID.true)
 
-pub loop-k-preserved : goal.loop-k-preserved
-loop-k-preserved c = rising_more _ _ _ _ _ _ _ _ _ c.loop-k-test.true c.loop-k.invariant (c.wide-id.ensures.value ∙ c.type_id.ensures.value) c.if-id-least.false c.if-id-gt-LARGEST_ID.false
+pub loop-c-preserved : goal.loop-c-preserved
+loop-c-preserved c =
+    let read = rw (c.child.ensures.image, c.child.ensures.number) at c.type_id.ensures.value in
+    rising_more _ _ _ _ _ _ _ _ _ c.loop-c-test.true c.loop-c.invariant (c.from-id.ensures ∙ read) c.if-id-least.false c.if-id-gt-LARGEST_ID.false
 
 pub returns : goal.returns
 unfolding ids_rise
-returns c = rw (← c.first_child-first.ensures.value, ← c.child_count-count.ensures.value) (rising_done _ _ _ _ _ _ _ _ c.loop-k-test.false c.loop-k.invariant)
+returns c = rw (← c.child_count-c-end.ensures.value) (rising_done _ _ _ _ _ _ _ _ c.loop-c-test.false c.loop-c.invariant)

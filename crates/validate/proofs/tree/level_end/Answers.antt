@@ -1,5 +1,4 @@
--- The end of the last level that is not too deep.
--- The loop keeps the end of level d, which is at most the number of nodes.
+-- How many nodes are not too deep: level by level, at most all of them.
 use mathlib.Core.Path.{◌≡◌, refl}
 use mathlib.Core.List.{List}
 use native.Mathlib.Numerals.{add-one}
@@ -20,12 +19,14 @@ at_most a n r e = rw e (min-le_right a n)
 
 pub loop-d-init : goal.loop-d-init
 unfolding level_end
-loop-d-init c = (omega arith, (refl, omega arith))
+loop-d-init c = (refl, omega arith)
+
+pub overflow_cast-end : goal.overflow_cast-end
+overflow_cast-end c = omega (arith, at_most _ _ _ c.min-end.ensures, c.requires.1)
 
 pub loop-d-preserved : goal.loop-d-preserved
-loop-d-preserved c = let h : c.least-end.result ≤ c.args.n = at_most _ _ _ c.least-end.ensures in
-    (omega arith, (level-more _ _ c.loop-d.invariant.1.0 c.requires.0 c.child_start.ensures.value c.least-end.ensures, omega (arith, h, c.requires.1)))
+loop-d-preserved c = (level-more _ _ c.loop-d.invariant.0 c.requires.0 c.child_start.ensures.value c.min-end.ensures, omega (arith, at_most _ _ _ c.min-end.ensures, c.requires.1))
 
 pub returns : goal.returns
 returns c = let e : c.loop-d.d ≡ 16 = omega arith in
-    rw e at c.loop-d.invariant.1.0
+    rw e at c.loop-d.invariant.0

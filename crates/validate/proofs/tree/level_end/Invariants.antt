@@ -3,11 +3,8 @@
 use mathlib.Core.Path.{◌≡◌}
 use Prim.Native.Nat.{◌^◌}
 use Rattle.image.specs.Faults.{level_end}
-use Prim.Native.Nat.{◌-◌, ◌<◌, ◌≤◌}
+use Prim.Native.Nat.{◌<◌}
 use Rattle.validate.proofs.tree.level_end.Given as goal
 
 abbrev pub invariant-loop-d : goal.invariant-loop-d
-invariant-loop-d l = (l.d ≤ 16) × ((l.end ≡ level_end l.image l.d) × (l.end < 2 ^ 16))
-
-abbrev pub decreases-loop-d : goal.decreases-loop-d
-decreases-loop-d l = 16 - l.d
+invariant-loop-d l = (l.end ≡ level_end l.image l.d) × (l.end < 2 ^ 16)

@@ -1,5 +1,6 @@
 -- The test of a Map's child by its code and its count.
 -- The definition's reads are the results, and each branch answers one of its tests.
+use native.Mathlib.Nat.{add-zero}
 use borrow.Author.Tests.{eq-eqb, ne_eqb}
 use Rattle.image.specs.Faults.{map_entries}
 use Rattle.validate.proofs.tree.map_broken.Goals as goal
@@ -9,8 +10,13 @@ returns-then-code-ne-MAP c = rw (← c.code.ensures.value, ne_eqb _ _ c.if-code-
 
 pub returns-then-code-ne-STRUCT : goal.returns-then-code-ne-STRUCT
 unfolding map_entries
-returns-then-code-ne-STRUCT c = rw (← c.code.ensures.value, eq-eqb _ _ c.if-code-ne-MAP.false, ← c.first_child-entries.ensures.value, ← c.code-2.ensures.value, ne_eqb _ _ c.if-code-ne-STRUCT.true)
+returns-then-code-ne-STRUCT c =
+    let code = rw (c.child-entries.ensures.image, c.child-entries.ensures.number, add-zero) at c.code-2.ensures.value in
+    rw (← c.code.ensures.value, eq-eqb _ _ c.if-code-ne-MAP.false, ← code, ne_eqb _ _ c.if-code-ne-STRUCT.true)
 
 pub returns : goal.returns
 unfolding map_entries
-returns c = rw (← c.code.ensures.value, eq-eqb _ _ c.if-code-ne-MAP.false, ← c.first_child-entries.ensures.value, ← c.code-2.ensures.value, eq-eqb _ _ c.if-code-ne-STRUCT.false, ← c.child_count.ensures.value)
+returns c =
+    let code = rw (c.child-entries.ensures.image, c.child-entries.ensures.number, add-zero) at c.code-2.ensures.value in
+    let count = rw (c.child-entries.ensures.image, c.child-entries.ensures.number, add-zero) at c.child_count.ensures.value in
+    rw (← c.code.ensures.value, eq-eqb _ _ c.if-code-ne-MAP.false, ← code, eq-eqb _ _ c.if-code-ne-STRUCT.false, ← count)

@@ -1,6 +1,7 @@
 -- The parent is the first node whose children end past the node.
 -- The loop keeps that the children of each node before `parent` end at the node or before.
 use Rattle.validate.proofs.Parents.{passed_more}
+use mathlib.Core.Path.{◌≡◌}
 use native.Mathlib.Omega.{arith}
 use Rattle.validate.proofs.tree.parent_from.Goals as goal
 
@@ -17,4 +18,6 @@ pub loop-parent-preserved : goal.loop-parent-preserved
 loop-parent-preserved c = passed_more _ c.loop-parent.invariant c.loop-parent-test.true c.if-node-end.false c.child_count.ensures
 
 pub returns : goal.returns
-returns c = record { known = c.loop-parent.invariant; reached = λ h. absurd (omega (arith, c.loop-parent-test.false)) }
+returns c =
+    let all : c.loop-parent.parent ≡ c.args.node.number = omega (arith, c.requires.0.within) in
+    record { known = rw all at c.loop-parent.invariant; reached = λ h. absurd (omega (arith, h)) }

@@ -7,4 +7,4 @@ pub returns-then-node-ne0 : goal.returns-then-node-ne0
 returns-then-node-ne0 c = rw (ne_eqb _ _ c.if-node-ne0.true)
 
 pub returns : goal.returns
-returns c = rw (eq-eqb _ _ c.if-node-ne0.false, ← c.node_count.ensures.value)
+returns c = rw (eq-eqb _ _ c.if-node-ne0.false)
