@@ -1,6 +1,7 @@
 // The image's header, the records of its nodes and the entries of its buffers.
 // A field of a node past the tables reads whatever stands there, and 0 past the image's end.
-ghost use Rattle.std.specs.Prelude.{◌≡◌, ◌+◌, ◌*◌, ◌<◌, ◌≤◌, ◌^◌};
+ghost use Rattle.std.specs.Prelude.{◌≡◌, Bool, ℕ, ◌+◌, ◌*◌, ◌<◌, ◌≤◌, ◌^◌};
+ghost use Rattle.image.specs.Ranges.{every, Tells};
 ghost use Rattle.image.specs.Of.{◌of◌};
 ghost use Rattle.image.specs.Bytes.{byte_at, number_at};
 ghost use Rattle.image.specs.Reads.{Read};
@@ -253,6 +254,19 @@ impl<'a> Node<'a> {
     {
         le::<4>(self.image, self.node_entry(j) + 4)
     }
+}
+
+// Each node of an image passes the test of its number.
+pub fn all_nodes<F: Fn(u32) -> bool>(image: &[u8], test: F) -> bool
+    requires { (k : ℕ) → k < node_count image.now → F.pre test k }
+    ensures { (p : ℕ → Bool) → Tells (F.post test) (node_count image.now) p → result ≡ every p 0 (node_count image.now) }
+{
+    for k in 0..node_count(image) {
+        if !test(k) {
+            return false;
+        }
+    }
+    true
 }
 
 pub fn code(image: &[u8], node: u32) -> u8
