@@ -21,7 +21,7 @@ ghost use Rattle.validate.specs.Walks.{Walks};
 use buffers::{fault_14, fault_15};
 use children::fault_16;
 use codes::fault_11;
-use image::answer::{Checked, Fault};
+use image::answer::Fault;
 use image::record::{HEADER_SIZE, LONGEST_IMAGE, buffer_total, node_count, tables_end};
 use names::fault_13;
 use offsets::fault_17;
@@ -100,27 +100,25 @@ fn first_faulty(image: &[u8], number: u8, start: Walk) -> u32
 }
 
 // The image check.
-pub fn check(image: &[u8]) -> Checked
+pub fn check(image: &[u8]) -> Result<(), Fault>
     ensures { result ≡ check_image image.now }
 {
     if fault_10(image) {
-        return Checked::Refused(Fault {
+        return Err(Fault {
             number: 10,
             node: 0,
         });
     }
     let n = node_count(image);
     let start = Walk::start(image);
-    let mut number: u8 = FIRST_NUMBER;
-    while number < NUMBERS_END {
+    for number in FIRST_NUMBER..NUMBERS_END {
         let node = first_faulty(image, number, start);
         if node < n {
-            return Checked::Refused(Fault {
+            return Err(Fault {
                 number: number,
                 node: node as u16,
             });
         }
-        number += 1;
     }
-    Checked::Accepted
+    Ok(())
 }

@@ -6,7 +6,7 @@ use mathlib.Core.List.{List}
 use Prim.Native.Nat.{suc}
 use lib.Dec.{ltb}
 use borrow.Author.Tests.{lt-ltb, le-ltb}
-use Rattle.image.specs.declared.answer.Checked.TheVariants.{Accepted, Refused}
+use Rattle.std.proofs.Common.{Ok, Err}
 use Rattle.image.specs.Record.{node_count}
 use Rattle.image.specs.Faults.{first_faulty, numbers_end, check_from, check_image}
 use Rattle.laws.proofs.NoneBelow.{none_yet, none_more}
@@ -19,7 +19,7 @@ left-all : (s : List ℕ) → Left s 11
 left-all s = record { within = omega arith; same = refl }
 
 turn : (s : List ℕ) (number : ℕ) → number < numbers_end
-    → check_from (numbers_end - number) number s ≡ cond (ltb (first_faulty number s) (node_count s)) (Refused (record { number = number; node = first_faulty number s })) (check_from (numbers_end - (number + 1)) (number + 1) s)
+    → check_from (numbers_end - number) number s ≡ cond (ltb (first_faulty number s) (node_count s)) (Err (record { number = number; node = first_faulty number s })) (check_from (numbers_end - (number + 1)) (number + 1) s)
 unfolding check_from
 turn s number lt =
     let e : numbers_end - number ≡ suc (numbers_end - (number + 1)) = omega arith in
@@ -28,13 +28,13 @@ turn s number lt =
 
 module _ {s : List ℕ} {number : ℕ} (l : Left s number) where
   module _ (lt : number < numbers_end) {node n : ℕ} (e : node ≡ first_faulty number s) (q : n ≡ node_count s) where
-    found : node < n → Refused (record { number = number; node = node }) ≡ check_from (numbers_end - 11) 11 s
+    found : node < n → Err (record { number = number; node = node }) ≡ check_from (numbers_end - 11) 11 s
     found h = sym (l.same ∙ turn s number lt ∙ rw (← e, ← q, lt-ltb node n h))
 
     left_more : n ≤ node → Left s (number + 1)
     left_more h = record { within = omega arith; same = l.same ∙ turn s number lt ∙ rw (← e, ← q, le-ltb node n h) }
 
-  accepted : numbers_end ≤ number → Accepted ≡ check_from (numbers_end - 11) 11 s
+  accepted : numbers_end ≤ number → Ok tt ≡ check_from (numbers_end - 11) 11 s
   unfolding check_from
   accepted h =
       let e : numbers_end - number ≡ 0 = omega arith in

@@ -14,6 +14,3 @@ pub record Left (s : List ℕ) (number : ℕ) : Type 0 where
 
 abbrev pub invariant-loop-number : goal.invariant-loop-number
 invariant-loop-number l = Left l.image l.number × NoneBelow l.number l.image × (11 ≤ l.number)
-
-abbrev pub decreases-loop-number : goal.decreases-loop-number
-decreases-loop-number l = numbers_end - l.number
