@@ -1,12 +1,14 @@
 // The numbers of an answer, and these as one number of 64 bits.
-ghost use Rattle.std.specs.Prelude.{◌≡◌, ◌<◌, ◌^◌};
-ghost use Rattle.answers.specs.Numbers.{side_number, numbers, fault_numbers, checked_numbers, compared_numbers, difference_numbers, digits_numbers, map_names_numbers, written_numbers, built_numbers, packed};
+ghost use Rattle.std.specs.Prelude.{◌≡◌, ℕ, ◌<◌, ◌^◌};
+ghost use Rattle.image.specs.declared.answer.Side.TheVariants.{Left};
+ghost use Rattle.answers.specs.declared.numbers.Numbers.{Numbers};
+ghost use Rattle.answers.specs.Numbers.{side_number, numbers, fault_numbers, side_fault_numbers, range_refusal_numbers, digits_refusal_numbers, write_refusal_numbers, build_refusal_numbers, unit_value, yes_value, row_value, answer_numbers, packed};
 
-use crate::{Built, Compared, Difference, DigitsCompared, MapNames, Written};
-use image::answer::{Checked, Fault, Side};
+use crate::{BuildRefusal, DigitsRefusal, RangeRefusal, SideFault, WriteRefusal};
+use image::answer::{Fault, Side};
 
 // 0 or the refusal's number; the side, 0 left and 1 right; the node; the value. What an answer does not have is 0.
-#[derive(Clone, Copy)]
+#[derive(Clone, Copy, Debug, PartialEq, Eq)]
 pub struct Numbers {
     pub number: u8,
     pub side: u8,
@@ -21,13 +23,27 @@ const NODE: u64 = 65536;
 
 const VALUE: u64 = 256;
 
+// A refusal has a number, and a side and a node where it returns them.
+pub trait Refusal: Drop {
+    ghost refusal_numbers: { Self → Numbers };
+
+    fn numbers(self) -> Numbers
+        ensures { result ≡ refusal_numbers self };
+}
+
+// What a call answers where it does not refuse has a value.
+pub trait Found: Drop {
+    ghost found_value: { Self → ℕ };
+
+    fn value(self) -> usize
+        requires { found_value self < 2 ^ 56 }
+        ensures { result ≡ found_value self };
+}
+
 pub fn side_number(side: Side) -> u8
     ensures { result ≡ side_number side }
 {
-    match side {
-        Side::Left => 0,
-        Side::Right => 1,
-    }
+    side as u8
 }
 
 fn numbers_of(number: u8, side: u8, node: u16, value: usize) -> Numbers
@@ -41,104 +57,134 @@ fn numbers_of(number: u8, side: u8, node: u16, value: usize) -> Numbers
     }
 }
 
-// A fault of a side.
-fn fault_numbers(fault: Fault, side: Side) -> Numbers
-    ensures { result ≡ fault_numbers side fault }
-{
-    numbers_of(fault.number, side_number(side), fault.node, 0)
-}
+// A call on one image takes it as the left one.
+impl Refusal for Fault {
+    ghost refusal_numbers = { fault_numbers Left };
 
-pub fn checked_numbers(answer: Checked) -> Numbers
-    ensures { result ≡ checked_numbers answer }
-{
-    match answer {
-        Checked::Accepted => numbers_of(0, 0, 0, 0),
-        Checked::Refused(fault) => fault_numbers(fault, Side::Left),
+    fn numbers(self) -> Numbers {
+        numbers_of(self.number, 0, self.node, 0)
     }
 }
 
-pub fn compared_numbers(answer: Compared) -> Numbers
-    ensures { result ≡ compared_numbers answer }
-{
-    match answer {
-        Compared::Yes => numbers_of(0, 0, 0, 1),
-        Compared::No => numbers_of(0, 0, 0, 0),
-        Compared::Refused(side, fault) => fault_numbers(fault, side),
-        Compared::UnequalTypes => numbers_of(20, 0, 0, 0),
-        Compared::OutOfRange(side) => numbers_of(21, side_number(side), 0, 0),
+impl Refusal for SideFault {
+    ghost refusal_numbers = { side_fault_numbers };
+
+    fn numbers(self) -> Numbers {
+        numbers_of(
+            self.fault.number,
+            side_number(self.side),
+            self.fault.node,
+            0,
+        )
     }
 }
 
-pub fn difference_numbers(answer: Difference) -> Numbers
-    requires { (difference_numbers answer).value < 2 ^ 56 }
-    ensures { result ≡ difference_numbers answer }
-{
-    match answer {
-        Difference::Nowhere => numbers_of(0, 0, 0, 0),
-        Difference::At(row) => numbers_of(0, 0, 0, row + 1),
-        Difference::Refused(side, fault) => fault_numbers(fault, side),
-        Difference::UnequalTypes => numbers_of(20, 0, 0, 0),
-        Difference::OutOfRange(side) => numbers_of(21, side_number(side), 0, 0),
+impl Refusal for RangeRefusal {
+    ghost refusal_numbers = { range_refusal_numbers };
+
+    fn numbers(self) -> Numbers {
+        match self {
+            RangeRefusal::Image(fault) => fault.numbers(),
+            RangeRefusal::UnequalTypes => numbers_of(20, 0, 0, 0),
+            RangeRefusal::OutOfRange(side) => numbers_of(21, side_number(side), 0, 0),
+        }
     }
 }
 
-pub fn digits_numbers(answer: DigitsCompared) -> Numbers
-    ensures { result ≡ digits_numbers answer }
-{
-    match answer {
-        DigitsCompared::Yes => numbers_of(0, 0, 0, 1),
-        DigitsCompared::No => numbers_of(0, 0, 0, 0),
-        DigitsCompared::Refused(side, fault) => fault_numbers(fault, side),
-        DigitsCompared::UnequalTypes => numbers_of(20, 0, 0, 0),
-        DigitsCompared::NotDigits => numbers_of(22, 0, 0, 0),
-        DigitsCompared::OutOfRange(side) => numbers_of(21, side_number(side), 0, 0),
+impl Refusal for DigitsRefusal {
+    ghost refusal_numbers = { digits_refusal_numbers };
+
+    fn numbers(self) -> Numbers {
+        match self {
+            DigitsRefusal::Range(refusal) => refusal.numbers(),
+            DigitsRefusal::NotDigits => numbers_of(22, 0, 0, 0),
+        }
     }
 }
 
-pub fn map_names_numbers(answer: MapNames) -> Numbers
-    ensures { result ≡ map_names_numbers answer }
-{
-    match answer {
-        MapNames::Yes => numbers_of(0, 0, 0, 1),
-        MapNames::No => numbers_of(0, 0, 0, 0),
-        MapNames::Refused(fault) => fault_numbers(fault, Side::Left),
+impl Refusal for WriteRefusal {
+    ghost refusal_numbers = { write_refusal_numbers };
+
+    fn numbers(self) -> Numbers {
+        match self {
+            WriteRefusal::Image(fault) => fault.numbers(),
+            WriteRefusal::OutOfRange => numbers_of(21, 0, 0, 0),
+            WriteRefusal::TooLong => numbers_of(43, 0, 0, 0),
+        }
     }
 }
 
-pub fn written_numbers(answer: Written) -> Numbers
-    ensures { result ≡ written_numbers answer }
-{
-    match answer {
-        Written::Bytes(n) => numbers_of(0, 0, 0, n),
-        Written::Refused(fault) => fault_numbers(fault, Side::Left),
-        Written::OutOfRange => numbers_of(21, 0, 0, 0),
-        Written::TooLong => numbers_of(43, 0, 0, 0),
+impl Refusal for BuildRefusal {
+    ghost refusal_numbers = { build_refusal_numbers };
+
+    fn numbers(self) -> Numbers {
+        match self {
+            BuildRefusal::Image(fault) => fault.numbers(),
+            BuildRefusal::Unreadable => numbers_of(23, 0, 0, 0),
+            BuildRefusal::NotRows => numbers_of(24, 0, 0, 0),
+            BuildRefusal::TooLong => numbers_of(43, 0, 0, 0),
+        }
     }
 }
 
-pub fn built_numbers(answer: Built) -> Numbers
-    ensures { result ≡ built_numbers answer }
+// An accepted image.
+impl Found for () {
+    ghost found_value = { unit_value };
+
+    fn value(self) -> usize {
+        0
+    }
+}
+
+// Yes is 1, no is 0.
+impl Found for bool {
+    ghost found_value = { yes_value };
+
+    fn value(self) -> usize {
+        usize::from(self)
+    }
+}
+
+// So many bytes.
+impl Found for usize {
+    ghost found_value = { λ n. n };
+
+    fn value(self) -> usize {
+        self
+    }
+}
+
+// The first unequal row: one more than the row, or 0 where there is none.
+impl Found for Option<usize> {
+    ghost found_value = { row_value };
+
+    fn value(self) -> usize {
+        match self {
+            Some(row) => row + 1,
+            None => 0,
+        }
+    }
+}
+
+// The numbers of an answer.
+fn answer_numbers<T: Found, E: Refusal>(answer: Result<T, E>) -> Numbers
+    requires { (answer_numbers T.found_value E.refusal_numbers answer).value < 2 ^ 56 }
+    ensures { result ≡ answer_numbers T.found_value E.refusal_numbers answer }
 {
     match answer {
-        Built::Bytes(n) => numbers_of(0, 0, 0, n),
-        Built::Refused(fault) => fault_numbers(fault, Side::Left),
-        Built::Unreadable => numbers_of(23, 0, 0, 0),
-        Built::NotRows => numbers_of(24, 0, 0, 0),
-        Built::TooLong => numbers_of(43, 0, 0, 0),
+        Ok(found) => numbers_of(0, 0, 0, found.value()),
+        Err(refusal) => refusal.numbers(),
     }
 }
 
 // An answer as one number: a refusal with its side and node, or the value.
-pub fn pack(n: Numbers) -> u64
-    requires { n.value < 2 ^ 56 }
-    ensures { result ≡ packed n }
+pub fn pack<T: Found, E: Refusal>(answer: Result<T, E>) -> u64
+    requires { (answer_numbers T.found_value E.refusal_numbers answer).value < 2 ^ 56 }
+    ensures { result ≡ packed (answer_numbers T.found_value E.refusal_numbers answer) }
 {
-    let number = n.number as u64;
-    let side = n.side as u64;
-    let node = n.node as u64;
-    let value = n.value as u64;
-    if number == 0 {
-        return VALUE * value;
+    let n = answer_numbers(answer);
+    if n.number == 0 {
+        return VALUE * n.value as u64;
     }
-    number + SIDE * side + NODE * node
+    u64::from(n.number) + SIDE * u64::from(n.side) + NODE * u64::from(n.node)
 }

@@ -9,15 +9,14 @@ use native.Mathlib.Omega.{arith}
 use native.Mathlib.Decide.{ℕ_discrete}
 use lib.Dec.{eqb}
 use borrow.Author.Tests.{eqb-true, eq-eqb}
-use Rattle.image.specs.declared.answer.Checked.{Checked}
-use Rattle.image.specs.declared.answer.Checked.TheVariants.{Accepted, Refused}
-use Rattle.answers.specs.declared.Compared.TheVariants.{Yes}
+use Rattle.image.specs.Faults.{Checked, check_image}
+use Rattle.std.proofs.Common.{Ok, Err}
+use Rattle.image.specs.declared.answer.Side.TheVariants.{Left, Right}
 use Rattle.image.specs.Record.{max_depth, length_of}
-use Rattle.image.specs.Faults.{check_image}
 use Rattle.image.specs.Types.{types_agree}
 use Rattle.image.specs.Row.{Row, Rows, more, range, row_at, table_rows}
 use Rattle.image.specs.Equality.{ranges_equal, tables_equal}
-use Rattle.answers.specs.Answers.{compare_answer, after_checks, yes_or_no}
+use Rattle.answers.specs.Answers.{◌>>=◌, refused_as, side_fault, compare_answer}
 use Rattle.image.proofs.Bools.{and_left, and_right}
 use Rattle.image.proofs.Ranges.{range_same}
 use Rattle.laws.proofs.Sound.{rows_equal_is}
@@ -51,17 +50,17 @@ rows_in_lem s t n e = (rows_equal_is _ _).1 (range_same (row_at max_depth s 0) (
 
 -- a yes is one of both checks and of the test
 record Said (x y : Checked) (b : Bool) : Type 0 where
-  left : x ≡ Accepted
-  right : y ≡ Accepted
+  left : x ≡ Ok tt
+  right : y ≡ Ok tt
   test : b ≡ true
 
-said : (x y : Checked) (b : Bool) → after_checks x y (yes_or_no b) ≡ Yes → Said x y b
-said (Refused f) y b e = record { left = cc; right = cc; test = cc }
-said Accepted (Refused f) b e = record { left = refl; right = cc; test = cc }
-said Accepted Accepted false e = record { left = refl; right = refl; test = cc }
-said Accepted Accepted true e = record { left = refl; right = refl; test = refl }
+said : (x y : Checked) (b : Bool) → (refused_as (side_fault Left) x >>= λ _. refused_as (side_fault Right) y >>= λ _. Ok b) ≡ Ok true → Said x y b
+said (Err f) y b e = record { left = cc; right = cc; test = cc }
+said (Ok _) (Err f) b e = record { left = refl; right = cc; test = cc }
+said (Ok _) (Ok _) false e = record { left = refl; right = refl; test = cc }
+said (Ok _) (Ok _) true e = record { left = refl; right = refl; test = refl }
 
-yes_equal : (s t : List ℕ) → compare_answer s t ≡ Yes → EqualTables s t
+yes_equal : (s t : List ℕ) → compare_answer s t ≡ Ok true → EqualTables s t
 unfolding compare_answer tables_equal
 yes_equal s t e =
     let h = said (check_image s) (check_image t) (tables_equal s t) e in
@@ -74,10 +73,10 @@ yes_equal s t e =
       rows = rows_out s t (length_of s 0) (and_right (types_agree s t && eqb (length_of s 0) (length_of t 0)) _ h.test);
     }
 
-equal_yes : (s t : List ℕ) → EqualTables s t → compare_answer s t ≡ Yes
+equal_yes : (s t : List ℕ) → EqualTables s t → compare_answer s t ≡ Ok true
 unfolding compare_answer tables_equal
 equal_yes s t e = rw (e.left, e.right, e.types, eq-eqb _ _ e.lengths, rows_in_lem s t (length_of s 0) e.rows)
 
 -- demand 2
-pub compare_yes : (s t : List ℕ) → (compare_answer s t ≡ Yes) ↔ EqualTables s t
+pub compare_yes : (s t : List ℕ) → (compare_answer s t ≡ Ok true) ↔ EqualTables s t
 compare_yes s t = (yes_equal s t, equal_yes s t)

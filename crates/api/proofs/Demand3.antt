@@ -10,42 +10,41 @@ use lib.ListN.{length, drop}
 use lib.Seq.{take_at}
 use lib.Dec.{ltb}
 use borrow.Author.Tests.{ltb-false}
-use Rattle.image.specs.declared.answer.Checked.{Checked}
-use Rattle.image.specs.declared.answer.Checked.TheVariants.{Accepted, Refused}
-use Rattle.answers.specs.declared.Compared.TheVariants.{Yes}
-use Rattle.answers.specs.declared.Written.TheVariants.{Bytes, OutOfRange as WriteOutOfRange, TooLong}
-use Rattle.image.specs.Faults.{check_image}
+use Rattle.image.specs.Faults.{Checked, check_image}
+use Rattle.std.proofs.Common.{Result, Ok, Err}
+use Rattle.answers.specs.declared.WriteRefusal.TheVariants.{Image, OutOfRange as WriteOutOfRange, TooLong}
 use Rattle.image.specs.RowBytes.{range_bytes}
 use Rattle.image.specs.Equality.{ranges_equal}
-use Rattle.answers.specs.Answers.{compare_range_answer, paired_of, bounds_of, exceeds, yes_or_no, after_check, write_range, write_answer, write_output}
+use Rattle.answers.specs.declared.RangeRefusal.{RangeRefusal}
+use Rattle.answers.specs.Answers.{compare_range_answer, paired_of, bounds_of, exceeds, ◌>>=◌, refused_as, refuse_if, write_range, write_answer, write_output}
 use Rattle.laws.specs.Demand3.{WrittenRanges, ProperPrefix}
 use Rattle.laws.proofs.Demand3.{same_bytes_lem, no_proper_prefix}
 use Rattle.api.specs.Demand3.{BothWritten, put_out}
 
 -- a write that answers v: the image is accepted, the rows are there, and v is how many bytes they take
 record Wrote (s : List ℕ) (i n v : ℕ) : Type 0 where
-  image : check_image s ≡ Accepted
+  image : check_image s ≡ Ok tt
   inside : exceeds s i n ≡ false
   size : length (range_bytes s i n) ≡ v
 
-wrote : (s : List ℕ) (i n : ℕ) (out : List ℕ) (v : ℕ) → write_answer s i n out ≡ Bytes v → Wrote s i n v
+wrote : (s : List ℕ) (i n : ℕ) (out : List ℕ) (v : ℕ) → write_answer s i n out ≡ Ok v → Wrote s i n v
 unfolding write_answer write_range
 wrote s i n out v e = cases (check_image s) (exceeds s i n) (ltb (length out) (length (range_bytes s i n))) refl refl e
   where
     cases : (c : Checked) (beyond long : Bool) → check_image s ≡ c → exceeds s i n ≡ beyond
-        → after_check c (cond beyond WriteOutOfRange (cond long TooLong (Bytes (length (range_bytes s i n))))) ≡ Bytes v → Wrote s i n v
-    cases (Refused f) beyond long is past e = record { image = cc; inside = cc; size = cc }
-    cases Accepted true long is past e = record { image = is; inside = cc; size = cc }
-    cases Accepted false true is past e = record { image = is; inside = past; size = cc }
-    cases Accepted false false is past e = record { image = is; inside = past; size = cc }
+        → (refused_as Image c >>= λ _. refuse_if beyond WriteOutOfRange >>= λ _. cond long (Err TooLong) (Ok (length (range_bytes s i n)))) ≡ Ok v → Wrote s i n v
+    cases (Err f) beyond long is past e = record { image = cc; inside = cc; size = cc }
+    cases (Ok _) true long is past e = record { image = is; inside = cc; size = cc }
+    cases (Ok _) false true is past e = record { image = is; inside = past; size = cc }
+    cases (Ok _) false false is past e = record { image = is; inside = past; size = cc }
 
 -- what it put out is the range's bytes
-put_out_lem : (s : List ℕ) (i n : ℕ) (out : List ℕ) (v : ℕ) → write_answer s i n out ≡ Bytes v → put_out s i n out v ≡ range_bytes s i n
+put_out_lem : (s : List ℕ) (i n : ℕ) (out : List ℕ) (v : ℕ) → write_answer s i n out ≡ Ok v → put_out s i n out v ≡ range_bytes s i n
 unfolding write_output
 put_out_lem s i n out v e = rw e (take_at (range_bytes s i n) (drop v out) v (wrote s i n out v e).size)
 
 -- the comparison of two ranges that were written says yes exactly when they are equal
-says_yes : (b : Bool) → (b ≡ true) ↔ (yes_or_no b ≡ Yes)
+says_yes : (b : Bool) → (b ≡ true) ↔ ◌≡◌ {A = Result Bool RangeRefusal} (Ok b) (Ok true)
 says_yes true = (λ e. refl, λ e. refl)
 says_yes false = (λ e. cc, λ e. cc)
 
@@ -66,12 +65,12 @@ module _ (s t : List ℕ) (i j n : ℕ) (out over : List ℕ) (v w : ℕ) (both 
     right_rows = ltb-false _ _ right.inside;
   }
 
-  compared : compare_range_answer s t i j n ≡ yes_or_no (ranges_equal s t i j n)
+  compared : compare_range_answer s t i j n ≡ Ok (ranges_equal s t i j n)
   unfolding compare_range_answer paired_of bounds_of
   compared = rw (left.image, right.image, both.types, left.inside, right.inside)
 
   -- the same bytes exactly when the comparison says yes
-  pub written_same : (put_out s i n out v ≡ put_out t j n over w) ↔ (compare_range_answer s t i j n ≡ Yes)
+  pub written_same : (put_out s i n out v ≡ put_out t j n over w) ↔ (compare_range_answer s t i j n ≡ Ok true)
   written_same =
       rw (put_out_lem s i n out v both.left, put_out_lem t j n over w both.right, compared)
       (λ e. (says_yes _).0 ((same_bytes_lem s t i j n ranges).0 e), λ e. (same_bytes_lem s t i j n ranges).1 ((says_yes _).1 e))

@@ -3,7 +3,7 @@
 -- By the variants of what the images and the ranges are. Divided by 1 a number stays, and numbers of bytes are the same where
 -- the bytes are.
 use mathlib.Core.Path.{◌≡◌, refl, sym, ap, ap₂, ◌∙◌}
-use mathlib.Core.Bool.{Bool, true, false, cond, not, beq, ◌&&◌, ◌||◌}
+use mathlib.Core.Bool.{Bool, true, false, not, beq, ◌&&◌, ◌||◌}
 use mathlib.Core.List.{List}
 use mathlib.Core.Logic.{◌↔◌, ⊎_elim}
 use Prim.Native.Nat.{ℕ, ◌+◌, ◌^◌, ◌<◌}
@@ -17,12 +17,11 @@ use Rattle.image.specs.Row.{fixed, masked, fixed_row}
 use Rattle.image.specs.Equality.{row_equal, ranges_equal}
 use Rattle.image.specs.Digits.{midway, divided, whole_number, same_whole, stored_at, kept_at, kept_agree, digits_equal, not_digits}
 use Rattle.image.proofs.Bools.{and_left, and_right, when_true, flags_same, tests_same}
-use Rattle.answers.specs.declared.Paired.{Paired}
-use Rattle.answers.specs.declared.Paired.TheVariants.{Agreed, Refused as PairRefused, UnequalTypes as PairUnequal}
-use Rattle.answers.specs.declared.Bounds.{Bounds}
-use Rattle.answers.specs.declared.Bounds.TheVariants.{Within, OutOfRange as BoundsOut}
-use Rattle.answers.specs.declared.DigitsCompared.TheVariants.{Yes, NotDigits}
-use Rattle.answers.specs.Answers.{paired_of, bounds_of, exceeds, bounded_answer, paired_answer, compare_range_answer, bounded_digits, paired_digits, digits_answer}
+use Rattle.std.proofs.Common.{Result, Ok, Err}
+use Rattle.answers.specs.declared.RangeRefusal.{RangeRefusal}
+use Rattle.answers.specs.declared.DigitsRefusal.{DigitsRefusal}
+use Rattle.answers.specs.declared.DigitsRefusal.TheVariants.{Range, NotDigits}
+use Rattle.answers.specs.Answers.{paired_of, bounds_of, exceeds, ◌>>=◌, refused_as, refuse_if, compare_range_answer, digits_answer}
 use Rattle.laws.proofs.Alike.{same_width}
 use Rattle.laws.proofs.Rounding.{divided_one, same_whole_lem, whole_once}
 use Rattle.values.specs.Pairs.{same_row, masked_row}
@@ -35,6 +34,14 @@ use Rattle.equal.proofs.Types.{table_answer}
 use Rattle.digits.proofs.Agreeing.{by_pairs, decimal_root, few_digits, decimal_layout}
 use Rattle.api.specs.Digits.{AgreeAt, as_digits}
 use Rattle.api.proofs.Answers.{agreed, both_within, within, range_sides}
+
+-- the answer, by what the images are, by 22, by what the ranges are, and by the rows
+abbrev answer_of : Result (Unit {0}) RangeRefusal → Bool → Result (Unit {0}) RangeRefusal → Bool → Result Bool DigitsRefusal
+answer_of x z y b = do
+  _ ← refused_as Range x
+  _ ← refuse_if z NotDigits
+  _ ← refused_as Range y
+  Ok b
 
 -- numbers of w bytes, undivided, are the same where their bytes are
 module _ (s t : List ℕ) (left : AllBytes s) (right : AllBytes t) where
@@ -70,40 +77,34 @@ module _ (s t : List ℕ) (left : AllBytes s) (right : AllBytes t) where
       ∙ table_answer s t i j n
 
   -- "At d = 0, unless 22 refuses": the answer of the range comparison
-  pub no_digit_dropped : (i j n : ℕ) → (digits_answer s t i j n 0 ≡ NotDigits → ⊥) → digits_answer s t i j n 0 ≡ as_digits (compare_range_answer s t i j n)
+  pub no_digit_dropped : (i j n : ℕ) → (digits_answer s t i j n 0 ≡ Err NotDigits → ⊥) → digits_answer s t i j n 0 ≡ as_digits (compare_range_answer s t i j n)
   unfolding digits_answer compare_range_answer
   no_digit_dropped i j n = cases (paired_of s t) (not_digits s 0) (bounds_of s t i j n) refl refl refl
     where
-      last : (b : Bool) → bounded_digits Within b ≡ as_digits (bounded_answer Within b)
-      last true = refl
-      last false = refl
-
-      cases : (x : Paired) (z : Bool) (y : Bounds) → paired_of s t ≡ x → not_digits s 0 ≡ z → bounds_of s t i j n ≡ y
-          → (paired_digits x (cond z NotDigits (bounded_digits y (digits_equal 0 s t i j n))) ≡ NotDigits → ⊥)
-          → paired_digits x (cond z NotDigits (bounded_digits y (digits_equal 0 s t i j n))) ≡ as_digits (paired_answer x (bounded_answer y (ranges_equal s t i j n)))
-      cases (PairRefused side f) z y ex ez ey not22 = refl
-      cases PairUnequal z y ex ez ey not22 = refl
-      cases Agreed true y ex ez ey not22 = absurd (not22 refl)
-      cases Agreed false (BoundsOut side) ex ez ey not22 = refl
-      cases Agreed false Within ex ez ey not22 = rw (none_dropped (range_sides s t i j n ex ey) ez) (last (ranges_equal s t i j n))
+      cases : (x : Result (Unit {0}) RangeRefusal) (z : Bool) (y : Result (Unit {0}) RangeRefusal) → paired_of s t ≡ x → not_digits s 0 ≡ z → bounds_of s t i j n ≡ y
+          → (answer_of x z y (digits_equal 0 s t i j n) ≡ Err NotDigits → ⊥)
+          → answer_of x z y (digits_equal 0 s t i j n) ≡ as_digits (x >>= λ _. y >>= λ _. Ok (ranges_equal s t i j n))
+      cases (Err e) z y ex ez ey not22 = refl
+      cases (Ok _) true y ex ez ey not22 = absurd (not22 refl)
+      cases (Ok _) false (Err e) ex ez ey not22 = refl
+      cases (Ok _) false (Ok _) ex ez ey not22 = rw (none_dropped (range_sides s t i j n ex ey) ez)
 
 -- a yes is one of the images, of 22 and 21, and of the rows
-record Said (x : Paired) (z : Bool) (y : Bounds) (b : Bool) : Type 0 where
-  pair : x ≡ Agreed
+record Said (x : Result (Unit {0}) RangeRefusal) (z : Bool) (y : Result (Unit {0}) RangeRefusal) (b : Bool) : Type 0 where
+  pair : x ≡ Ok tt
   fit : z ≡ false
-  inside : y ≡ Within
+  inside : y ≡ Ok tt
   rows : b ≡ true
 
-said : (x : Paired) (z : Bool) (y : Bounds) (b : Bool) → paired_digits x (cond z NotDigits (bounded_digits y b)) ≡ Yes → Said x z y b
-said (PairRefused side f) z y b e = record { pair = cc; fit = cc; inside = cc; rows = cc }
-said PairUnequal z y b e = record { pair = cc; fit = cc; inside = cc; rows = cc }
-said Agreed true y b e = record { pair = refl; fit = cc; inside = cc; rows = cc }
-said Agreed false (BoundsOut side) b e = record { pair = refl; fit = refl; inside = cc; rows = cc }
-said Agreed false Within true e = record { pair = refl; fit = refl; inside = refl; rows = refl }
-said Agreed false Within false e = record { pair = refl; fit = refl; inside = refl; rows = cc }
+said : (x : Result (Unit {0}) RangeRefusal) (z : Bool) (y : Result (Unit {0}) RangeRefusal) (b : Bool) → answer_of x z y b ≡ Ok true → Said x z y b
+said (Err e) z y b h = record { pair = cc; fit = cc; inside = cc; rows = cc }
+said (Ok _) true y b h = record { pair = refl; fit = cc; inside = cc; rows = cc }
+said (Ok _) false (Err e) b h = record { pair = refl; fit = refl; inside = cc; rows = cc }
+said (Ok _) false (Ok _) true h = record { pair = refl; fit = refl; inside = refl; rows = refl }
+said (Ok _) false (Ok _) false h = record { pair = refl; fit = refl; inside = refl; rows = cc }
 
 module _ (s t : List ℕ) (i j n d : ℕ) where
-  yes_says : digits_answer s t i j n d ≡ Yes → AgreeAt s t i j n d
+  yes_says : digits_answer s t i j n d ≡ Ok true → AgreeAt s t i j n d
   unfolding digits_answer kept_agree
   yes_says e =
       let h = said (paired_of s t) (not_digits s d) (bounds_of s t i j n) (digits_equal d s t i j n) e in
@@ -122,7 +123,7 @@ module _ (s t : List ℕ) (i j n d : ℕ) where
         kept = λ k lt is. (same_whole_lem _ _).0 (when_true (valid s 0 (i + k)) _ (and_right (beq (valid s 0 (i + k)) (valid t 0 (j + k))) _ (row k lt)) is);
       }
 
-  says_yes : AgreeAt s t i j n d → digits_answer s t i j n d ≡ Yes
+  says_yes : AgreeAt s t i j n d → digits_answer s t i j n d ≡ Ok true
   unfolding digits_answer paired_of bounds_of exceeds not_digits kept_agree
   says_yes r = rw (r.left, r.right, r.types, fit, le-ltb _ _ r.left_within, le-ltb _ _ r.right_within, rows)
     where
@@ -139,5 +140,5 @@ module _ (s t : List ℕ) (i j n d : ℕ) where
       rows = sym (by_pairs d s t i j n refl) ∙ all_by (kept_agree (10 ^ d) s t) i j n (λ k lt. row k (valid s 0 (i + k)) (valid t 0 (j + k)) refl refl (r.nulls k lt) (r.kept k lt))
 
   -- yes exactly when rows are null together and the others' kept values are the same
-  pub yes_agree : (digits_answer s t i j n d ≡ Yes) ↔ AgreeAt s t i j n d
+  pub yes_agree : (digits_answer s t i j n d ≡ Ok true) ↔ AgreeAt s t i j n d
   yes_agree = (yes_says, says_yes)

@@ -7,16 +7,14 @@ use mathlib.Core.Logic.{◌↔◌}
 use Prim.Native.Nat.{ℕ}
 use borrow.Author.Tests.{eqb-true, eq-eqb}
 use Rattle.image.specs.declared.answer.Fault.{Fault}
-use Rattle.image.specs.declared.answer.Checked.{Checked}
-use Rattle.image.specs.declared.answer.Checked.TheVariants.{Accepted, Refused}
+use Rattle.image.specs.Faults.{Checked, check_image}
+use Rattle.std.proofs.Common.{Ok, Err}
 use Rattle.image.specs.Record.{node_count, code_of, first_child}
 use Rattle.image.specs.TypeCode.{is_map}
-use Rattle.image.specs.Faults.{check_image}
 use Rattle.image.specs.MapNames.{named, map_named, maps_named}
 use Rattle.image.proofs.Bools.{and_left, and_right, and_true, when_true, true_when}
 use Rattle.image.proofs.Ranges.{every_below, every_of_below}
-use Rattle.answers.specs.declared.MapNames.TheVariants.{Yes, Refused as NamesRefused}
-use Rattle.answers.specs.Answers.{names_after, map_names_answer}
+use Rattle.answers.specs.Answers.{◌>>=◌, map_names_answer}
 use Rattle.laws.proofs.Sound.{same_bytes_is}
 use Rattle.api.specs.MapNames.{MapNamed, AllNamed}
 
@@ -42,17 +40,17 @@ module _ (s : List ℕ) (k : ℕ) where
       and_true _ _ (and_true _ _ ((same_bytes_is _ _).1 m.entries) ((same_bytes_is _ _).1 m.key)) ((same_bytes_is _ _).1 m.value))
 
 -- the answers of the query
-said_yes : (x : Checked) (b : Bool) → names_after x b ≡ Yes → (x ≡ Accepted) × (b ≡ true)
-said_yes (Refused f) b e = (cc, cc)
-said_yes Accepted true e = (refl, refl)
-said_yes Accepted false e = (refl, cc)
+said_yes : (x : Checked) (b : Bool) → (x >>= λ _. Ok b) ≡ Ok true → (x ≡ Ok tt) × (b ≡ true)
+said_yes (Err f) b e = (cc, cc)
+said_yes (Ok _) true e = (refl, refl)
+said_yes (Ok _) false e = (refl, cc)
 
-said_refused : (x : Checked) (b : Bool) (f : Fault) → names_after x b ≡ NamesRefused f → x ≡ Refused f
-said_refused (Refused g) b f e = cc
-said_refused Accepted true f e = cc
-said_refused Accepted false f e = cc
+said_refused : (x : Checked) (b : Bool) (f : Fault) → (x >>= λ _. Ok b) ≡ Err f → x ≡ Err f
+said_refused (Err g) b f e = cc
+said_refused (Ok _) true f e = cc
+said_refused (Ok _) false f e = cc
 
-pub names_yes : (s : List ℕ) → (map_names_answer s ≡ Yes) ↔ AllNamed s
+pub names_yes : (s : List ℕ) → (map_names_answer s ≡ Ok true) ↔ AllNamed s
 unfolding map_names_answer maps_named
 names_yes s = (
   λ e.
@@ -64,6 +62,6 @@ names_yes s = (
 )
 
 -- "it refuses only what the check refuses"
-pub names_refused : (s : List ℕ) (f : Fault) → (map_names_answer s ≡ NamesRefused f) ↔ (check_image s ≡ Refused f)
+pub names_refused : (s : List ℕ) (f : Fault) → (map_names_answer s ≡ Err f) ↔ (check_image s ≡ Err f)
 unfolding map_names_answer
 names_refused s f = (said_refused (check_image s) (maps_named s) f, λ e. rw e)

@@ -9,9 +9,9 @@ use lib.ListN.{length, drop}
 use lib.Dec.{ltb}
 use borrow.Author.Tests.{lt-ltb, le-ltb}
 use Rattle.image.specs.Record.{max_depth}
-use Rattle.image.specs.declared.answer.Checked.TheVariants.{Accepted, Refused}
+use Rattle.std.proofs.Common.{Ok, Err}
 use Rattle.image.specs.declared.answer.Fault.{Fault}
-use Rattle.answers.specs.declared.Written.TheVariants.{Bytes, Refused as WriteRefused, OutOfRange, TooLong}
+use Rattle.answers.specs.declared.WriteRefusal.TheVariants.{Image, OutOfRange, TooLong}
 use Rattle.image.specs.Faults.{check_image}
 use Rattle.image.specs.Row.{row_at, range, table_rows}
 use Rattle.image.specs.RowBytes.{rows_bytes, range_bytes}
@@ -24,7 +24,7 @@ use Rattle.laws.proofs.Accepted.{accepted}
 use Rattle.api.proofs.Answers.{within}
 
 -- the rows that are measured and written
-pub table_side : (s : List ℕ) (i n : ℕ) → check_image s ≡ Accepted → exceeds s i n ≡ false → Side s 0 i n
+pub table_side : (s : List ℕ) (i n : ℕ) → check_image s ≡ Ok tt → exceeds s i n ≡ false → Side s 0 i n
 table_side s i n is inside =
     let image = accepted s is in
     record { image = image; node = omega (arith, image.tables.some_nodes); rows = within s i n inside }
@@ -34,16 +34,16 @@ module _ (s : List ℕ) (i n : ℕ) (out : List ℕ) where
   bytes = rows_bytes (range (row_at max_depth s 0) i n)
 
   -- a refusal leaves the buffer as it was
-  pub write_refused : {f : Fault} → check_image s ≡ Refused f → (WriteRefused f ≡ write_answer s i n out) × (out ≡ write_output s i n out)
+  pub write_refused : {f : Fault} → check_image s ≡ Err f → (Err (Image f) ≡ write_answer s i n out) × (out ≡ write_output s i n out)
   unfolding write_answer write_output
   write_refused is = (rw is, rw is)
 
-  module _ (image : check_image s ≡ Accepted) where
-    pub write_out_of_range : exceeds s i n ≡ true → (OutOfRange ≡ write_answer s i n out) × (out ≡ write_output s i n out)
+  module _ (image : check_image s ≡ Ok tt) where
+    pub write_out_of_range : exceeds s i n ≡ true → (Err OutOfRange ≡ write_answer s i n out) × (out ≡ write_output s i n out)
     unfolding write_answer write_output
     write_out_of_range beyond = (rw (image, beyond), rw (image, beyond))
 
-    pub write_too_long : exceeds s i n ≡ false → room_after (length out) (length bytes) ≡ Short → (TooLong ≡ write_answer s i n out) × (out ≡ write_output s i n out)
+    pub write_too_long : exceeds s i n ≡ false → room_after (length out) (length bytes) ≡ Short → (Err TooLong ≡ write_answer s i n out) × (out ≡ write_output s i n out)
     unfolding write_answer write_output write_range range_bytes table_rows
     write_too_long inside e =
         let long : ltb (length out) (length bytes) ≡ true = lt-ltb _ _ (short_told _ _ (sym e)) in
@@ -54,10 +54,10 @@ module _ (s : List ℕ) (i n : ℕ) (out : List ℕ) where
         record { within = omega (arith, left_told _ _ _ (sym e)) }
 
     pub write_bytes : {rest k : ℕ} {after : List ℕ} → exceeds s i n ≡ false → room_after (length out) (length bytes) ≡ Left rest → k ≡ 0 + length bytes → after ≡ over out 0 bytes
-        → (Bytes k ≡ write_answer s i n out) × (after ≡ write_output s i n out)
+        → (Ok k ≡ write_answer s i n out) × (after ≡ write_output s i n out)
     unfolding write_answer write_output write_range range_bytes table_rows over
     write_bytes {rest} inside e ek eo =
         let room : length out ≡ rest + length bytes = left_told (length out) (length bytes) rest (sym e) in
         let fits : ltb (length out) (length bytes) ≡ false = le-ltb (length out) (length bytes) (omega arith) in
         let z : 0 + length bytes ≡ length bytes = omega arith in
-        (rw (image, inside, fits) (ap Bytes (ek ∙ z)), rw (image, inside, fits) (eo ∙ ap (λ (m : ℕ). bytes ++ drop m out) z))
+        (rw (image, inside, fits) (ap Ok (ek ∙ z)), rw (image, inside, fits) (eo ∙ ap (λ (m : ℕ). bytes ++ drop m out) z))

@@ -1,6 +1,5 @@
 -- What it is for ranges of two tables to part at a row, and for two answers to be the same refusal.
-use Rattle.std.specs.Prelude.{◌≡◌, true, List, ℕ, ◌+◌, ◌≤◌, ◌<◌}
-use Rattle.image.specs.declared.answer.Checked.TheVariants.{Accepted}
+use Rattle.std.specs.Prelude.{◌≡◌, true, List, ℕ, ◌+◌, ◌≤◌, ◌<◌, Ok}
 use Rattle.image.specs.Record.{max_depth, length_of}
 use Rattle.image.specs.Faults.{check_image}
 use Rattle.image.specs.Types.{types_agree}
@@ -10,8 +9,8 @@ use Rattle.answers.specs.declared.numbers.Numbers.{Numbers}
 -- n rows of s from i on and of t from j on lie within two accepted tables of equal type; "the row given is unequal, and every
 -- row before it is equal"
 pub record PartAt (s t : List ℕ) (i j n row : ℕ) : Type 0 where
-  pub left : check_image s ≡ Accepted
-  pub right : check_image t ≡ Accepted
+  pub left : check_image s ≡ Ok tt
+  pub right : check_image t ≡ Ok tt
   pub types : types_agree s t ≡ true
   pub left_within : i + n ≤ length_of s 0
   pub right_within : j + n ≤ length_of t 0

@@ -1,6 +1,5 @@
 -- What it is for the Maps of an accepted image to have their names.
-use Rattle.std.specs.Prelude.{◌≡◌, List, ℕ, ◌+◌, ◌<◌}
-use Rattle.image.specs.declared.answer.Checked.TheVariants.{Accepted}
+use Rattle.std.specs.Prelude.{◌≡◌, List, ℕ, ◌+◌, ◌<◌, Ok}
 use Rattle.image.specs.Bytes.{ascii}
 use Rattle.image.specs.Record.{node_count, code_of, first_child}
 use Rattle.image.specs.Faults.{check_image}
@@ -14,5 +13,5 @@ pub record MapNamed (s : List ℕ) (k : ℕ) : Type 0 where
 
 -- the image is accepted, and each of its nodes of code 42 is such a Map
 pub record AllNamed (s : List ℕ) : Type 0 where
-  pub accepted : check_image s ≡ Accepted
+  pub accepted : check_image s ≡ Ok tt
   pub maps : (k : ℕ) → k < node_count s → code_of s k ≡ 42 → MapNamed s k

@@ -21,7 +21,8 @@ use Rattle.image.specs.Row.{Rows}
 use Rattle.image.specs.RowBytes.{count}
 use Rattle.image.specs.Parse.{readable_code, readable}
 use Rattle.image.specs.Built.{parent_of, column, part_at, part_length, part_start, name_start, record_of, buffer_entry, entries_of, built_image}
-use Rattle.answers.specs.declared.Built.TheVariants.{Bytes as BuiltBytes, TooLong as BuildTooLong}
+use Rattle.answers.specs.declared.BuildRefusal.TheVariants.{TooLong as BuildTooLong}
+use Rattle.std.proofs.Common.{Ok, Err}
 use Rattle.answers.specs.Answers.{too_many_rows, image_answer}
 use Rattle.laws.specs.Accepted.{AcceptedImage}
 use Rattle.built.specs.Typed.{all_rows, is_row}
@@ -83,7 +84,7 @@ pieces_kept p q i zero same = refl
 pieces_kept p q i (suc n) same = rw (same i (omega arith) (omega arith), pieces_kept p q (suc i) n (λ k low high. same k (omega arith) (omega arith)))
 
 -- a refusal, or so many bytes
-either : (long : Bool) (size : ℕ) → cond long BuildTooLong (BuiltBytes size) ≡ built_of (cond long TooLong (Bytes size))
+either : (long : Bool) (size : ℕ) → cond long (Err BuildTooLong) (Ok size) ≡ built_of (cond long TooLong (Bytes size))
 either true size = refl
 either false size = refl
 

@@ -8,7 +8,7 @@ use native.Mathlib.Nat.{zero-add}
 use native.Mathlib.Omega.{arith}
 use lib.ListN.{length, take, drop, replicate, length-append, length-replicate, get_or-replicate, get_or-append}
 use lib.Seq.{length-take-le, take_at, drop_at, drop-drop, get_or-append-add}
-use Rattle.image.specs.declared.answer.Checked.TheVariants.{Accepted}
+use Rattle.std.proofs.Common.{Ok, Err}
 use Rattle.image.specs.Ranges.{pieces, sum_to}
 use Rattle.image.specs.Bytes.{AllBytes, byte_at}
 use Rattle.image.specs.Record.{node_count}
@@ -17,8 +17,8 @@ use Rattle.image.specs.Row.{Rows}
 use Rattle.image.specs.Parse.{Parsed, failed, parsed, readable, rows_in}
 use Rattle.image.specs.Built.{part_at, part_length, part_start}
 use Rattle.image.proofs.Ranges.{sum_grows}
-use Rattle.answers.specs.declared.Built.TheVariants.{Bytes as BuiltBytes, NotRows, TooLong as BuildTooLong}
-use Rattle.answers.specs.Answers.{rows_answer, build_answer, image_of, built_over}
+use Rattle.answers.specs.declared.BuildRefusal.TheVariants.{NotRows, TooLong as BuildTooLong}
+use Rattle.answers.specs.Answers.{rows_answer, build_answer, image_of, written_over}
 use Rattle.laws.proofs.Accepted.{accepted}
 use Rattle.built.specs.Walk.{the_rows}
 use Rattle.built.proofs.Parsed.{rows_in_back}
@@ -147,12 +147,12 @@ module _ {s : List ℕ} {n : ℕ} {b lengths places : List ℕ} {size : ℕ} {ou
 -- The call.
 
 -- a string that is no rows
-refused : (s : List ℕ) (p : Parsed Rows) (out : List ℕ) → are_rows p ≡ false → (NotRows ≡ rows_answer s p out) × (out ≡ built_over (rows_answer s p out) (image_of s p) out)
+refused : (s : List ℕ) (p : Parsed Rows) (out : List ℕ) → are_rows p ≡ false → (Err NotRows ≡ rows_answer s p out) × (out ≡ written_over (rows_answer s p out) (image_of s p) out)
 refused s failed out e = (refl, refl)
 refused s (parsed rs []) out e = absurd (false≢true (sym e))
 refused s (parsed rs (x ∷ rest)) out e = (refl, refl)
 
-pub build_not_rows : (s : List ℕ) (n : ℕ) (b out : List ℕ) → are_rows (rows_in s n b) ≡ false → (NotRows ≡ rows_answer s (rows_in s n b) out) × (out ≡ built_over (rows_answer s (rows_in s n b) out) (image_of s (rows_in s n b)) out)
+pub build_not_rows : (s : List ℕ) (n : ℕ) (b out : List ℕ) → are_rows (rows_in s n b) ≡ false → (Err NotRows ≡ rows_answer s (rows_in s n b) out) × (out ≡ written_over (rows_answer s (rows_in s n b) out) (image_of s (rows_in s n b)) out)
 build_not_rows s n b out e = refused s (rows_in s n b) out e
 
 -- and one that is
@@ -161,7 +161,7 @@ all_read failed e = absurd (false≢true e)
 all_read (parsed rs []) e = refl
 all_read (parsed rs (x ∷ rest)) e = absurd (false≢true e)
 
-module _ (s : List ℕ) (n : ℕ) (b out : List ℕ) {spans lengths : List ℕ} (given : (check_image s ≡ Accepted) × (readable s ≡ true)) (small : AllBytes b) (are : are_rows (rows_in s n b) ≡ true) (spanned : Spanned s (rows_in s n b) spans) (l : Lengths s n spans lengths) where
+module _ (s : List ℕ) (n : ℕ) (b out : List ℕ) {spans lengths : List ℕ} (given : (check_image s ≡ Ok tt) × (readable s ≡ true)) (small : AllBytes b) (are : are_rows (rows_in s n b) ≡ true) (spanned : Spanned s (rows_in s n b) spans) (l : Lengths s n spans lengths) where
   read : rows_in s n b ≡ parsed (the_rows (rows_in s n b)) []
   read = all_read (rows_in s n b) are
 
@@ -178,13 +178,13 @@ module _ (s : List ℕ) (n : ℕ) (b out : List ℕ) {spans lengths : List ℕ} 
   planned : rows_answer s (rows_in s n b) out ≡ built_of (plan_answer s lengths spans (length out))
   planned = ap (λ (p : Parsed Rows). rows_answer s p out) read ∙ answer_is scanned l out
 
-  pub build_too_long : TooLong ≡ plan_answer s lengths spans (length out) → (BuildTooLong ≡ rows_answer s (rows_in s n b) out) × (out ≡ built_over (rows_answer s (rows_in s n b) out) (image_of s (rows_in s n b)) out)
+  pub build_too_long : TooLong ≡ plan_answer s lengths spans (length out) → (Err BuildTooLong ≡ rows_answer s (rows_in s n b) out) × (out ≡ written_over (rows_answer s (rows_in s n b) out) (image_of s (rows_in s n b)) out)
   build_too_long e =
-      let is : rows_answer s (rows_in s n b) out ≡ BuildTooLong = planned ∙ sym (ap built_of e) in
+      let is : rows_answer s (rows_in s n b) out ≡ Err BuildTooLong = planned ∙ sym (ap built_of e) in
       (sym is, rw is)
 
   module _ {size : ℕ} (e : Bytes size ≡ plan_answer s lengths spans (length out)) where
-    bytes : rows_answer s (rows_in s n b) out ≡ BuiltBytes size
+    bytes : rows_answer s (rows_in s n b) out ≡ Ok size
     bytes = planned ∙ sym (ap built_of e)
 
     fit : Told s n b out size
@@ -208,7 +208,7 @@ module _ (s : List ℕ) (n : ℕ) (b out : List ℕ) {spans lengths : List ℕ} 
           fits = fit.room;
         }
 
-    pub build_bytes : {after : List ℕ} → after ≡ over out 0 (image_of s (rows_in s n b)) → (BuiltBytes size ≡ rows_answer s (rows_in s n b) out) × (after ≡ built_over (rows_answer s (rows_in s n b) out) (image_of s (rows_in s n b)) out)
+    pub build_bytes : {after : List ℕ} → after ≡ over out 0 (image_of s (rows_in s n b)) → (Ok size ≡ rows_answer s (rows_in s n b) out) × (after ≡ written_over (rows_answer s (rows_in s n b) out) (image_of s (rows_in s n b)) out)
     unfolding over
     build_bytes put =
         let long : 0 + length (image_of s (rows_in s n b)) ≡ size = omega (arith, fit.size, ap (λ (p : Parsed Rows). length (image_of s p)) fit.read) in

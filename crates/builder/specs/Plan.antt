@@ -1,6 +1,6 @@
 -- How long the nodes of a built image are, how many bytes each part takes, and where each part stands: from the row count of
 -- the root, and from how far the offsets of each node go on in all (its span).
-use Rattle.std.specs.Prelude.{◌≡◌, Bool, cond, ◌||◌, List, ℕ, ◌+◌, ◌*◌, ◌/◌, ◌%◌, ◌<◌, ◌≤◌, length, get_or, eqb, ltb}
+use Rattle.std.specs.Prelude.{◌≡◌, Bool, cond, ◌||◌, List, ℕ, ◌+◌, ◌*◌, ◌/◌, ◌%◌, ◌<◌, ◌≤◌, length, get_or, eqb, ltb, Result, Ok, Err}
 use Rattle.image.specs.declared.type_code.Layout.{Layout}
 use Rattle.image.specs.declared.type_code.Layout.TheVariants.{Null, Boolean, FixedWidth, VariableSize, View, List as Lists, ListView, FixedList, Struct, DenseUnion, SparseUnion, Dictionary, Runs}
 use Rattle.image.specs.Ranges.{any, sum_to}
@@ -8,8 +8,8 @@ use Rattle.image.specs.Record.{longest_image, most_elements, node_count, code_of
 use Rattle.image.specs.TypeCode.{layout_of, takes_bitmap}
 use Rattle.image.specs.Element.{element_width}
 use Rattle.image.specs.Built.{name_start}
-use Rattle.answers.specs.declared.Built.{Built}
-use Rattle.answers.specs.declared.Built.TheVariants.{Bytes as BuiltBytes, TooLong as BuildTooLong}
+use Rattle.answers.specs.declared.BuildRefusal.{BuildRefusal}
+use Rattle.answers.specs.declared.BuildRefusal.TheVariants.{TooLong as BuildTooLong}
 use Rattle.builder.specs.declared.plan.Planned.{Planned}
 use Rattle.builder.specs.declared.plan.Planned.TheVariants.{Bytes, TooLong}
 
@@ -110,6 +110,6 @@ pub record PlanOf (s lengths spans : List ℕ) (room : ℕ) (places : List ℕ) 
   pub table : (n : ℕ) → r ≡ Bytes n → Places s lengths spans places
 
 -- the answer of the call that a plan stands for
-abbrev pub built_of : Planned → Built
-built_of (Bytes n) = BuiltBytes n
-built_of TooLong = BuildTooLong
+abbrev pub built_of : Planned → Result ℕ BuildRefusal
+built_of (Bytes n) = Ok n
+built_of TooLong = Err BuildTooLong

@@ -1,6 +1,5 @@
 -- What is known of a table before its image is put.
-use Rattle.std.specs.Prelude.{◌≡◌, true, List, [], ◌++◌, ℕ, ◌*◌, ◌≤◌, ◌<◌, length, get_or}
-use Rattle.image.specs.declared.answer.Checked.TheVariants.{Accepted}
+use Rattle.std.specs.Prelude.{◌≡◌, true, List, [], ◌++◌, ℕ, ◌*◌, ◌≤◌, ◌<◌, length, get_or, Ok}
 use Rattle.image.specs.Ranges.{pieces}
 use Rattle.image.specs.Record.{longest_image, most_elements, node_count}
 use Rattle.image.specs.Faults.{check_image}
@@ -12,7 +11,7 @@ use Rattle.builder.specs.Front.{front_from}
 
 -- A string is n rows; the lengths of nodes and the places of parts are those of their image, which has so many bytes and fits.
 pub record Laid (s : List ℕ) (n : ℕ) (b lengths places : List ℕ) (size : ℕ) (out : List ℕ) : Type 0 where
-  pub accepted : check_image s ≡ Accepted
+  pub accepted : check_image s ≡ Ok tt
   pub coded : readable s ≡ true
   pub read : rows_in s n b ≡ parsed (the_rows (rows_in s n b)) []
   pub few : (k : ℕ) → k < node_count s → count (column s (the_rows (rows_in s n b)) k) ≤ most_elements

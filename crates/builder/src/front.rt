@@ -1,7 +1,6 @@
 // What stands before the parts of a built image: header, records, entries and names. Each function answers the place after what
 // it put.
-ghost use Rattle.std.specs.Prelude.{◌≡◌, true, ◌+◌, ◌*◌, ◌-◌, ◌<◌, ◌≤◌, length};
-ghost use Rattle.image.specs.declared.answer.Checked.TheVariants.{Accepted};
+ghost use Rattle.std.specs.Prelude.{◌≡◌, true, ◌+◌, ◌*◌, ◌-◌, ◌<◌, ◌≤◌, length, Ok};
 ghost use Rattle.image.specs.Ranges.{pieces};
 ghost use Rattle.image.specs.Record.{node_count, buffer_count};
 ghost use Rattle.image.specs.Faults.{check_image};
@@ -191,7 +190,7 @@ fn put_entries(image: &[u8], node: u32, places: &[usize], out: &mut [u8], at: us
 
 // The entries of all nodes.
 fn put_all_entries(image: &[u8], places: &[usize], out: &mut [u8], at: usize) -> usize
-    requires image_value { (check_image image.now ≡ Accepted) × (readable image.now ≡ true) }
+    requires image_value { (check_image image.now ≡ Ok tt) × (readable image.now ≡ true) }
     requires rise { Rise image.now places.now }
     requires fits { Fits out.old at (pieces (entries_from image.now places.now) 0 (node_count image.now)) }
     ensures value { result ≡ at + length (pieces (entries_from image.now places.now) 0 (node_count image.now)) }
@@ -223,7 +222,7 @@ fn put_name(image: &[u8], node: u32, out: &mut [u8], at: usize) -> usize
 
 // The names of all nodes.
 fn put_names(image: &[u8], out: &mut [u8], at: usize) -> usize
-    requires image_value { check_image image.now ≡ Accepted }
+    requires image_value { check_image image.now ≡ Ok tt }
     requires fits { Fits out.old at (pieces (name_of image.now) 0 (node_count image.now)) }
     ensures value { result ≡ at + length (pieces (name_of image.now) 0 (node_count image.now)) }
     ensures out_after { out.new ≡ over out.old at (pieces (name_of image.now) 0 (node_count image.now)) }
@@ -240,7 +239,7 @@ fn put_names(image: &[u8], out: &mut [u8], at: usize) -> usize
 
 // Header, records, entries and names, from the buffer's start on.
 pub fn put_front(image: &[u8], lengths: &[usize], places: &[usize], out: &mut [u8]) -> usize
-    requires image_value { (check_image image.now ≡ Accepted) × (readable image.now ≡ true) }
+    requires image_value { (check_image image.now ≡ Ok tt) × (readable image.now ≡ true) }
     requires rise { Rise image.now places.now × (length lengths.now ≡ 256) }
     requires fits { Fits out.old 0 (front_from image.now lengths.now places.now) }
     ensures value { result ≡ length (front_from image.now lengths.now places.now) }

@@ -6,18 +6,17 @@ pub mod clear;
 pub mod front;
 pub mod plan;
 
-ghost use Rattle.std.specs.Prelude.{◌≡◌, true};
-ghost use Rattle.image.specs.declared.answer.Checked.TheVariants.{Accepted};
+ghost use Rattle.std.specs.Prelude.{◌≡◌, true, Ok};
 ghost use Rattle.image.specs.Faults.{check_image};
 ghost use Rattle.image.specs.Parse.{readable_code, readable, rows_in};
-ghost use Rattle.answers.specs.Answers.{rows_answer, image_of, built_over};
+ghost use Rattle.answers.specs.Answers.{rows_answer, image_of, written_over};
 ghost use Rattle.rows.specs.Output.{over};
 ghost use Rattle.builder.specs.Table.{Laid};
 
 use crate::clear::clear;
 use crate::front::put_front;
 use crate::plan::{MOST_NODES, MOST_PLACES, Planned, lengths_of, plan};
-use answers::Built;
+use answers::BuildRefusal;
 use fill::fill;
 use image::record::{code, node_count};
 use image::type_code::TypeCode;
@@ -77,22 +76,22 @@ fn put_table(
 
 // The table of so many rows, which are the string b, of the type that the image s has: its image, at the front of `out`. A
 // refusal leaves `out` as it was.
-pub fn build(s: &[u8], count: usize, b: &[u8], out: &mut [u8]) -> Built
-    requires { (check_image s.now ≡ Accepted) × (readable s.now ≡ true) }
+pub fn build(s: &[u8], count: usize, b: &[u8], out: &mut [u8]) -> Result<usize, BuildRefusal>
+    requires { (check_image s.now ≡ Ok tt) × (readable s.now ≡ true) }
     ensures value { result ≡ rows_answer s.now (rows_in s.now count b.now) out.old }
-    ensures out_after { out.new ≡ built_over (rows_answer s.now (rows_in s.now count b.now) out.old) (image_of s.now (rows_in s.now count b.now)) out.old }
+    ensures out_after { out.new ≡ written_over (rows_answer s.now (rows_in s.now count b.now) out.old) (image_of s.now (rows_in s.now count b.now)) out.old }
 {
     let mut spans = [0usize; MOST_NODES];
     if !is_rows(s, count, b, &mut spans) {
-        return Built::NotRows;
+        return Err(BuildRefusal::NotRows);
     }
     let mut lengths = [0usize; MOST_NODES];
     lengths_of(s, count, &spans, &mut lengths);
     let mut places = [0usize; MOST_PLACES];
     let room = out.len();
     let Planned::Bytes(size) = plan(s, &lengths, &spans, room, &mut places) else {
-        return Built::TooLong;
+        return Err(BuildRefusal::TooLong);
     };
     put_table(s, count, b, &lengths, &places, size, out);
-    Built::Bytes(size)
+    Ok(size)
 }

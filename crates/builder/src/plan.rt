@@ -1,7 +1,6 @@
 // How long the nodes of a built image are, how many bytes each of its parts takes, and where each part stands. The tables that
 // are lent have an entry for each node: its length, and its span, how far its offsets go on in all.
-ghost use Rattle.std.specs.Prelude.{◌≡◌, ◌+◌, ◌*◌, ◌/◌, ◌<◌, ◌≤◌, length, get_or};
-ghost use Rattle.image.specs.declared.answer.Checked.TheVariants.{Accepted};
+ghost use Rattle.std.specs.Prelude.{◌≡◌, ◌+◌, ◌*◌, ◌/◌, ◌<◌, ◌≤◌, length, get_or, Ok};
 ghost use Rattle.image.specs.Ranges.{any};
 ghost use Rattle.image.specs.Reads.{Read};
 ghost use Rattle.image.specs.Record.{longest_image, most_elements, node_count};
@@ -57,7 +56,7 @@ fn fill(table: &mut [usize], place: usize, n: usize, x: usize)
 
 // The length of each node: the root's is the row count, and a parent's number is lower than its children's.
 pub fn lengths_of(image: &[u8], count: usize, spans: &[usize], lengths: &mut [usize])
-    requires image_value { check_image image.now ≡ Accepted }
+    requires image_value { check_image image.now ≡ Ok tt }
     requires spans_len { (length spans.now ≡ 256) × (length lengths.old ≡ 256) }
     ensures { Lengths image.now count spans.now lengths.new }
 {
@@ -179,7 +178,7 @@ pub fn plan(
     room: usize,
     places: &mut [usize],
 ) -> Planned
-    requires image_value { check_image image.now ≡ Accepted }
+    requires image_value { check_image image.now ≡ Ok tt }
     requires lengths_len { (length lengths.now ≡ 256) × (length spans.now ≡ 256) × (length places.old ≡ 769) }
     ensures { PlanOf image.now lengths.now spans.now room places.new result }
 {

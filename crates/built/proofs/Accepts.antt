@@ -12,7 +12,7 @@ use native.Mathlib.Omega.{arith}
 use lib.ListN.{length}
 use lib.Dec.{eqb, leb, ltb}
 use borrow.Author.Tests.{eq-eqb, ne_eqb, le-leb, lt-leb, le-ltb, ltb-true}
-use Rattle.image.specs.declared.answer.Checked.TheVariants.{Accepted}
+use Rattle.std.proofs.Common.{Ok}
 use Rattle.image.specs.declared.type_code.Layout.{Layout}
 use Rattle.image.specs.declared.type_code.Layout.TheVariants.{Null, Boolean, FixedWidth, VariableSize, View, List as Lists, ListView, FixedList, Struct, DenseUnion, SparseUnion, Dictionary, Runs}
 use Rattle.image.specs.declared.type_code.Count.TheVariants.{Exactly, AtLeast}
@@ -420,12 +420,12 @@ module _ (s : List ℕ) (rs : Rows) (fit : Fitting s rs) (root : all_rows (is_ro
           let node : first (fault number t) 0 (node_count t) < node_count s = omega (arith, nodes_kept s rs fit.image fit.bytes fit.short) in
           absurd (false≢true (sym (no_fault (first (fault number t) 0 (node_count t)) node number) ∙ passes))
 
-  check_rest : (left number : ℕ) → check_from left number t ≡ Accepted
+  check_rest : (left number : ℕ) → check_from left number t ≡ Ok tt
   unfolding check_from
   check_rest zero number = refl
   check_rest (suc left) number = rw (none_faulty number) (check_rest left (suc number))
 
   -- a built image is accepted
-  pub built_accepted : check_image t ≡ Accepted
+  pub built_accepted : check_image t ≡ Ok tt
   unfolding check_image
   built_accepted = rw no_10 (check_rest (numbers_end - 11) 11)

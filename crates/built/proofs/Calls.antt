@@ -9,39 +9,38 @@ use lib.ListN.{length, drop}
 use lib.Seq.{take_at}
 use lib.Dec.{ltb}
 use borrow.Author.Tests.{ltb-false}
-use Rattle.image.specs.declared.answer.Checked.{Checked}
-use Rattle.image.specs.declared.answer.Checked.TheVariants.{Accepted, Refused}
+use Rattle.image.specs.Faults.{Checked, check_image}
+use Rattle.std.proofs.Common.{Result, Ok, Err}
 use Rattle.image.specs.Ranges.{any}
 use Rattle.image.specs.Bytes.{AllBytes}
 use Rattle.image.specs.Record.{node_count}
 use Rattle.image.specs.Row.{Rows}
 use Rattle.image.specs.RowBytes.{count}
-use Rattle.image.specs.Faults.{check_image}
 use Rattle.image.specs.Parse.{Parsed, failed, parsed, readable, rows_in}
 use Rattle.image.specs.Built.{column, built_image}
 use Rattle.image.proofs.Bools.{or_left, or_right}
 use Rattle.image.proofs.Ranges.{any_below}
 use Rattle.laws.proofs.Accepted.{accepted}
-use Rattle.answers.specs.declared.Built.{Built}
-use Rattle.answers.specs.declared.Built.TheVariants.{Bytes, Unreadable, TooLong}
-use Rattle.answers.specs.Answers.{too_many_rows, image_answer, rows_answer, built_after, build_answer, build_output}
+use Rattle.answers.specs.declared.BuildRefusal.{BuildRefusal}
+use Rattle.answers.specs.declared.BuildRefusal.TheVariants.{Image, Unreadable, TooLong}
+use Rattle.answers.specs.Answers.{◌>>=◌, refused_as, too_many_rows, image_answer, rows_answer, build_answer, build_output}
 use Rattle.built.specs.Theorems.{built_in}
 use Rattle.built.proofs.Back.{Fitting}
 
 -- an answer that is a length is no other
-after_check_lem : (c : Checked) (a : Built) (m : ℕ) → built_after c a ≡ Bytes m → (c ≡ Accepted) × (a ≡ Bytes m)
-after_check_lem (Refused f) a m e =
+after_check_lem : (c : Checked) (a : Result ℕ BuildRefusal) (m : ℕ) → (refused_as Image c >>= λ _. a) ≡ Ok m → (c ≡ Ok tt) × (a ≡ Ok m)
+after_check_lem (Err f) a m e =
     let z : ◌≡◌ {A = ℕ} 0 1 = cc in
     absurd (omega arith)
-after_check_lem Accepted a m e = (refl, e)
+after_check_lem (Ok _) a m e = (refl, e)
 
-coded : (b : Bool) (a : Built) (m : ℕ) → cond b a Unreadable ≡ Bytes m → (b ≡ true) × (a ≡ Bytes m)
+coded : (b : Bool) (a : Result ℕ BuildRefusal) (m : ℕ) → cond b a (Err Unreadable) ≡ Ok m → (b ≡ true) × (a ≡ Ok m)
 coded true a m e = (refl, e)
 coded false a m e =
     let z : ◌≡◌ {A = ℕ} 0 1 = cc in
     absurd (omega arith)
 
-rows_told : (s : List ℕ) (p : Parsed Rows) (out : List ℕ) (m : ℕ) → rows_answer s p out ≡ Bytes m → (rs : Rows) × (p ≡ parsed rs []) × (image_answer s rs out ≡ Bytes m)
+rows_told : (s : List ℕ) (p : Parsed Rows) (out : List ℕ) (m : ℕ) → rows_answer s p out ≡ Ok m → (rs : Rows) × (p ≡ parsed rs []) × (image_answer s rs out ≡ Ok m)
 rows_told s failed out m e =
     let z : ◌≡◌ {A = ℕ} 0 1 = cc in
     absurd (omega arith)
@@ -50,7 +49,7 @@ rows_told s (parsed rs (x ∷ b)) out m e =
     let z : ◌≡◌ {A = ℕ} 0 1 = cc in
     absurd (omega arith)
 
-fits : (b : Bool) (n m : ℕ) → cond b TooLong (Bytes n) ≡ Bytes m → (b ≡ false) × (n ≡ m)
+fits : (b : Bool) (n m : ℕ) → cond b (Err TooLong) (Ok n) ≡ Ok m → (b ≡ false) × (n ≡ m)
 fits true n m e =
     let z : ◌≡◌ {A = ℕ} 0 1 = cc in
     absurd (omega arith)
@@ -58,7 +57,7 @@ fits false n m e = (refl, cc)
 
 -- what an answer of m bytes tells
 pub record Told (s : List ℕ) (n : ℕ) (b out : List ℕ) (m : ℕ) : Type 0 where
-  pub given : check_image s ≡ Accepted
+  pub given : check_image s ≡ Ok tt
   pub coded : readable s ≡ true
   pub rows : Rows
   pub read : rows_in s n b ≡ parsed rows []
@@ -67,10 +66,10 @@ pub record Told (s : List ℕ) (n : ℕ) (b out : List ℕ) (m : ℕ) : Type 0 w
   pub short : m ≤ 16777216
   pub few : (k : ℕ) → k < node_count s → count (column s rows k) ≤ 1073741824
 
-pub told : (s : List ℕ) (n : ℕ) (b out : List ℕ) (m : ℕ) → build_answer s n b out ≡ Bytes m → Told s n b out m
+pub told : (s : List ℕ) (n : ℕ) (b out : List ℕ) (m : ℕ) → build_answer s n b out ≡ Ok m → Told s n b out m
 unfolding build_answer image_answer too_many_rows
 told s n b out m e =
-    let c = after_check_lem (check_image s) (cond (readable s) (rows_answer s (rows_in s n b) out) Unreadable) m e in
+    let c = after_check_lem (check_image s) (cond (readable s) (rows_answer s (rows_in s n b) out) (Err Unreadable)) m e in
     let r = coded (readable s) (rows_answer s (rows_in s n b) out) m c.1 in
     let p = rows_told s (rows_in s n b) out m r.1 in
     let size = length (built_image s p.0) in
@@ -87,7 +86,7 @@ told s n b out m e =
       few = λ k lt. ltb-false _ _ (any_below (too_many_rows s p.0) (node_count s) (or_right (ltb (length out) (length (built_image s p.0)) || ltb 16777216 (length (built_image s p.0))) _ f.0) k lt);
     }
 
-module _ (s : List ℕ) (n : ℕ) (b out : List ℕ) (m : ℕ) (small : AllBytes s) (answer : build_answer s n b out ≡ Bytes m) where
+module _ (s : List ℕ) (n : ℕ) (b out : List ℕ) (m : ℕ) (small : AllBytes s) (answer : build_answer s n b out ≡ Ok m) where
   abbrev known : Told s n b out m
   known = told s n b out m answer
 

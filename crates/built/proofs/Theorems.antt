@@ -11,7 +11,7 @@ use lib.ListN.{length, drop}
 use lib.Seq.{drop_at}
 use lib.Dec.{ltb}
 use borrow.Author.Tests.{le-ltb}
-use Rattle.image.specs.declared.answer.Checked.TheVariants.{Accepted}
+use Rattle.std.proofs.Common.{Ok, Err}
 use Rattle.image.specs.Bytes.{AllBytes}
 use Rattle.image.specs.Ranges.{any}
 use Rattle.image.specs.Record.{longest_image, max_depth, node_count, length_of}
@@ -22,11 +22,7 @@ use Rattle.image.specs.Parse.{Parsed, failed, parsed, readable, rows_in}
 use Rattle.image.specs.Built.{built_image}
 use Rattle.laws.proofs.Lengths.{table_count}
 use Rattle.laws.proofs.TypeLaws.{types_sym, types_trans}
-use Rattle.answers.specs.declared.Paired.TheVariants.{Agreed}
-use Rattle.answers.specs.declared.Bounds.TheVariants.{Within}
-use Rattle.answers.specs.declared.Compared.TheVariants.{Yes}
-use Rattle.answers.specs.declared.Written.TheVariants.{Bytes as WrittenBytes}
-use Rattle.answers.specs.declared.Built.TheVariants.{Bytes, NotRows, TooLong}
+use Rattle.answers.specs.declared.BuildRefusal.TheVariants.{NotRows, TooLong}
 use Rattle.answers.specs.Answers.{exceeds, paired_of, bounds_of, compare_range_answer, write_range, write_answer, write_output, too_many_rows, image_answer, rows_answer, build_answer, build_output}
 use Rattle.built.specs.Typed.{all_rows, is_row}
 use Rattle.built.specs.Theorems.{BytesOf, built_in, TableOf, ReadRange}
@@ -54,11 +50,11 @@ read_exactly s n b all rs = (forth, back)
     back of = rw (append-nil (rows_bytes rs), of.many, of.bytes) at (rows_read_back s rs [] of.typed)
 
 -- 43 or a length is not 24
-fits_or_not : (s : List ℕ) (rs : Rows) (out : List ℕ) → image_answer s rs out ≡ NotRows → ⊥
+fits_or_not : (s : List ℕ) (rs : Rows) (out : List ℕ) → image_answer s rs out ≡ Err NotRows → ⊥
 unfolding image_answer
 fits_or_not s rs out e = cases (ltb (length out) (length (built_image s rs)) || ltb longest_image (length (built_image s rs)) || any (too_many_rows s rs) 0 (node_count s)) e
   where
-    cases : (b : Bool) → cond b TooLong (Bytes (length (built_image s rs))) ≡ NotRows → ⊥
+    cases : (b : Bool) → cond b (Err TooLong) (Ok (length (built_image s rs))) ≡ Err NotRows → ⊥
     cases true e =
         let z : ◌≡◌ {A = ℕ} 0 1 = cc in
         absurd (omega arith)
@@ -67,20 +63,20 @@ fits_or_not s rs out e = cases (ltb (length out) (length (built_image s rs)) || 
         absurd (omega arith)
 
 -- 24 exactly where it is not
-pub not_rows_lem : (s : List ℕ) (n : ℕ) (b out : List ℕ) → AllBytes b → check_image s ≡ Accepted → readable s ≡ true
-    → (build_answer s n b out ≡ NotRows) ↔ ((rs : Rows) → BytesOf s n b rs → ⊥)
+pub not_rows_lem : (s : List ℕ) (n : ℕ) (b out : List ℕ) → AllBytes b → check_image s ≡ Ok tt → readable s ≡ true
+    → (build_answer s n b out ≡ Err NotRows) ↔ ((rs : Rows) → BytesOf s n b rs → ⊥)
 unfolding build_answer
 not_rows_lem s n b out all image coded = (forth, back)
   where
-    answer : (p : Parsed Rows) → ((rs : Rows) → p ≡ parsed rs [] → ⊥) → rows_answer s p out ≡ NotRows
+    answer : (p : Parsed Rows) → ((rs : Rows) → p ≡ parsed rs [] → ⊥) → rows_answer s p out ≡ Err NotRows
     answer failed never = refl
     answer (parsed rs []) never = absurd (never rs refl)
     answer (parsed rs (x ∷ b)) never = refl
 
-    forth : build_answer s n b out ≡ NotRows → (rs : Rows) → BytesOf s n b rs → ⊥
+    forth : build_answer s n b out ≡ Err NotRows → (rs : Rows) → BytesOf s n b rs → ⊥
     forth e rs of = fits_or_not s rs out (rw (image, coded, (read_exactly s n b all rs).1 of) at e)
 
-    back : ((rs : Rows) → BytesOf s n b rs → ⊥) → build_answer s n b out ≡ NotRows
+    back : ((rs : Rows) → BytesOf s n b rs → ⊥) → build_answer s n b out ≡ Err NotRows
     back never = rw (image, coded) (answer (rows_in s n b) (λ rs e. never rs ((read_exactly s n b all rs).0 e)))
 
 -- The image of rows of the type.
@@ -100,9 +96,9 @@ module _ (s : List ℕ) (rs : Rows) (fit : Fitting s rs) (typed : all_rows (is_r
     fits : ltb (length out) (length (range_bytes (built_image s rs) 0 (count rs))) ≡ false
     fits = rw rows_written (le-ltb (length out) (length (rows_bytes rs)) room)
 
-    write_answer_lem : write_answer (built_image s rs) 0 (count rs) out ≡ WrittenBytes (length (rows_bytes rs))
+    write_answer_lem : write_answer (built_image s rs) 0 (count rs) out ≡ Ok (length (rows_bytes rs))
     unfolding write_answer write_range
-    write_answer_lem = rw (built_accepted s rs fit typed, within_length, fits) (ap (λ (x : List ℕ). WrittenBytes (length x)) rows_written)
+    write_answer_lem = rw (built_accepted s rs fit typed, within_length, fits) (ap (λ (x : List ℕ). Ok (length x)) rows_written)
 
     write_output_lem : write_output (built_image s rs) 0 (count rs) out ≡ rows_bytes rs ++ drop (length (rows_bytes rs)) out
     unfolding write_output
@@ -123,14 +119,14 @@ module _ (s : List ℕ) (rs : Rows) (fit : Fitting s rs) (typed : all_rows (is_r
       }
 
 -- The table that a call builds.
-pub built_table : (s : List ℕ) (n : ℕ) (b out : List ℕ) (m : ℕ) → AllBytes s → AllBytes b → build_answer s n b out ≡ Bytes m → TableOf s n b (built_in s n b out m)
+pub built_table : (s : List ℕ) (n : ℕ) (b out : List ℕ) (m : ℕ) → AllBytes s → AllBytes b → build_answer s n b out ≡ Ok m → TableOf s n b (built_in s n b out m)
 built_table s n b out m small string answer =
     let k = told s n b out m answer in
     let of = (read_exactly s n b string k.rows).0 k.read in
     rw (of.many, of.bytes, ← image_in s n b out m small answer) at (image_table s k.rows (fitting s n b out m small answer) of.typed)
 
 -- behind the image the buffer holds what it held
-pub behind_kept : (s : List ℕ) (n : ℕ) (b out : List ℕ) (m : ℕ) → build_answer s n b out ≡ Bytes m → drop m (build_output s n b out) ≡ drop m out
+pub behind_kept : (s : List ℕ) (n : ℕ) (b out : List ℕ) (m : ℕ) → build_answer s n b out ≡ Ok m → drop m (build_output s n b out) ≡ drop m out
 unfolding build_output
 behind_kept s n b out m answer =
     let k = told s n b out m answer in
@@ -144,12 +140,12 @@ module _ (s t : List ℕ) (i n : ℕ) (range : ReadRange s t i n) where
   range_answer out = rw (range.given, range.coded, range_read s t i n range)
 
   -- it is never 24
-  pub range_is_rows : (out : List ℕ) → build_answer s n (range_bytes t i n) out ≡ NotRows → ⊥
+  pub range_is_rows : (out : List ℕ) → build_answer s n (range_bytes t i n) out ≡ Err NotRows → ⊥
   range_is_rows out e = fits_or_not s (table_rows t i n) out (sym (range_answer out) ∙ e)
 
   -- where it fits, its table agrees with it row by row
   module _ (fit : Fitting s (table_rows t i n)) where
-    paired : paired_of (built_image s (table_rows t i n)) t ≡ Agreed
+    paired : paired_of (built_image s (table_rows t i n)) t ≡ Ok tt
     unfolding paired_of
     paired =
         rw (
@@ -158,20 +154,20 @@ module _ (s t : List ℕ) (i n : ℕ) (range : ReadRange s t i n) where
           types_trans (built_image s (table_rows t i n)) s t (types_sym s (built_image s (table_rows t i n)) (types_kept s (table_rows t i n) fit)) range.types,
         )
 
-    bounds : bounds_of (built_image s (table_rows t i n)) t 0 i n ≡ Within
+    bounds : bounds_of (built_image s (table_rows t i n)) t 0 i n ≡ Ok tt
     unfolding bounds_of exceeds
     bounds =
         let left : ltb (length_of (built_image s (table_rows t i n)) 0) (0 + n) ≡ false =
         le-ltb _ (0 + n) (omega (arith, has_length s (table_rows t i n) fit (range_typed s t i n range), table_count t i n)) in
         rw (left, le-ltb (length_of t 0) (i + n) range.within)
 
-    compared : compare_range_answer (built_image s (table_rows t i n)) t 0 i n ≡ Yes
+    compared : compare_range_answer (built_image s (table_rows t i n)) t 0 i n ≡ Ok true
     unfolding compare_range_answer
     compared = rw (paired, bounds, range_again s t i n range fit)
 
   -- "Reading a written range with an image of its type, unless refused, builds a table equal to that range."
-  pub range_equal_lem : (out : List ℕ) (m : ℕ) → AllBytes s → build_answer s n (range_bytes t i n) out ≡ Bytes m
-      → compare_range_answer (built_in s n (range_bytes t i n) out m) t 0 i n ≡ Yes
+  pub range_equal_lem : (out : List ℕ) (m : ℕ) → AllBytes s → build_answer s n (range_bytes t i n) out ≡ Ok m
+      → compare_range_answer (built_in s n (range_bytes t i n) out m) t 0 i n ≡ Ok true
   range_equal_lem out m small answer =
       let k = told s n (range_bytes t i n) out m answer in
       let both = sym k.read ∙ range_read s t i n range in

@@ -3,11 +3,9 @@
 
 ghost use Rattle.std.specs.Prelude.{◌≡◌};
 ghost use Rattle.answers.specs.Answers.{compare_range_answer, difference_answer, digits_answer, map_names_answer, build_answer, build_output};
-ghost use Rattle.answers.specs.Numbers.{compared_numbers, difference_numbers, digits_numbers, map_names_numbers, built_numbers, packed};
+ghost use Rattle.answers.specs.Numbers.{ranges_compared_numbers, difference_numbers, digits_numbers, map_names_numbers, built_numbers, packed};
 
-use answers::numbers::{
-    built_numbers, compared_numbers, difference_numbers, digits_numbers, map_names_numbers, pack,
-};
+use answers::numbers::pack;
 use api::{build, compare_digits, compare_range, first_difference, map_names};
 
 // Whether `count` rows of two tables from their starts on are equal.
@@ -19,12 +17,12 @@ pub extern "C" fn editions_compare_range(
     right_start: u32,
     count: u32,
 ) -> u64
-    ensures { result ≡ packed (compared_numbers (compare_range_answer left.now right.now left_start right_start count)) }
+    ensures { result ≡ packed (ranges_compared_numbers (compare_range_answer left.now right.now left_start right_start count)) }
 {
     let i = left_start as usize;
     let j = right_start as usize;
     let n = count as usize;
-    pack(compared_numbers(compare_range(left, right, i, j, n)))
+    pack(compare_range(left, right, i, j, n))
 }
 
 // The first of these rows that is not equal.
@@ -41,7 +39,7 @@ pub extern "C" fn editions_first_difference(
     let i = left_start as usize;
     let j = right_start as usize;
     let n = count as usize;
-    pack(difference_numbers(first_difference(left, right, i, j, n)))
+    pack(first_difference(left, right, i, j, n))
 }
 
 // Whether these rows agree once so many digits are dropped.
@@ -60,7 +58,7 @@ pub extern "C" fn editions_compare_digits(
     let j = right_start as usize;
     let n = count as usize;
     let d = digits as usize;
-    pack(digits_numbers(compare_digits(left, right, i, j, n, d)))
+    pack(compare_digits(left, right, i, j, n, d))
 }
 
 // Whether every Map's entries are named `entries` and its fields `key` and `value`.
@@ -68,7 +66,7 @@ pub extern "C" fn editions_compare_digits(
 pub extern "C" fn editions_map_names(image: &[u8]) -> u64
     ensures { result ≡ packed (map_names_numbers (map_names_answer image.now)) }
 {
-    pack(map_names_numbers(map_names(image)))
+    pack(map_names(image))
 }
 
 // The table of `count` rows of the type that an image has, which `rows` is by the row rule; its image goes to the front of `out`.
@@ -77,5 +75,5 @@ pub extern "C" fn editions_build(image: &[u8], count: u32, rows: &[u8], out: &mu
     ensures value { result ≡ packed (built_numbers (build_answer image.now count rows.now out.old)) }
     ensures out_after { out.new ≡ build_output image.now count rows.now out.old }
 {
-    pack(built_numbers(build(image, count as usize, rows, out)))
+    pack(build(image, count as usize, rows, out))
 }

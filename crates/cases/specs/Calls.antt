@@ -5,7 +5,7 @@ use Rattle.std.specs.Prelude.{◌≡◌, List, [], ◌∷◌, ◌++◌, ℕ, suc
 use Rattle.image.specs.Faults.{check_image}
 use Rattle.answers.specs.Answers.{compare_answer, compare_range_answer, difference_answer, digits_answer, map_names_answer, write_answer, write_output, build_answer, build_output}
 use Rattle.answers.specs.declared.numbers.Numbers.{Numbers}
-use Rattle.answers.specs.Numbers.{checked_numbers, compared_numbers, difference_numbers, digits_numbers, map_names_numbers, written_numbers, built_numbers}
+use Rattle.answers.specs.Numbers.{checked_numbers, compared_numbers, ranges_compared_numbers, difference_numbers, digits_numbers, map_names_numbers, written_numbers, built_numbers}
 
 pub data Call : Type 0 where
   -- check an image
@@ -32,7 +32,7 @@ told n out = n.number ∷ n.side ∷ n.node ∷ n.value ∷ out
 unfoldable pub answer : Call → List ℕ
 answer (check s) = told (checked_numbers (check_image s)) []
 answer (compare s t) = told (compared_numbers (compare_answer s t)) []
-answer (compare_range s t i j n) = told (compared_numbers (compare_range_answer s t i j n)) []
+answer (compare_range s t i j n) = told (ranges_compared_numbers (compare_range_answer s t i j n)) []
 answer (difference s t i j n) = told (difference_numbers (difference_answer s t i j n)) []
 answer (compare_digits s t i j n d) = told (digits_numbers (digits_answer s t i j n d)) []
 answer (map_names s) = told (map_names_numbers (map_names_answer s)) []

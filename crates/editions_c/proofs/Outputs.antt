@@ -9,38 +9,28 @@ use lib.ListN.{length, take, drop, length-take, drop_of_length-le}
 use lib.Seq.{take_all}
 use lib.Dec.{ltb}
 use borrow.Author.Tests.{ltb-true, ltb-false}
-use Rattle.image.specs.declared.answer.Checked.{Checked}
-use Rattle.image.specs.declared.answer.Checked.TheVariants.{Accepted, Refused}
-use Rattle.answers.specs.declared.Written.{Written}
-use Rattle.answers.specs.declared.Written.TheVariants.{Bytes, OutOfRange, TooLong}
-use Rattle.image.specs.Faults.{check_image}
+use Rattle.image.specs.Faults.{Checked, check_image}
+use Rattle.std.proofs.Common.{Result, Ok, Err}
+use Rattle.answers.specs.declared.WriteRefusal.{WriteRefusal}
+use Rattle.answers.specs.declared.WriteRefusal.TheVariants.{Image, OutOfRange, TooLong}
 use Rattle.image.specs.RowBytes.{range_bytes}
-use Rattle.answers.specs.Answers.{exceeds, after_check, write_range, write_answer, write_output}
+use Rattle.answers.specs.Answers.{◌>>=◌, refused_as, refuse_if, exceeds, write_range, write_answer, write_output}
 use Rattle.answers.specs.Numbers.{written_numbers}
 use Rattle.editions_c.specs.Outputs.{most, used, unused}
 
 -- the value of a write into a buffer of less than 2 ^ 56 bytes
-answer_small : (s : List ℕ) (i n : ℕ) (out : List ℕ) {r : Written} → r ≡ write_answer s i n out → length out < 2 ^ 56 → (written_numbers r).value < 2 ^ 56
+answer_small : (s : List ℕ) (i n : ℕ) (out : List ℕ) {r : Result ℕ WriteRefusal} → r ≡ write_answer s i n out → length out < 2 ^ 56 → (written_numbers r).value < 2 ^ 56
 unfolding write_answer write_range
 answer_small s i n out e few = rw e (cases (check_image s) (exceeds s i n) (ltb (length out) (length (range_bytes s i n))) refl)
   where
     cases : (c : Checked) (beyond long : Bool) → ltb (length out) (length (range_bytes s i n)) ≡ long
-        → (written_numbers (after_check c (cond beyond OutOfRange (cond long TooLong (Bytes (length (range_bytes s i n))))))).value < 2 ^ 56
-    cases (Refused f) beyond long is = omega arith
-    cases Accepted true long is = omega arith
-    cases Accepted false true is = omega arith
-    cases Accepted false false is =
+        → (written_numbers (refused_as Image c >>= λ _. refuse_if beyond OutOfRange >>= λ _. cond long (Err TooLong) (Ok (length (range_bytes s i n))))).value < 2 ^ 56
+    cases (Err f) beyond long is = omega arith
+    cases (Ok _) true long is = omega arith
+    cases (Ok _) false true is = omega arith
+    cases (Ok _) false false is =
         let h : length (range_bytes s i n) ≤ length out = ltb-false _ _ is in
         omega arith
-
--- the length that is lent
-pub short_used : (n : ℕ) → n < 72057594037927935 → n ≡ min n most
-unfolding most
-short_used n lt = omega arith
-
-pub long_used : (n : ℕ) → 72057594037927935 ≤ n → 72057594037927935 ≡ min n most
-unfolding most
-long_used n le = omega arith
 
 most_small : (n : ℕ) → min n most < 2 ^ 56
 unfolding most
@@ -68,7 +58,7 @@ left_unused : (out : List ℕ) {end : ℕ} → end ≡ min (length out) most →
 unfolding unused
 left_unused out e = rw e (at_most out most).1
 
-pub lent_small : (s : List ℕ) (i n : ℕ) (out : List ℕ) {end : ℕ} {r : Written} → end ≡ min (length out) most → r ≡ write_answer s i n (take end out) → (written_numbers r).value < 2 ^ 56
+pub lent_small : (s : List ℕ) (i n : ℕ) (out : List ℕ) {end : ℕ} {r : Result ℕ WriteRefusal} → end ≡ min (length out) most → r ≡ write_answer s i n (take end out) → (written_numbers r).value < 2 ^ 56
 lent_small s i n out {end = end} ee er =
     let few : length (take end out) ≤ end = rw (length-take end out) (omega arith) in
     answer_small s i n (take end out) er (omega (arith, most_small (length out)))

@@ -8,7 +8,7 @@ ghost use Rattle.answers.specs.Answers.{compare_answer, write_answer, write_outp
 ghost use Rattle.answers.specs.Numbers.{checked_numbers, compared_numbers, written_numbers, packed};
 ghost use Rattle.editions_c.specs.Outputs.{most, used, unused};
 
-use answers::numbers::{checked_numbers, compared_numbers, pack, written_numbers};
+use answers::numbers::pack;
 use api::{check, compare, write};
 
 // The longest output whose length 56 bits can give. No machine lends a longer buffer: addresses have fewer bits.
@@ -19,7 +19,7 @@ const LONGEST_OUTPUT: usize = 72057594037927935;
 pub extern "C" fn editions_check(image: &[u8]) -> u64
     ensures { result ≡ packed (checked_numbers (check_image image.now)) }
 {
-    pack(checked_numbers(check(image)))
+    pack(check(image))
 }
 
 // Whether two tables are equal.
@@ -27,19 +27,14 @@ pub extern "C" fn editions_check(image: &[u8]) -> u64
 pub extern "C" fn editions_compare(left: &[u8], right: &[u8]) -> u64
     ensures { result ≡ packed (compared_numbers (compare_answer left.now right.now)) }
 {
-    pack(compared_numbers(compare(left, right)))
+    pack(compare(left, right))
 }
 
 // How much of a buffer is used.
 fn used_length(out: &[u8]) -> usize
     ensures { result ≡ min (length out.now) most }
 {
-    let n = out.len();
-    if n < LONGEST_OUTPUT {
-        n
-    } else {
-        LONGEST_OUTPUT
-    }
+    out.len().min(LONGEST_OUTPUT)
 }
 
 // Rows of a table, written to the front of `out`.
@@ -49,5 +44,5 @@ pub extern "C" fn editions_write(image: &[u8], start: u32, count: u32, out: &mut
     ensures out_after { out.new ≡ write_output image.now start count (used out.old) ++ unused out.old }
 {
     let end = used_length(out);
-    pack(written_numbers(write(image, start as usize, count as usize, &mut out[..end])))
+    pack(write(image, start as usize, count as usize, &mut out[..end]))
 }

@@ -1,6 +1,5 @@
 -- What is known while the parts of an image are filled, row by row: each part holds what the rows so far make, and zeros behind.
-use Rattle.std.specs.Prelude.{◌≡◌, Bool, true, false, List, [], ◌++◌, ◌⊎◌, ℕ, suc, ◌+◌, ◌*◌, ◌-◌, ◌≤◌, ◌<◌, ◌^◌, length, get_or, drop, replicate}
-use Rattle.image.specs.declared.answer.Checked.TheVariants.{Accepted}
+use Rattle.std.specs.Prelude.{◌≡◌, Bool, true, false, List, [], ◌++◌, ◌⊎◌, ℕ, suc, ◌+◌, ◌*◌, ◌-◌, ◌≤◌, ◌<◌, ◌^◌, length, get_or, drop, replicate, Ok}
 use Rattle.image.specs.declared.type_code.Layout.{Layout}
 use Rattle.image.specs.declared.type_code.Layout.TheVariants.{Null, Boolean, FixedWidth, VariableSize, View, List as Lists, ListView, FixedList, Struct, DenseUnion, SparseUnion, Dictionary, Runs}
 use Rattle.image.specs.Bytes.{byte_at, bytes_at}
@@ -66,7 +65,7 @@ pub record Held (s places : List ℕ) (f : Filling) (k : ℕ) : Type 0 where
 
 -- what filling rests on: an accepted image of readable codes, places that rise and end inside the buffer, a number for each node
 pub record Ready (s places : List ℕ) (f : Filling) : Type 0 where
-  pub accepted : check_image s ≡ Accepted
+  pub accepted : check_image s ≡ Ok tt
   pub coded : readable s ≡ true
   pub places_sized : length places ≡ 769
   pub rise : (q r : ℕ) → q ≤ r → r ≤ 3 * node_count s → get_or places q 0 ≤ get_or places r 0
@@ -128,7 +127,7 @@ has_offsets Runs = false
 -- The parts of the image that n rows of a string make are to be filled: they stand where the image has them, and hold zeros; no
 -- node has rows yet.
 pub record ToFill (s : List ℕ) (n : ℕ) (b places : List ℕ) (f : Filling) : Type 0 where
-  pub accepted : check_image s ≡ Accepted
+  pub accepted : check_image s ≡ Ok tt
   pub coded : readable s ≡ true
   pub read : rows_in s n b ≡ parsed (the_rows (rows_in s n b)) []
   pub few : (k : ℕ) → k < node_count s → count (column s (the_rows (rows_in s n b)) k) ≤ most_elements

@@ -1,8 +1,7 @@
 -- The faults of an image ("Turned away because of the input", 10 to 18, and 19 of document 02): for each number and each
 -- node whether the node has a fault of that number, and the answer of the image check.
-use Rattle.std.specs.Prelude.{Bool, false, cond, not, ◌&&◌, ◌||◌, List, ℕ, zero, suc, ◌+◌, ◌*◌, ◌-◌, ◌%◌, min, length, eqb, leb, ltb}
-use Rattle.image.specs.declared.answer.Checked.{Checked}
-use Rattle.image.specs.declared.answer.Checked.TheVariants.{Accepted, Refused}
+use Rattle.std.specs.Prelude.{Bool, false, cond, not, ◌&&◌, ◌||◌, List, ℕ, zero, suc, ◌+◌, ◌*◌, ◌-◌, ◌%◌, min, length, eqb, leb, ltb, Result, Ok, Err}
+use Rattle.image.specs.declared.answer.Fault.{Fault}
 use Rattle.image.specs.declared.type_code.Layout.{Layout}
 use Rattle.image.specs.declared.type_code.Layout.TheVariants.{Null, Boolean, FixedWidth, VariableSize, View, List as Lists, ListView, FixedList, Struct, DenseUnion, SparseUnion, Dictionary, Runs}
 use Rattle.image.specs.Ranges.{any, first, rises}
@@ -300,15 +299,19 @@ first_faulty number s = first (fault number s) 0 (node_count s)
 abbrev pub numbers_end : ℕ
 numbers_end = 20
 
+-- what a check answers: nothing where it accepts the image, else the fault
+abbrev pub Checked : Type 0
+Checked = Result (Unit {0}) Fault
+
 -- the answer by the numbers from one number on, so many of them
 unfoldable pub check_from : ℕ → ℕ → List ℕ → Checked
-check_from zero number s = Accepted
+check_from zero number s = Ok tt
 check_from (suc left) number s =
     let rest = check_from left (suc number) s in
-    cond (ltb (first_faulty number s) (node_count s)) (Refused (record { number = number; node = first_faulty number s })) rest
+    cond (ltb (first_faulty number s) (node_count s)) (Err (record { number = number; node = first_faulty number s })) rest
 
 -- The image check. "A table is accepted if its image has none of the faults that are returned with a node"; "10: node 0".
 unfoldable pub check_image : List ℕ → Checked
 check_image s =
     let rest = check_from (numbers_end - 11) 11 s in
-    cond (fault10 s) (Refused (record { number = 10; node = 0 })) rest
+    cond (fault10 s) (Err (record { number = 10; node = 0 })) rest

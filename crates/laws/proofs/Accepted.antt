@@ -10,7 +10,7 @@ use native.Mathlib.Omega.{arith}
 use native.Mathlib.Decide.{ℕ_discrete}
 use lib.ListN.{length}
 use borrow.Author.Tests.{eqb-true, leb-true, leb-false, ltb-true, ltb-false, lt-ltb, eq-eqb, ne_eqb, le-leb, lt-leb}
-use Rattle.image.specs.declared.answer.Checked.TheVariants.{Accepted}
+use Rattle.std.proofs.Common.{Ok}
 use Rattle.image.specs.declared.type_code.Count.{Count}
 use Rattle.image.specs.declared.type_code.Count.TheVariants.{Exactly, AtLeast}
 use Rattle.image.specs.Bytes.{byte_at, bit_at}
@@ -356,7 +356,7 @@ module _ {number : ℕ} {s : List ℕ} (b : NoneBelow number s) where
     unfolding fault
     after_19 lt = texts s k (b.nodes 19 (omega arith) lt k node)
 
-pub accepted : (s : List ℕ) → check_image s ≡ Accepted → AcceptedImage s
+pub accepted : (s : List ℕ) → check_image s ≡ Ok tt → AcceptedImage s
 accepted s accepts =
     let none = accepted_none s accepts in
     record {

@@ -10,23 +10,22 @@ use native.Mathlib.Omega.{arith}
 use lib.Dec.{ltb}
 use borrow.Author.Tests.{ltb-false}
 use Rattle.image.specs.declared.answer.Fault.{Fault}
-use Rattle.image.specs.declared.answer.Checked.{Checked}
-use Rattle.image.specs.declared.answer.Checked.TheVariants.{Accepted, Refused}
+use Rattle.image.specs.Faults.{Checked, fault, fault10, first_faulty, numbers_end, check_from, check_image}
+use Rattle.std.proofs.Common.{Ok, Err}
 use Rattle.image.specs.Record.{node_count}
-use Rattle.image.specs.Faults.{fault, fault10, first_faulty, numbers_end, check_from, check_image}
 use Rattle.image.proofs.Ranges.{from_here, first_before}
 use Rattle.laws.specs.Accepted.{NoneBelow}
 
 -- an answer that goes on past a refusal
-test_failed : (b : Bool) (f : Fault) (rest : Checked) → cond b (Refused f) rest ≡ Accepted → b ≡ false
+test_failed : (b : Bool) (f : Fault) (rest : Checked) → cond b (Err f) rest ≡ Ok tt → b ≡ false
 test_failed true f rest e = cc
 test_failed false f rest e = refl
 
-rest_accepted : (b : Bool) (f : Fault) (rest : Checked) → cond b (Refused f) rest ≡ Accepted → rest ≡ Accepted
+rest_accepted : (b : Bool) (f : Fault) (rest : Checked) → cond b (Err f) rest ≡ Ok tt → rest ≡ Ok tt
 rest_accepted true f rest e = cc
 rest_accepted false f rest e = e
 
-none_faulty : (left number : ℕ) (s : List ℕ) → check_from left number s ≡ Accepted
+none_faulty : (left number : ℕ) (s : List ℕ) → check_from left number s ≡ Ok tt
     → (m : ℕ) → number ≤ m → m < number + left → ltb (first_faulty m s) (node_count s) ≡ false
 unfolding check_from
 none_faulty zero number s e m le lt = absurd (omega arith)
@@ -52,7 +51,7 @@ pub none_fewer : {number : ℕ} {s : List ℕ} (m : ℕ) → m ≤ number → No
 none_fewer m le b = record { image = b.image; nodes = λ n low high k lt. b.nodes n low (omega arith) k lt }
 
 -- an accepted image has no fault at all
-pub accepted_none : (s : List ℕ) → check_image s ≡ Accepted → NoneBelow numbers_end s
+pub accepted_none : (s : List ℕ) → check_image s ≡ Ok tt → NoneBelow numbers_end s
 unfolding check_image first_faulty
 accepted_none s accepted = record {
   image = test_failed _ _ _ accepted;

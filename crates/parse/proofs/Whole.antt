@@ -11,7 +11,7 @@ use lib.Dec.{eqb, ltb}
 use lib.ListN.{length, get_or, drop, replicate, length-replicate, get_or-replicate}
 use lib.Seq.{drop-length, drop-cons}
 use borrow.Author.Tests.{eq-eqb, ne_eqb, ltb-true, ltb-false}
-use Rattle.image.specs.declared.answer.Checked.TheVariants.{Accepted}
+use Rattle.std.proofs.Common.{Ok}
 use Rattle.image.specs.Faults.{check_image}
 use Rattle.image.specs.Bytes.{AllBytes}
 use Rattle.image.specs.Row.{Rows}
@@ -24,7 +24,7 @@ use Rattle.built.proofs.Walk.{columns_given}
 use Rattle.parse.specs.Answer.{are_rows, Spanned}
 use Rattle.parse.specs.Scan.{not_rows, rows_add, Within, Begun, Scans}
 
-pub root_within : (s : List ℕ) → check_image s ≡ Accepted → Within s 0
+pub root_within : (s : List ℕ) → check_image s ≡ Ok tt → Within s 0
 root_within s e =
     let image = accepted s e in
     record { image = image; node = omega (arith, image.tables.some_nodes) }
@@ -80,7 +80,7 @@ module _ (s : List ℕ) (n : ℕ) (b : List ℕ) {before after : List ℕ} {answ
       cases true past = absurd (failed_not (sym (h.stops (ltb-true (length b) answer past)) ∙ e))
       cases false le = ltb-false (length b) answer le
 
-  pub whole_spans : check_image s ≡ Accepted → readable s ≡ true → AllBytes b → before ≡ replicate 256 0 → Spanned s (rows_in s n b) after
+  pub whole_spans : check_image s ≡ Ok tt → readable s ≡ true → AllBytes b → before ≡ replicate 256 0 → Spanned s (rows_in s n b) after
   unfolding rows_in rows_add
   whole_spans check codes all zeros = record {
     sized = h.sized ∙ rw zeros (length-replicate {A = ℕ} 256 0);

@@ -5,8 +5,7 @@
 pub mod leaf;
 pub mod scan;
 
-ghost use Rattle.std.specs.Prelude.{◌≡◌, true, replicate};
-ghost use Rattle.image.specs.declared.answer.Checked.TheVariants.{Accepted};
+ghost use Rattle.std.specs.Prelude.{◌≡◌, true, replicate, Ok};
 ghost use Rattle.image.specs.Faults.{check_image};
 ghost use Rattle.image.specs.Parse.{readable, rows_in};
 ghost use Rattle.parse.specs.Answer.{are_rows, Spanned};
@@ -20,7 +19,7 @@ const MAX_DEPTH: usize = 16;
 // Whether the string b is so many rows of the type that the image has, and nothing more. Where it is, entry j of spans is
 // how far the offsets of node j go on.
 pub fn is_rows(s: &[u8], count: usize, b: &[u8], spans: &mut [usize]) -> bool
-    requires s_value { (check_image s.now ≡ Accepted) × (readable s.now ≡ true) }
+    requires s_value { (check_image s.now ≡ Ok tt) × (readable s.now ≡ true) }
     requires spans_value { spans.old ≡ replicate 256 0 }
     ensures value { result ≡ are_rows (rows_in s.now count b.now) }
     ensures spanned { Spanned s.now (rows_in s.now count b.now) spans.new }

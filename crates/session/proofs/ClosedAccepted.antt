@@ -7,9 +7,8 @@ use Prim.Native.Nat.{ℕ, ◌+◌}
 use lib.ListN.{length, drop}
 use lib.Seq.{paste}
 use Rattle.image.specs.declared.answer.Side.TheVariants.{Left, Right}
-use Rattle.image.specs.declared.answer.Checked.{Checked}
-use Rattle.image.specs.declared.answer.Checked.TheVariants.{Accepted, Refused as CheckRefused}
-use Rattle.image.specs.Faults.{check_image}
+use Rattle.image.specs.Faults.{Checked, check_image}
+use Rattle.std.proofs.Common.{Ok, Err}
 use Rattle.session.specs.declared.frame.Frame.{Frame}
 use Rattle.session.specs.declared.frame.Frame.TheVariants.{Piece, Close, Compare, CompareRange, Write, Empty, Refused as BadFrame}
 use Rattle.session.specs.declared.reply.Reply.TheVariants.{Done, Refused}
@@ -44,8 +43,8 @@ unfolding close_side image_of
 close_sound store s sound = by_closed s.closed
   where
     by_check : (x : Checked) → check_image (image_of s store) ≡ x → Sound (closed_by x s.used).state store
-    by_check Accepted e = λ closed. e
-    by_check (CheckRefused f) e = open_sound emptied store refl
+    by_check (Ok _) e = λ closed. e
+    by_check (Err f) e = open_sound emptied store refl
 
     by_closed : (b : Bool) → Sound (cond b (side_stepped s (Refused 41)) (closed_by (check_image (image_of s store)) s.used)).state store
     by_closed true = sound

@@ -8,9 +8,8 @@ use lib.ListN.{length, drop}
 use lib.Seq.{paste}
 use Rattle.image.specs.declared.answer.Side.{Side}
 use Rattle.image.specs.declared.answer.Side.TheVariants.{Left, Right}
-use Rattle.image.specs.declared.answer.Checked.{Checked}
-use Rattle.image.specs.declared.answer.Checked.TheVariants.{Accepted, Refused as CheckRefused}
-use Rattle.image.specs.Faults.{check_image}
+use Rattle.image.specs.Faults.{Checked, check_image}
+use Rattle.std.proofs.Common.{Ok, Err}
 use Rattle.answers.specs.Answers.{write_answer, write_output}
 use Rattle.api.proofs.RefusedWrites.{refused_unwritten}
 use Rattle.session.specs.declared.frame.Frame.{Frame}
@@ -49,8 +48,8 @@ unfolding close_side
 close_refused store s = by_closed s.closed
   where
     by_check : (x : Checked) → refusal (closed_by x s.used).reply ≡ true → (closed_by x s.used).state ≡ emptied
-    by_check Accepted e = absurd (false≢true e)
-    by_check (CheckRefused f) e = refl
+    by_check (Ok _) e = absurd (false≢true e)
+    by_check (Err f) e = refl
 
     by_closed : (b : Bool) → refusal (cond b (side_stepped s (Refused 41)) (closed_by (check_image (image_of s store)) s.used)).reply ≡ true →
         (cond b (side_stepped s (Refused 41)) (closed_by (check_image (image_of s store)) s.used)).state ≡ cond b s emptied

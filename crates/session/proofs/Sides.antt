@@ -10,10 +10,9 @@ use lib.Dec.{ltb}
 use borrow.Author.Tests.{lt-ltb, le-ltb}
 use native.Mathlib.Omega.{arith}
 use Rattle.image.specs.declared.answer.Side.{Side}
-use Rattle.image.specs.declared.answer.Checked.{Checked}
-use Rattle.image.specs.declared.answer.Checked.TheVariants.{Accepted, Refused as CheckRefused}
+use Rattle.image.specs.Faults.{Checked, check_image}
+use Rattle.std.proofs.Common.{Ok, Err}
 use Rattle.image.specs.declared.answer.Fault.{Fault}
-use Rattle.image.specs.Faults.{check_image}
 use Rattle.session.specs.declared.frame.Frame.{Frame}
 use Rattle.session.specs.declared.frame.Frame.TheVariants.{Piece}
 use Rattle.session.specs.declared.reply.Reply.{Reply}
@@ -43,11 +42,11 @@ module _ (store : List ℕ) (s : SideState) (n : ℕ) (fills : n ≡ length (ima
   image_length = front_length n s.used store fills
 
   -- a close of an open side
-  pub close_accepts : (x : Checked) → s.closed ≡ false → x ≡ check_image (take n store) → x ≡ Accepted → side_stepped (side_state s.used true) Done ≡ close_side store s
+  pub close_accepts : (x : Checked) → s.closed ≡ false → x ≡ check_image (take n store) → x ≡ Ok tt → side_stepped (side_state s.used true) Done ≡ close_side store s
   unfolding close_side
   close_accepts x was e is = rw (← front_image, ← e, is, was)
 
-  pub close_refuses : (x : Checked) (f : Fault) → s.closed ≡ false → x ≡ check_image (take n store) → x ≡ CheckRefused f → side_stepped emptied (Faulty f) ≡ close_side store s
+  pub close_refuses : (x : Checked) (f : Fault) → s.closed ≡ false → x ≡ check_image (take n store) → x ≡ Err f → side_stepped emptied (Faulty f) ≡ close_side store s
   unfolding close_side
   close_refuses x f was e is = rw (← front_image, ← e, is, was)
 

@@ -1,30 +1,35 @@
 -- Replies: "One output line each, without spaces: 00, then 01 or 00 for yes or no, or the written bytes; or the refusal's
 -- byte, then for 10 to 18 the node as u16, for 21 the side."; 19 is as 18, "in the session too".
-use Rattle.std.specs.Prelude.{Bool, true, false, cond, List, [], ◌∷◌, ◌++◌, ℕ, ◌+◌, ◌/◌, ◌%◌, take, ltb}
+use Rattle.std.specs.Prelude.{Bool, true, false, cond, List, [], ◌∷◌, ◌++◌, ℕ, ◌+◌, ◌/◌, ◌%◌, take, ltb, Result, Ok, Err}
 use Rattle.image.specs.declared.answer.Side.{Side}
-use Rattle.answers.specs.declared.Compared.{Compared}
-use Rattle.answers.specs.declared.Compared.TheVariants.{Yes, No, Refused as CompareRefused, UnequalTypes, OutOfRange as RangeOut}
-use Rattle.answers.specs.declared.Written.{Written}
-use Rattle.answers.specs.declared.Written.TheVariants.{Bytes as Wrote, Refused as WriteRefused, OutOfRange as WriteOut, TooLong}
+use Rattle.answers.specs.declared.SideFault.{SideFault}
+use Rattle.answers.specs.declared.RangeRefusal.{RangeRefusal}
+use Rattle.answers.specs.declared.RangeRefusal.TheVariants.{Image as RangeImage, UnequalTypes, OutOfRange as RangeOut}
+use Rattle.answers.specs.declared.WriteRefusal.{WriteRefusal}
+use Rattle.answers.specs.declared.WriteRefusal.TheVariants.{Image as WriteImage, OutOfRange as WriteOut, TooLong}
 use Rattle.image.specs.Bytes.{number_bytes}
 use Rattle.answers.specs.Numbers.{side_number}
 use Rattle.session.specs.declared.reply.Reply.{Reply}
 use Rattle.session.specs.declared.reply.Reply.TheVariants.{Done, Answer, Bytes, Refused, Faulty, OutOfRange}
 
--- the reply to what a comparison answers
-abbrev pub compared_reply : Compared → Reply
-compared_reply Yes = Answer true
-compared_reply No = Answer false
-compared_reply (CompareRefused side f) = Faulty f
-compared_reply UnequalTypes = Refused 20
-compared_reply (RangeOut side) = OutOfRange side
+-- the reply to what a comparison of tables answers
+abbrev pub compared_reply : Result Bool SideFault → Reply
+compared_reply (Ok equal) = Answer equal
+compared_reply (Err e) = Faulty e.fault
+
+-- the reply to what a comparison of ranges answers
+abbrev pub ranges_reply : Result Bool RangeRefusal → Reply
+ranges_reply (Ok equal) = Answer equal
+ranges_reply (Err (RangeImage e)) = Faulty e.fault
+ranges_reply (Err UnequalTypes) = Refused 20
+ranges_reply (Err (RangeOut side)) = OutOfRange side
 
 -- the reply to what a write of a side's rows answers
-abbrev pub written_reply : Written → Side → Reply
-written_reply (Wrote n) side = Bytes n
-written_reply (WriteRefused f) side = Faulty f
-written_reply WriteOut side = OutOfRange side
-written_reply TooLong side = Refused 43
+abbrev pub written_reply : Result ℕ WriteRefusal → Side → Reply
+written_reply (Ok n) side = Bytes n
+written_reply (Err (WriteImage f)) side = Faulty f
+written_reply (Err WriteOut) side = OutOfRange side
+written_reply (Err TooLong) side = Refused 43
 
 abbrev pub agreed_byte : Bool → ℕ
 agreed_byte true = 1

@@ -1,6 +1,5 @@
 -- A session: "Both start empty and open", "One output line each".
-use Rattle.std.specs.Prelude.{◌≡◌, Bool, true, false, cond, List, [], ◌∷◌, ℕ}
-use Rattle.image.specs.declared.answer.Checked.TheVariants.{Accepted}
+use Rattle.std.specs.Prelude.{◌≡◌, Bool, true, false, cond, List, [], ◌∷◌, ℕ, Ok}
 use Rattle.image.specs.Faults.{check_image}
 use Rattle.session.specs.declared.frame.Frame.{Frame}
 use Rattle.session.specs.declared.frame.Frame.TheVariants.{Piece, Close, Compare, CompareRange, Write, Empty, Refused as BadFrame}
@@ -59,7 +58,7 @@ pub record Unchanged (line : List ℕ) (a : After) : Type 0 where
 
 -- a side that is closed holds an accepted image
 abbrev pub Sound : SideState → List ℕ → Type 0
-Sound s store = s.closed ≡ true → check_image (image_of s store) ≡ Accepted
+Sound s store = s.closed ≡ true → check_image (image_of s store) ≡ Ok tt
 
 pub record BothSound (a : After) : Type 0 where
   pub left : Sound a.stepped.state.left a.left

@@ -1,11 +1,9 @@
 -- What a line does: the reply, the state after it, both stores and the output, for every line and every state.
-use Rattle.std.specs.Prelude.{Bool, true, false, cond, ◌&&◌, List, ℕ, ◌+◌, length, take, drop, ltb}
+use Rattle.std.specs.Prelude.{Bool, true, false, cond, ◌&&◌, List, ℕ, ◌+◌, length, take, drop, ltb, Ok, Err}
 use Rattle.std.proofs.Math.Seq.{paste}
 use Rattle.image.specs.declared.answer.Side.{Side}
 use Rattle.image.specs.declared.answer.Side.TheVariants.{Left, Right}
-use Rattle.image.specs.declared.answer.Checked.{Checked}
-use Rattle.image.specs.declared.answer.Checked.TheVariants.{Accepted, Refused as CheckRefused}
-use Rattle.image.specs.Faults.{check_image}
+use Rattle.image.specs.Faults.{Checked, check_image}
 use Rattle.answers.specs.Answers.{compare_answer, compare_range_answer, write_answer, write_output}
 use Rattle.session.specs.declared.frame.Frame.{Frame}
 use Rattle.session.specs.declared.frame.Frame.TheVariants.{Piece, Close, Compare, CompareRange, Write, Empty, Refused as BadFrame}
@@ -17,7 +15,7 @@ use Rattle.session.specs.declared.step.SideStepped.{SideStepped}
 use Rattle.session.specs.declared.step.Stepped.{Stepped}
 use Rattle.session.specs.Lines.{bytes_of}
 use Rattle.session.specs.Frames.{frame_of}
-use Rattle.session.specs.Replies.{compared_reply, written_reply}
+use Rattle.session.specs.Replies.{compared_reply, ranges_reply, written_reply}
 
 abbrev pub side_state : ℕ → Bool → SideState
 side_state used closed = record { used = used; closed = closed }
@@ -52,8 +50,8 @@ piece_store store s bytes = cond s.closed store (cond (past_store store s bytes)
 
 -- "a close whose image is refused leaves its side so": empty and open
 abbrev pub closed_by : Checked → ℕ → SideStepped
-closed_by Accepted used = side_stepped (side_state used true) Done
-closed_by (CheckRefused f) used = side_stepped emptied (Faulty f)
+closed_by (Ok _) used = side_stepped (side_state used true) Done
+closed_by (Err f) used = side_stepped emptied (Faulty f)
 
 -- a close: 41 where the side is closed, then what the check answers
 unfoldable pub close_side : List ℕ → SideState → SideStepped
@@ -73,7 +71,7 @@ compares_reply left right state =
 
 unfoldable pub range_reply : List ℕ → List ℕ → State → ℕ → ℕ → ℕ → Reply
 range_reply left right state i j n =
-    let reply = compared_reply (compare_range_answer (image_of state.left left) (image_of state.right right) i j n) in
+    let reply = ranges_reply (compare_range_answer (image_of state.left left) (image_of state.right right) i j n) in
     both_closed state reply
 
 unfoldable pub write_reply : List ℕ → SideState → Side → ℕ → ℕ → List ℕ → Reply

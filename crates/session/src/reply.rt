@@ -1,12 +1,12 @@
 // Replies, and the line of characters that each is printed as.
 ghost use Rattle.std.specs.Prelude.{◌≡◌, ◌++◌, ◌+◌, ◌/◌, ◌%◌, ◌≤◌, length, take, drop};
 ghost use Rattle.answers.specs.Numbers.{side_number};
-ghost use Rattle.session.specs.Replies.{compared_reply, written_reply, agreed_byte, reply_bytes, digit_text, line_text, reply_line};
+ghost use Rattle.session.specs.Replies.{compared_reply, ranges_reply, written_reply, agreed_byte, reply_bytes, digit_text, line_text, reply_line};
 
 use crate::front::front;
 use crate::line::LINE_FEED;
 use crate::sizes::{LONGEST_REPLY, OUTPUT};
-use answers::{Compared, Written};
+use answers::{RangeRefusal, SideFault, WriteRefusal};
 use image::answer::{Fault, Side};
 
 #[derive(Clone, Copy)]
@@ -28,28 +28,37 @@ pub enum Reply {
 // A reply has at most so many bytes, of which an output has all but the first.
 const LONGEST_BYTES: usize = 65;
 
-// The reply to a comparison.
-pub fn compared_reply(answer: Compared) -> Reply
+// The reply to a comparison of tables.
+pub fn compared_reply(answer: Result<bool, SideFault>) -> Reply
     ensures { result ≡ compared_reply answer }
 {
     match answer {
-        Compared::Yes => Reply::Answer(true),
-        Compared::No => Reply::Answer(false),
-        Compared::Refused(side, fault) => Reply::Faulty(fault),
-        Compared::UnequalTypes => Reply::Refused(20),
-        Compared::OutOfRange(side) => Reply::OutOfRange(side),
+        Ok(equal) => Reply::Answer(equal),
+        Err(refusal) => Reply::Faulty(refusal.fault),
+    }
+}
+
+// The reply to a comparison of ranges of rows.
+pub fn ranges_reply(answer: Result<bool, RangeRefusal>) -> Reply
+    ensures { result ≡ ranges_reply answer }
+{
+    match answer {
+        Ok(equal) => Reply::Answer(equal),
+        Err(RangeRefusal::Image(refusal)) => Reply::Faulty(refusal.fault),
+        Err(RangeRefusal::UnequalTypes) => Reply::Refused(20),
+        Err(RangeRefusal::OutOfRange(side)) => Reply::OutOfRange(side),
     }
 }
 
 // The reply to a write of rows of a side.
-pub fn written_reply(answer: Written, side: Side) -> Reply
+pub fn written_reply(answer: Result<usize, WriteRefusal>, side: Side) -> Reply
     ensures { result ≡ written_reply answer side }
 {
     match answer {
-        Written::Bytes(n) => Reply::Bytes(n),
-        Written::Refused(fault) => Reply::Faulty(fault),
-        Written::OutOfRange => Reply::OutOfRange(side),
-        Written::TooLong => Reply::Refused(43),
+        Ok(n) => Reply::Bytes(n),
+        Err(WriteRefusal::Image(fault)) => Reply::Faulty(fault),
+        Err(WriteRefusal::OutOfRange) => Reply::OutOfRange(side),
+        Err(WriteRefusal::TooLong) => Reply::Refused(43),
     }
 }
 

@@ -5,10 +5,10 @@ ghost use Rattle.session.specs.Steps.{emptied, start_state, image_of, piece_side
 use crate::frame::{Frame, parse};
 use crate::front::front;
 use crate::line::{LONGEST_FRAME, decode};
-use crate::reply::{Reply, compared_reply, written_reply};
+use crate::reply::{Reply, compared_reply, ranges_reply, written_reply};
 use crate::sizes::OUTPUT;
 use api::{check, compare, compare_range, write};
-use image::answer::{Checked, Side};
+use image::answer::Side;
 
 // One side: how much of its store is used, and whether it is closed.
 #[derive(Clone, Copy)]
@@ -115,14 +115,14 @@ fn close(store: &[u8], side_state: SideState) -> SideStepped
     }
     let end = filled(store, side_state);
     match check(&store[..end]) {
-        Checked::Accepted => SideStepped {
+        Ok(()) => SideStepped {
             state: SideState {
                 used: side_state.used,
                 closed: true,
             },
             reply: Reply::Done,
         },
-        Checked::Refused(fault) => SideStepped {
+        Err(fault) => SideStepped {
             state: opened(),
             reply: Reply::Faulty(fault),
         },
@@ -160,7 +160,7 @@ fn compare_ranges(left: &[u8], right: &[u8], state: State, i: usize, j: usize, n
     }
     let a = filled(left, state.left);
     let b = filled(right, state.right);
-    compared_reply(compare_range(&left[..a], &right[..b], i, j, n))
+    ranges_reply(compare_range(&left[..a], &right[..b], i, j, n))
 }
 
 // A write of rows of a side: 42 where it is open.

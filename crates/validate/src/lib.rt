@@ -22,7 +22,7 @@ ghost use Rattle.validate.specs.Walks.{Walks, FirstFaulty};
 use buffers::{fault_14, fault_15};
 use children::fault_16;
 use codes::fault_11;
-use image::answer::{Checked, Fault};
+use image::answer::Fault;
 use image::record::{HEADER_SIZE, LONGEST_IMAGE, Node, buffer_total, node_count, tables_end};
 use names::fault_13;
 use offsets::fault_17;
@@ -99,11 +99,11 @@ fn first_faulty(image: &[u8], number: u8, start: Walk) -> Option<u16>
 }
 
 // The image check.
-pub fn check(image: &[u8]) -> Checked
+pub fn check(image: &[u8]) -> Result<(), Fault>
     ensures { result ≡ check_image image.now }
 {
     if fault_10(image) {
-        return Checked::Refused(Fault {
+        return Err(Fault {
             number: 10,
             node: 0,
         });
@@ -111,8 +111,8 @@ pub fn check(image: &[u8]) -> Checked
     let start = Walk::start(image);
     for number in FIRST_NUMBER..NUMBERS_END {
         if let Some(node) = first_faulty(image, number, start) {
-            return Checked::Refused(Fault { number, node });
+            return Err(Fault { number, node });
         }
     }
-    Checked::Accepted
+    Ok(())
 }

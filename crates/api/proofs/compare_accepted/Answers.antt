@@ -11,4 +11,4 @@ pub equal_range-requires : goal.equal_range-requires
 equal_range-requires c = whole_sides _ _ _ c.requires (sym c.base_equal.ensures ∙ c.if-not-base_equal.false) c.length-rows.ensures.value
 
 pub returns : goal.returns
-returns c = compare_rows _ _ (sym c.base_equal.ensures ∙ c.if-not-base_equal.false) c.length-rows.ensures.value c.equal_range.ensures c.yes_or_no.ensures
+returns c = compare_rows _ _ (sym c.base_equal.ensures ∙ c.if-not-base_equal.false) c.length-rows.ensures.value c.equal_range.ensures

@@ -1,20 +1,27 @@
--- The answer is the range comparison's: a refusal, unequal types, or what follows.
--- By the variants of what the two images are.
+-- The answer is the range comparison's: a refusal, or whether the rows are equal.
+-- By rewriting with what the callees give.
 use mathlib.Core.Path.{sym, ◌∙◌}
+use Rattle.std.proofs.lemmas.Result.{err_from_is_err_and}
 use Rattle.answers.specs.Answers.{compare_range_answer}
+use Rattle.equal.proofs.Types.{table_answer}
+use Rattle.api.proofs.Answers.{range_sides}
 use Rattle.api.proofs.compare_range.Goals as goal
 
-pub compare_agreed-requires : goal.compare_agreed-requires
-compare_agreed-requires c = sym c.paired-both.ensures ∙ c.in-Agreed.is
-
-pub returns-in-Refused : goal.returns-in-Refused
+pub returns-in_err-paired : goal.returns-in_err-paired
 unfolding compare_range_answer
-returns-in-Refused c = rw (← c.paired-both.ensures, c.in-Refused.is)
+returns-in_err-paired c =
+    let p = err_from_is_err_and c.from_residual.result c.from_residual.ensures.1 in
+    rw (p.1, p.2, ← c.paired.ensures, c.in_err-paired.was)
 
-pub returns-in-UnequalTypes : goal.returns-in-UnequalTypes
+pub returns-in_err-bounds_of : goal.returns-in_err-bounds_of
 unfolding compare_range_answer
-returns-in-UnequalTypes c = rw (← c.paired-both.ensures, c.in-UnequalTypes.is)
+returns-in_err-bounds_of c =
+    let p = err_from_is_err_and c.from_residual-in_err-bounds_of.result c.from_residual-in_err-bounds_of.ensures.1 in
+    rw (p.1, p.2, ← c.paired.ensures, c.in_ok-paired.was, ← c.bounds_of.ensures, c.in_err-bounds_of.was)
 
-pub returns-in-Agreed : goal.returns-in-Agreed
+pub equal_range-requires : goal.equal_range-requires
+equal_range-requires c = range_sides _ _ _ _ _ (sym c.paired.ensures ∙ c.in_ok-paired.was) (sym c.bounds_of.ensures ∙ c.in_ok-bounds_of.was)
+
+pub returns : goal.returns
 unfolding compare_range_answer
-returns-in-Agreed c = rw (← c.paired-both.ensures, c.in-Agreed.is) c.compare_agreed.ensures
+returns c = rw (← c.paired.ensures, c.in_ok-paired.was, ← c.bounds_of.ensures, c.in_ok-bounds_of.was, ← table_answer _ _ _ _ _, ← c.equal_range.ensures)

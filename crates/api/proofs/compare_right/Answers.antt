@@ -4,11 +4,8 @@ use mathlib.Core.Path.{sym, ◌∙◌}
 use Rattle.api.proofs.Answers.{compare_right, compare_both}
 use Rattle.api.proofs.compare_right.Goals as goal
 
-pub compare_accepted-requires : goal.compare_accepted-requires
-compare_accepted-requires c = (c.requires, sym c.check-checked.ensures ∙ c.in_default.is)
-
 pub returns-in_default : goal.returns-in_default
 returns-in_default c = compare_both _ _ c.requires (sym c.check-checked.ensures ∙ c.in_default.is) c.compare_accepted.ensures
 
 pub returns : goal.returns
-returns c = compare_right _ _ c.requires (sym c.check-checked.ensures ∙ c.in-Refused.is)
+returns c = compare_right _ _ c.requires (sym c.check-checked.ensures ∙ c.in-Err.is)

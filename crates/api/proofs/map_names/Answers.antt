@@ -1,16 +1,15 @@
 -- The answer is that of the query: the check's refusal, or whether the Maps have their names.
--- By the variants of the check's answer.
+-- By rewriting with what the callees give.
+use Rattle.std.proofs.lemmas.Result.{err_from_is_err_and}
 use Rattle.answers.specs.Answers.{map_names_answer}
 use Rattle.api.proofs.map_names.Goals as goal
 
-pub returns-in-Refused : goal.returns-in-Refused
+pub returns-in_err-check : goal.returns-in_err-check
 unfolding map_names_answer
-returns-in-Refused c = rw (← c.check-checked.ensures, c.in-Refused.is)
+returns-in_err-check c =
+    let p = err_from_is_err_and c.from_residual.result c.from_residual.ensures.1 in
+    rw (p.1, p.2, ← c.check.ensures, c.in_err-check.was)
 
-pub returns-then-maps_named : goal.returns-then-maps_named
+pub returns : goal.returns
 unfolding map_names_answer
-returns-then-maps_named c = rw (← c.check-checked.ensures, c.in_default.is, ← c.maps_named.ensures, c.if-maps_named.true)
-
-pub returns-else-maps_named : goal.returns-else-maps_named
-unfolding map_names_answer
-returns-else-maps_named c = rw (← c.check-checked.ensures, c.in_default.is, ← c.maps_named.ensures, c.if-maps_named.false)
+returns c = rw (← c.check.ensures, c.in_ok-check.was, ← c.maps_named.ensures)

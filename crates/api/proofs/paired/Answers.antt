@@ -1,17 +1,26 @@
 -- The answer is what the two images are.
--- By the laws of the answers from what the callees give.
-use mathlib.Core.Path.{sym, ◌∙◌}
-use Rattle.api.proofs.Answers.{paired_left, paired_right, paired_unequal, paired_agreed}
+-- By rewriting with what the callees give.
+use Rattle.std.proofs.lemmas.Result.{err_from_is_err_and}
+use Rattle.answers.specs.Answers.{paired_of}
+use Rattle.image.specs.Types.{types_agree}
 use Rattle.api.proofs.paired.Goals as goal
 
-pub returns-in-Refused : goal.returns-in-Refused
-returns-in-Refused c = paired_left _ _ (sym c.check-first.ensures ∙ c.in-Refused.is)
+pub returns-in_err-check_side : goal.returns-in_err-check_side
+unfolding paired_of
+returns-in_err-check_side c =
+    let p = err_from_is_err_and c.from_residual.result c.from_residual.ensures.1 in
+    rw (p.1, p.2, ← c.check_side.ensures, c.in_err-check_side.was)
 
-pub returns-in-Refused-second : goal.returns-in-Refused-second
-returns-in-Refused-second c = paired_right _ _ (sym c.check-first.ensures ∙ c.in_default.is) (sym c.check-second.ensures ∙ c.in-Refused-second.is)
+pub returns-in_err-check_side-2 : goal.returns-in_err-check_side-2
+unfolding paired_of
+returns-in_err-check_side-2 c =
+    let p = err_from_is_err_and c.from_residual-in_err-check_side-2.result c.from_residual-in_err-check_side-2.ensures.1 in
+    rw (p.1, p.2, ← c.check_side.ensures, c.in_ok-check_side.was, ← c.check_side-2.ensures, c.in_err-check_side-2.was)
 
 pub returns-then-not-types_equal : goal.returns-then-not-types_equal
-returns-then-not-types_equal c = paired_unequal _ _ (sym c.check-first.ensures ∙ c.in_default.is) (sym c.check-second.ensures ∙ c.in_default-second.is) (sym c.types_equal.ensures ∙ c.if-not-types_equal.true)
+unfolding paired_of types_agree
+returns-then-not-types_equal c = rw (← c.check_side.ensures, c.in_ok-check_side.was, ← c.check_side-2.ensures, c.in_ok-check_side-2.was, ← c.types_equal.ensures, c.if-not-types_equal.true)
 
 pub returns : goal.returns
-returns c = paired_agreed _ _ (sym c.check-first.ensures ∙ c.in_default.is) (sym c.check-second.ensures ∙ c.in_default-second.is) (sym c.types_equal.ensures ∙ c.if-not-types_equal.false)
+unfolding paired_of types_agree
+returns c = rw (← c.check_side.ensures, c.in_ok-check_side.was, ← c.check_side-2.ensures, c.in_ok-check_side-2.was, ← c.types_equal.ensures, c.if-not-types_equal.false)

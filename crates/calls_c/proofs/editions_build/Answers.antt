@@ -4,7 +4,7 @@ use Rattle.answers.proofs.Values.{built_small}
 use Rattle.calls_c.proofs.editions_build.Goals as goal
 
 pub pack-requires : goal.pack-requires
-pack-requires c = rw c.built_numbers.ensures (built_small _ _ _ _ c.build.ensures.value)
+pack-requires c = built_small _ _ _ _ c.build.ensures.value
 
 pub returns : goal.returns
-returns c = record { value = rw (← c.build.ensures.value, ← c.built_numbers.ensures) c.pack.ensures; out_after = c.build.ensures.out_after }
+returns c = record { value = rw (← c.build.ensures.value) c.pack.ensures; out_after = c.build.ensures.out_after }

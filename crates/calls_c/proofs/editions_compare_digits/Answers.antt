@@ -4,7 +4,7 @@ use Rattle.answers.proofs.Values.{digits_small}
 use Rattle.calls_c.proofs.editions_compare_digits.Goals as goal
 
 pub pack-requires : goal.pack-requires
-pack-requires c = rw c.digits_numbers.ensures (digits_small c.compare_digits.result)
+pack-requires c = digits_small c.compare_digits.result
 
 pub returns : goal.returns
-returns c = rw (← c.compare_digits.ensures, ← c.digits_numbers.ensures) c.pack.ensures
+returns c = rw (← c.compare_digits.ensures) c.pack.ensures

@@ -4,11 +4,8 @@ use Rattle.answers.proofs.Values.{difference_small}
 use native.Mathlib.Omega.{arith}
 use Rattle.calls_c.proofs.editions_first_difference.Goals as goal
 
-pub difference_numbers-requires : goal.difference_numbers-requires
-difference_numbers-requires c = difference_small _ _ _ _ _ c.first_difference.ensures (omega arith)
-
 pub pack-requires : goal.pack-requires
-pack-requires c = rw c.difference_numbers.ensures (difference_small _ _ _ _ _ c.first_difference.ensures (omega arith))
+pack-requires c = difference_small _ _ _ _ _ c.first_difference.ensures (omega arith)
 
 pub returns : goal.returns
-returns c = rw (← c.first_difference.ensures, ← c.difference_numbers.ensures) c.pack.ensures
+returns c = rw (← c.first_difference.ensures) c.pack.ensures

@@ -4,7 +4,7 @@ use Rattle.answers.proofs.Values.{map_names_small}
 use Rattle.calls_c.proofs.editions_map_names.Goals as goal
 
 pub pack-requires : goal.pack-requires
-pack-requires c = rw c.map_names_numbers.ensures (map_names_small c.map_names.result)
+pack-requires c = map_names_small c.map_names.result
 
 pub returns : goal.returns
-returns c = rw (← c.map_names.ensures, ← c.map_names_numbers.ensures) c.pack.ensures
+returns c = rw (← c.map_names.ensures) c.pack.ensures

@@ -4,7 +4,7 @@ use Rattle.answers.proofs.Values.{checked_small}
 use Rattle.editions_c.proofs.editions_check.Goals as goal
 
 pub pack-requires : goal.pack-requires
-pack-requires c = rw c.checked_numbers.ensures (checked_small c.check.result)
+pack-requires c = checked_small c.check.result
 
 pub returns : goal.returns
-returns c = rw (← c.check.ensures, ← c.checked_numbers.ensures) c.pack.ensures
+returns c = rw (← c.check.ensures) c.pack.ensures

@@ -4,7 +4,7 @@ use Rattle.answers.proofs.Values.{compared_small}
 use Rattle.editions_c.proofs.editions_compare.Goals as goal
 
 pub pack-requires : goal.pack-requires
-pack-requires c = rw c.compared_numbers.ensures (compared_small c.compare.result)
+pack-requires c = compared_small c.compare.result
 
 pub returns : goal.returns
-returns c = rw (← c.compare.ensures, ← c.compared_numbers.ensures) c.pack.ensures
+returns c = rw (← c.compare.ensures) c.pack.ensures

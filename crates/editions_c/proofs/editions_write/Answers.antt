@@ -9,7 +9,7 @@ pub slice_bounds-write-end-2 : goal.slice_bounds-write-end-2
 slice_bounds-write-end-2 c = simp length-take (omega (arith, c.used_length-end.ensures))
 
 pub pack-requires : goal.pack-requires
-pack-requires c = rw c.written_numbers.ensures (lent_small _ _ _ _ c.used_length-end.ensures c.write.ensures.value)
+pack-requires c = lent_small _ _ _ _ c.used_length-end.ensures c.write.ensures.value
 
 pub returns : goal.returns
-returns c = record { value = rw (← lent_used _ c.used_length-end.ensures, ← c.write.ensures.value, ← c.written_numbers.ensures) c.pack.ensures; out_after = lent_output _ _ _ _ c.used_length-end.ensures c.write.ensures.out_after }
+returns c = record { value = rw (← lent_used _ c.used_length-end.ensures, ← c.write.ensures.value) c.pack.ensures; out_after = lent_output _ _ _ _ c.used_length-end.ensures c.write.ensures.out_after }

@@ -1,10 +1,8 @@
 -- The length that is lent is the buffer's, or the most that can be answered.
--- By the test.
-use Rattle.editions_c.proofs.Outputs.{short_used, long_used}
+-- By the contract of the smaller of the two.
+use Rattle.editions_c.specs.Outputs.{most}
 use Rattle.editions_c.proofs.used_length.Goals as goal
 
-pub returns-then-n-lt-LONGEST_OUTPUT : goal.returns-then-n-lt-LONGEST_OUTPUT
-returns-then-n-lt-LONGEST_OUTPUT c = short_used _ c.if-n-lt-LONGEST_OUTPUT.true
-
-pub returns-else-n-lt-LONGEST_OUTPUT : goal.returns-else-n-lt-LONGEST_OUTPUT
-returns-else-n-lt-LONGEST_OUTPUT c = long_used _ c.if-n-lt-LONGEST_OUTPUT.false
+pub returns : goal.returns
+unfolding most
+returns c = c.min.ensures

@@ -6,7 +6,7 @@ use mathlib.Core.List.{List}
 use Prim.Native.Nat.{suc}
 use lib.Dec.{ltb}
 use borrow.Author.Tests.{lt-ltb, le-ltb}
-use Rattle.image.specs.declared.answer.Checked.TheVariants.{Accepted, Refused}
+use Rattle.std.proofs.Common.{Ok, Err}
 use Rattle.image.specs.Record.{node_count}
 use Rattle.image.specs.Faults.{first_faulty, numbers_end, check_from, check_image}
 use Rattle.laws.proofs.NoneBelow.{none_yet, none_more}
@@ -21,7 +21,7 @@ left-all : (s : List ℕ) → Left s 11
 left-all s = record { within = omega arith; same = refl }
 
 turn : (s : List ℕ) (number : ℕ) → number < numbers_end
-    → check_from (numbers_end - number) number s ≡ cond (ltb (first_faulty number s) (node_count s)) (Refused (record { number = number; node = first_faulty number s })) (check_from (numbers_end - (number + 1)) (number + 1) s)
+    → check_from (numbers_end - number) number s ≡ cond (ltb (first_faulty number s) (node_count s)) (Err (record { number = number; node = first_faulty number s })) (check_from (numbers_end - (number + 1)) (number + 1) s)
 unfolding check_from
 turn s number lt =
     let e : numbers_end - number ≡ suc (numbers_end - (number + 1)) = omega arith in
@@ -30,13 +30,13 @@ turn s number lt =
 
 module _ {s : List ℕ} {number : ℕ} (l : Left s number) where
   module _ (lt : number < numbers_end) where
-    found : {k : ℕ} → FirstFaulty number s (Some k) → Refused (record { number = number; node = k }) ≡ check_from (numbers_end - 11) 11 s
+    found : {k : ℕ} → FirstFaulty number s (Some k) → Err (record { number = number; node = k }) ≡ check_from (numbers_end - 11) 11 s
     found f = sym (l.same ∙ turn s number lt ∙ rw (← f.0, lt-ltb _ _ f.1))
 
     left_more : node_count s ≤ first_faulty number s → Left s (number + 1)
     left_more none = record { within = omega arith; same = l.same ∙ turn s number lt ∙ rw (le-ltb _ _ none) }
 
-  accepted : numbers_end ≤ number → Accepted ≡ check_from (numbers_end - 11) 11 s
+  accepted : numbers_end ≤ number → Ok tt ≡ check_from (numbers_end - 11) 11 s
   unfolding check_from
   accepted h =
       let e : numbers_end - number ≡ 0 = omega arith in

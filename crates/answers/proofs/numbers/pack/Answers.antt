@@ -1,29 +1,15 @@
 -- The number is the answer's: a refusal's parts stand above each other, and a value has 56 bits.
 -- By the test, in numbers.
+use mathlib.Core.Path.{refl}
 use borrow.Author.Tests.{eq-eqb, ne_eqb}
 use Rattle.answers.specs.Numbers.{packed}
 use native.Mathlib.Omega.{arith}
 use Rattle.answers.proofs.numbers.pack.Goals as goal
 
-pub overflow_mul-result : goal.overflow_mul-result
-overflow_mul-result c = omega arith
-
-pub returns-then-number-eq0 : goal.returns-then-number-eq0
+pub returns-then-n-eq0 : goal.returns-then-n-eq0
 unfolding packed
-returns-then-number-eq0 c = rw (eq-eqb _ _ c.if-number-eq0.true) (omega arith)
-
-pub overflow_mul-result-2 : goal.overflow_mul-result-2
-overflow_mul-result-2 c = omega arith
-
-pub overflow_add-result : goal.overflow_add-result
-overflow_add-result c = omega arith
-
-pub overflow_mul-result-3 : goal.overflow_mul-result-3
-overflow_mul-result-3 c = omega arith
-
-pub overflow_add-result-2 : goal.overflow_add-result-2
-overflow_add-result-2 c = omega arith
+returns-then-n-eq0 g c = rw (← c.answer_numbers-n.ensures, eq-eqb _ _ c.if-n-eq0.true) refl
 
 pub returns : goal.returns
 unfolding packed
-returns c = rw (ne_eqb _ _ c.if-number-eq0.false) (omega arith)
+returns g c = rw (← c.answer_numbers-n.ensures, ne_eqb _ _ c.if-n-eq0.false) (omega arith)

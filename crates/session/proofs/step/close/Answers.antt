@@ -11,8 +11,8 @@ returns-then-side_state c = rw c.if-side_state.true
 pub slice_bounds-check-end : goal.slice_bounds-check-end
 slice_bounds-check-end c = image_length _ _ _ c.filled-end.ensures
 
-pub returns-in-Accepted : goal.returns-in-Accepted
-returns-in-Accepted c = close_accepts _ c.args.side_state _ c.filled-end.ensures _ c.if-side_state.false c.check.ensures c.in-Accepted.is
+pub returns-in-Ok : goal.returns-in-Ok
+returns-in-Ok c = close_accepts _ c.args.side_state _ c.filled-end.ensures _ c.if-side_state.false c.check.ensures c.in-Ok.is
 
-pub returns-in-Refused : goal.returns-in-Refused
-returns-in-Refused c = rw c.opened.ensures (close_refuses _ c.args.side_state _ c.filled-end.ensures _ _ c.if-side_state.false c.check.ensures c.in-Refused.is)
+pub returns-in-Err : goal.returns-in-Err
+returns-in-Err c = rw c.opened.ensures (close_refuses _ c.args.side_state _ c.filled-end.ensures _ _ c.if-side_state.false c.check.ensures c.in-Err.is)

@@ -17,4 +17,4 @@ slice_bounds-compare_range-end-2 c = image_length _ _ _ c.filled-b.ensures
 
 pub returns : goal.returns
 unfolding range_reply
-returns c = c.compared_reply.ensures ∙ rw (c.compare_range.ensures, front_image _ _ _ c.filled-a.ensures, front_image _ _ _ c.filled-b.ensures) (both_closed_lem _ _ c.both_closed.ensures (c.if-not-both_closed.false))
+returns c = c.ranges_reply.ensures ∙ rw (c.compare_range.ensures, front_image _ _ _ c.filled-a.ensures, front_image _ _ _ c.filled-b.ensures) (both_closed_lem _ _ c.both_closed.ensures (c.if-not-both_closed.false))
