@@ -85,7 +85,7 @@ pub of_others : (code : ℕ) (x : List ℕ) → (code ≡ 26 → ⊥) → (code 
 of_others code x not-utf8 not-large = rw (ne_eqb code 26 not-utf8, ne_eqb code 28 not-large)
 
 -- the text of node k at a place, whose length n stands there
-module _ (code k : ℕ) (b : List ℕ) (at : ℕ) {table before : List ℕ} (begun : Begun b at table before) where
+module _ (code k : ℕ) (b : List ℕ) (at : ℕ) {before : List ℕ} (begun : Begun b at before) where
   text_stop : text_in code (drop at b) ≡ failed → Scans b at 0 (text_in code (drop at b)) (sized_adds k) before before not_rows
   text_stop e = stopped refl begun.short e
 

@@ -1,35 +1,22 @@
 -- Bytes and numbers that are read at a place of a string.
 -- Where they lie inside, what follows stands behind them; where they do not, the reader fails.
-use mathlib.Core.Path.{◌≡◌, refl, sym, ap, ◌∙◌}
-use mathlib.Core.List.{List, ◌++◌}
+use mathlib.Core.Path.{◌≡◌, refl}
+use mathlib.Core.List.{List}
 use Prim.Native.Nat.{ℕ, ◌+◌, ◌-◌, ◌≤◌, ◌<◌}
 use native.Mathlib.Omega.{arith}
-use lib.ListN.{length, take, drop, length-drop, take-append-drop}
-use lib.Seq.{drop-drop, length-take-le}
+use lib.ListN.{length, drop, length-drop}
+use lib.Seq.{drop-drop}
 use borrow.Author.Tests.{lt-ltb, le-ltb}
 use Rattle.image.specs.Bytes.{number_at, bytes_at}
 use Rattle.image.specs.Parse.{failed, parsed, bytes_in, number_in}
-use Rattle.built.proofs.Regions.{PartOf, part_whole}
-
--- the bytes at a place are the front of what stands there
-bytes_taken : (n at : ℕ) (b : List ℕ) → at + n ≤ length b → take n (drop at b) ≡ bytes_at b at n
-bytes_taken n at b le =
-    let rest = drop at b in
-    let long : length (take n (drop at b)) ≡ n = length-take-le n (drop at b) (omega (arith, length-drop at b)) in
-    let part : PartOf b at (take n (drop at b)) = record {
-      before = take at b;
-      after = drop n (drop at b);
-      whole = sym (ap (λ (x : List ℕ). take at b ++ x) (take-append-drop n (drop at b)) ∙ take-append-drop at b);
-      start = length-take-le at b (omega arith);
-    } in
-    sym (rw long at (part_whole part))
+use Rattle.utf8.proofs.Slices.{bytes_taken}
 
 module _ (n at : ℕ) (b : List ℕ) where
   pub bytes_here : at + n ≤ length b → bytes_in n (drop at b) ≡ parsed (bytes_at b at n) (drop (at + n) b)
   unfolding bytes_in
   bytes_here le =
       let inside : n ≤ length (drop at b) = omega (arith, length-drop at b) in
-      rw (le-ltb (length (drop at b)) n inside, bytes_taken n at b le, drop-drop n at b)
+      rw (le-ltb (length (drop at b)) n inside, bytes_taken b at n le, drop-drop n at b)
 
   pub bytes_short : length b - at < n → bytes_in n (drop at b) ≡ failed
   unfolding bytes_in

@@ -28,7 +28,7 @@ other_mark bitmap value (suc zero) rest no-null no_value = absurd (no_value refl
 other_mark bitmap value (suc (suc x)) rest no-null no_value = refl
 
 -- a row of node k at a place
-module _ (d : ℕ) (s : List ℕ) (k : ℕ) (b : List ℕ) (at : ℕ) {table before : List ℕ} (begun : Begun b at table before) where
+module _ (d : ℕ) (s : List ℕ) (k : ℕ) (b : List ℕ) (at : ℕ) {before : List ℕ} (begun : Begun b at before) where
   row_stop : row_in d s k (drop at b) ≡ failed → Scans b at 1 (row_in d s k (drop at b)) (row_adds d s k) before before not_rows
   row_stop e = stopped refl begun.short e
 
@@ -104,7 +104,7 @@ rows_many row (suc n) x rs rest e =
     rw (← m.2) (ap suc (rows_many row n t.1 m.0 rest m.1))
 
 -- the list of node k at a place, whose count n stands there
-module _ (d : ℕ) (s : List ℕ) (k : ℕ) (b : List ℕ) (at : ℕ) {table before : List ℕ} (begun : Begun b at table before) where
+module _ (d : ℕ) (s : List ℕ) (k : ℕ) (b : List ℕ) (at : ℕ) {before : List ℕ} (begun : Begun b at before) where
   pub list_short : length b - at < 4 → Scans b at 0 (list_in (row_in d s (first_child s k)) (drop at b)) (counted_adds d s k) before before not_rows
   unfolding list_in
   list_short lt = stopped refl begun.short (rw (number_short at b lt))

@@ -10,11 +10,10 @@ use Rattle.image.specs.Parse.{Parsed, failed, made, row_then}
 use Rattle.parse.specs.Scan.{Begun, Reached, Scans}
 
 -- A scan may begin where another came to.
-pub begun_at : {b table spans : List ℕ} {at : ℕ} (next : ℕ) → Begun b at table spans → at ≤ next → next ≤ length b → Begun b next table spans
+pub begun_at : {b spans : List ℕ} {at : ℕ} (next : ℕ) → Begun b at spans → at ≤ next → next ≤ length b → Begun b next spans
 begun_at next h later inside = record {
   inside = inside;
   short = h.short;
-  states = h.states;
   sized = h.sized;
   low = λ j lt. omega (arith, h.low j lt);
 }
@@ -27,11 +26,10 @@ module _ {A : Type 0} {b : List ℕ} {at m : ℕ} {p : Parsed A} {adds : A → �
   reached sized r = record { sized = sized; stops = λ lt. absurd (omega (arith, r.inside)); goes = λ le. r }
 
   -- the spans stay below the place
-  pub begun_next : {table : List ℕ} {next : ℕ} → Begun b at table before → length after ≡ length before → Reached b at m p adds before after next → Begun b next table after
+  pub begun_next : {next : ℕ} → Begun b at before → length after ≡ length before → Reached b at m p adds before after next → Begun b next after
   begun_next h sized r = record {
     inside = r.inside;
     short = h.short;
-    states = h.states;
     sized = sized ∙ h.sized;
     low = λ j lt. omega (arith, h.low j lt, r.spans j lt, r.took j);
   }

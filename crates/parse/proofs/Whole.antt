@@ -15,7 +15,6 @@ use Rattle.std.proofs.Common.{Ok}
 use Rattle.image.specs.Faults.{check_image}
 use Rattle.image.specs.Bytes.{AllBytes}
 use Rattle.image.specs.Row.{Rows}
-use Rattle.image.specs.Utf8.{next_states}
 use Rattle.image.specs.Parse.{parsed, readable, rows_of, row_in, rows_in}
 use Rattle.laws.proofs.Accepted.{accepted}
 use Rattle.built.proofs.Parsed.{failed_not}
@@ -30,13 +29,12 @@ root_within s e =
     record { image = image; node = omega (arith, image.tables.some_nodes) }
 
 -- all spans are 0 at first
-pub begun_first : (b table spans : List ℕ) → length b < not_rows → table ≡ next_states → spans ≡ replicate 256 0 → Begun b 0 table spans
-begun_first b table spans short states zeros =
+pub begun_first : (b spans : List ℕ) → length b < not_rows → spans ≡ replicate 256 0 → Begun b 0 spans
+begun_first b spans short zeros =
     rw zeros
     (record {
       inside = omega arith;
       short = short;
-      states = states;
       sized = length-replicate {A = ℕ} 256 0;
       low = λ j lt. omega (arith, get_or-replicate {A = ℕ} 256 j 0 0 lt);
     })

@@ -6,7 +6,6 @@ use Rattle.image.specs.Record.{node_count, first_child}
 use Rattle.image.specs.TypeCode.{entry_of}
 use Rattle.image.specs.Row.{Row, Rows}
 use Rattle.image.specs.RowBytes.{count}
-use Rattle.image.specs.Utf8.{next_states}
 use Rattle.image.specs.Parse.{Parsed, failed, parsed, and_then, bytes_in, number_in, rows_of, checked_text}
 use Rattle.image.specs.Built.{from_each}
 use Rattle.laws.specs.Accepted.{AcceptedImage}
@@ -56,10 +55,9 @@ pub record Within (s : List ℕ) (k : ℕ) : Type 0 where
   pub node : k < node_count s
 
 -- A scan begins at a place inside the string b. No node's span is more than the bytes before it.
-pub record Begun (b : List ℕ) (at : ℕ) (table spans : List ℕ) : Type 0 where
+pub record Begun (b : List ℕ) (at : ℕ) (spans : List ℕ) : Type 0 where
   pub inside : at ≤ length b
   pub short : length b < not_rows
-  pub states : table ≡ next_states
   pub sized : length spans ≡ 256
   pub low : (j : ℕ) → j < 256 → get_or spans j 0 ≤ at
 

@@ -1,14 +1,12 @@
 // The values that have no child: read at a place of the string, up to the place behind them.
 ghost use Rattle.std.specs.Prelude.{◌≡◌, ◌+◌, ◌≤◌, ◌<◌, length, get_or, drop};
-ghost use Rattle.image.specs.Bytes.{bytes_at};
-ghost use Rattle.image.specs.Utf8.{next_states};
 ghost use Rattle.image.specs.Parse.{bytes_in};
 ghost use Rattle.built.specs.Typed.{text_fits};
 ghost use Rattle.parse.specs.Scan.{not_rows, plain_width, boolean_in, text_in, sized_adds, Begun, Scans, Leaves, Grown};
 
 use image::bytes::quad;
 use image::type_code::TypeCode;
-use utf8::is_text;
+use utf8::is_utf8;
 
 // What a scan answers where the string does not go on so. No place in a string is that far; a number that is kept in a register
 // takes less time than an enum.
@@ -59,13 +57,12 @@ pub(crate) fn scan_bytes(b: &[u8], at: usize, w: usize) -> usize
     at + w
 }
 
-// The n bytes at a place are a text that the code allows: well-formed where it is one of characters.
-fn is_allowed(code: u8, table: &[u8; 2304], b: &[u8], at: usize, n: usize) -> bool
-    requires { (at + n ≤ length b.now) × (table.now ≡ next_states) }
-    ensures { result ≡ text_fits code (bytes_at b.now at n) }
+// The text is one that the code allows: well-formed where it is one of characters.
+fn is_allowed(code: u8, text: &[u8]) -> bool
+    ensures { result ≡ text_fits code text.now }
 {
     if code == TypeCode::UTF8 || code == TypeCode::LARGE_UTF8 {
-        return is_text(table, b, at, n);
+        return is_utf8(text);
     }
     true
 }
@@ -80,15 +77,8 @@ pub(crate) fn add_span(spans: &mut [usize], node: u32, n: usize)
 }
 
 // A text of a node of that code: its length, then its bytes.
-pub(crate) fn scan_text(
-    code: u8,
-    node: u32,
-    b: &[u8],
-    at: usize,
-    table: &[u8; 2304],
-    spans: &mut [usize],
-) -> usize
-    requires { Begun b.now at table.now spans.old × (node < 256) }
+pub(crate) fn scan_text(code: u8, node: u32, b: &[u8], at: usize, spans: &mut [usize]) -> usize
+    requires { Begun b.now at spans.old × (node < 256) }
     ensures { Scans b.now at 0 (text_in code (drop at b.now)) (sized_adds node) spans.old spans.new result }
 {
     if b.len() - at < COUNT_WIDTH {
@@ -99,7 +89,7 @@ pub(crate) fn scan_text(
     if b.len() - start < n {
         return NOT_ROWS;
     }
-    if !is_allowed(code, table, b, start, n) {
+    if !is_allowed(code, &b[start..start + n]) {
         return NOT_ROWS;
     }
     add_span(spans, node, n);

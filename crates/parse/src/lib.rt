@@ -11,7 +11,6 @@ ghost use Rattle.image.specs.Parse.{readable, rows_in};
 ghost use Rattle.parse.specs.Answer.{are_rows, Spanned};
 
 use crate::scan::scan_rows;
-use utf8::table::next_states;
 
 // The remaining depth at the root.
 const MAX_DEPTH: usize = 16;
@@ -24,6 +23,5 @@ pub fn is_rows(s: &[u8], count: usize, b: &[u8], spans: &mut [usize]) -> bool
     ensures value { result ≡ are_rows (rows_in s.now count b.now) }
     ensures spanned { Spanned s.now (rows_in s.now count b.now) spans.new }
 {
-    let table = next_states();
-    scan_rows(s, 0, MAX_DEPTH, count, b, 0, &table, spans) == b.len()
+    scan_rows(s, 0, MAX_DEPTH, count, b, 0, spans) == b.len()
 }

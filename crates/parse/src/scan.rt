@@ -22,16 +22,8 @@ const VALUE: u8 = 1;
 
 // A row of a node: its mark, and the value behind it.
 #[cycle(scan_by_layout_scan_list_scan_row_scan_rows_scan_struct_scan_value)]
-fn scan_row(
-    s: &[u8],
-    node: u32,
-    depth: usize,
-    b: &[u8],
-    at: usize,
-    table: &[u8; 2304],
-    spans: &mut [usize],
-) -> usize
-    requires { Within s.now node × Begun b.now at table.now spans.old }
+fn scan_row(s: &[u8], node: u32, depth: usize, b: &[u8], at: usize, spans: &mut [usize]) -> usize
+    requires { Within s.now node × Begun b.now at spans.old }
     ensures { Scans b.now at 1 (row_in depth s.now node (drop at b.now)) (row_adds depth s.now node) spans.old spans.new result }
 {
     if depth == 0 {
@@ -43,7 +35,7 @@ fn scan_row(
     let mark = b[at];
     let next = at + 1;
     if mark == VALUE {
-        return scan_value(s, node, depth - 1, b, next, table, spans);
+        return scan_value(s, node, depth - 1, b, next, spans);
     }
     if mark != NULL {
         return NOT_ROWS;
@@ -56,23 +48,15 @@ fn scan_row(
 
 // The value of a row of a node, whose rows below it have the depth. Most values have the width that their code says.
 #[cycle(scan_by_layout_scan_list_scan_row_scan_rows_scan_struct_scan_value)]
-fn scan_value(
-    s: &[u8],
-    node: u32,
-    depth: usize,
-    b: &[u8],
-    at: usize,
-    table: &[u8; 2304],
-    spans: &mut [usize],
-) -> usize
-    requires { Within s.now node × Begun b.now at table.now spans.old }
+fn scan_value(s: &[u8], node: u32, depth: usize, b: &[u8], at: usize, spans: &mut [usize]) -> usize
+    requires { Within s.now node × Begun b.now at spans.old }
     ensures { Scans b.now at 0 (value_in (layout_of (code_of s.now node)) (row_in depth s.now) s.now node (drop at b.now)) (row_adds (suc depth) s.now node) spans.old spans.new result }
 {
     let width = fixed_width(code(s, node));
     if width > 0 {
         return scan_bytes(b, at, width);
     }
-    scan_by_layout(s, node, depth, b, at, table, spans)
+    scan_by_layout(s, node, depth, b, at, spans)
 }
 
 // The same for any layout.
@@ -83,10 +67,9 @@ fn scan_by_layout(
     depth: usize,
     b: &[u8],
     at: usize,
-    table: &[u8; 2304],
     spans: &mut [usize],
 ) -> usize
-    requires { Within s.now node × Begun b.now at table.now spans.old }
+    requires { Within s.now node × Begun b.now at spans.old }
     ensures { Scans b.now at 0 (value_in (layout_of (code_of s.now node)) (row_in depth s.now) s.now node (drop at b.now)) (row_adds (suc depth) s.now node) spans.old spans.new result }
 {
     let code = code(s, node);
@@ -95,25 +78,17 @@ fn scan_by_layout(
         Layout::Null => at,
         Layout::Boolean => scan_boolean(b, at),
         Layout::FixedWidth => scan_bytes(b, at, element_width(s, node)),
-        Layout::VariableSize => scan_text(code, node, b, at, table, spans),
-        Layout::List => scan_list(s, node, depth, b, at, table, spans),
-        Layout::Struct => scan_struct(s, node, depth, b, at, table, spans),
+        Layout::VariableSize => scan_text(code, node, b, at, spans),
+        Layout::List => scan_list(s, node, depth, b, at, spans),
+        Layout::Struct => scan_struct(s, node, depth, b, at, spans),
         _ => NOT_ROWS,
     }
 }
 
 // The value of a list: how many rows, then the rows of its child.
 #[cycle(scan_by_layout_scan_list_scan_row_scan_rows_scan_struct_scan_value)]
-fn scan_list(
-    s: &[u8],
-    node: u32,
-    depth: usize,
-    b: &[u8],
-    at: usize,
-    table: &[u8; 2304],
-    spans: &mut [usize],
-) -> usize
-    requires within { Within s.now node × Begun b.now at table.now spans.old }
+fn scan_list(s: &[u8], node: u32, depth: usize, b: &[u8], at: usize, spans: &mut [usize]) -> usize
+    requires within { Within s.now node × Begun b.now at spans.old }
     requires node_value { layout_of (code_of s.now node) ≡ Lists }
     ensures { Scans b.now at 0 (list_in (row_in depth s.now (first_child s.now node)) (drop at b.now)) (counted_adds depth s.now node) spans.old spans.new result }
 {
@@ -122,7 +97,7 @@ fn scan_list(
     }
     let n = quad(b, at);
     let start = at + COUNT_WIDTH;
-    let next = scan_rows(s, first_child(s, node), depth, n, b, start, table, spans);
+    let next = scan_rows(s, first_child(s, node), depth, n, b, start, spans);
     if b.len() < next {
         return next;
     }
@@ -132,16 +107,8 @@ fn scan_list(
 
 // The value of a Struct: a row of each child.
 #[cycle(scan_by_layout_scan_list_scan_row_scan_rows_scan_struct_scan_value)]
-fn scan_struct(
-    s: &[u8],
-    node: u32,
-    depth: usize,
-    b: &[u8],
-    at: usize,
-    table: &[u8; 2304],
-    spans: &mut [usize],
-) -> usize
-    requires { Within s.now node × Begun b.now at table.now spans.old }
+fn scan_struct(s: &[u8], node: u32, depth: usize, b: &[u8], at: usize, spans: &mut [usize]) -> usize
+    requires { Within s.now node × Begun b.now at spans.old }
     ensures { Scans b.now at 0 (row_of_each (row_in depth s.now) (first_child s.now node) (child_count s.now node) (drop at b.now)) (each_adds depth s.now (first_child s.now node)) spans.old spans.new result }
 {
     let first = first_child(s, node);
@@ -149,7 +116,7 @@ fn scan_struct(
     let mut next = at;
     let mut c: u32 = 0;
     while c < count {
-        next = scan_row(s, first + c, depth, b, next, table, spans);
+        next = scan_row(s, first + c, depth, b, next, spans);
         if b.len() < next {
             return next;
         }
@@ -167,16 +134,15 @@ pub(crate) fn scan_rows(
     count: usize,
     b: &[u8],
     at: usize,
-    table: &[u8; 2304],
     spans: &mut [usize],
 ) -> usize
-    requires { Within s.now node × Begun b.now at table.now spans.old }
+    requires { Within s.now node × Begun b.now at spans.old }
     ensures { Scans b.now at count (rows_of (row_in depth s.now node) count (drop at b.now)) (rows_add depth s.now node) spans.old spans.new result }
 {
     let mut next = at;
     let mut i: usize = 0;
     while i < count {
-        next = scan_row(s, node, depth, b, next, table, spans);
+        next = scan_row(s, node, depth, b, next, spans);
         if b.len() < next {
             return next;
         }

@@ -1,11 +1,10 @@
 // The table of next states, nine states by 256 bytes.
-// A function that names the table builds it on its stack, so a caller makes it once and lends it to each walk.
 ghost use Rattle.std.specs.Prelude.{◌≡◌, ◌<◌};
-ghost use Rattle.image.specs.Utf8.{next_state, next_states};
+ghost use Rattle.image.specs.Utf8.{next_state};
 
 // Eight lines of 32 entries for each state: 0 between characters; 1 to 3 where so many tails are to come; 4 after E0,
 // 5 after ED, 6 after F0, 7 after F4; 8 ill-formed.
-const NEXT: [u8; 2304] = *b"\
+static NEXT: [u8; 2304] = *b"\
     \x00\x00\x00\x00\x00\x00\x00\x00\x00\x00\x00\x00\x00\x00\x00\x00\x00\x00\x00\x00\x00\x00\x00\x00\x00\x00\x00\x00\x00\x00\x00\x00\
     \x00\x00\x00\x00\x00\x00\x00\x00\x00\x00\x00\x00\x00\x00\x00\x00\x00\x00\x00\x00\x00\x00\x00\x00\x00\x00\x00\x00\x00\x00\x00\x00\
     \x00\x00\x00\x00\x00\x00\x00\x00\x00\x00\x00\x00\x00\x00\x00\x00\x00\x00\x00\x00\x00\x00\x00\x00\x00\x00\x00\x00\x00\x00\x00\x00\
@@ -79,17 +78,10 @@ const NEXT: [u8; 2304] = *b"\
     \x08\x08\x08\x08\x08\x08\x08\x08\x08\x08\x08\x08\x08\x08\x08\x08\x08\x08\x08\x08\x08\x08\x08\x08\x08\x08\x08\x08\x08\x08\x08\x08\
     \x08\x08\x08\x08\x08\x08\x08\x08\x08\x08\x08\x08\x08\x08\x08\x08\x08\x08\x08\x08\x08\x08\x08\x08\x08\x08\x08\x08\x08\x08\x08\x08";
 
-// The table, for a caller to lend.
-pub fn next_states() -> [u8; 2304]
-    ensures { result ≡ next_states }
-{
-    NEXT
-}
-
 // The state after byte b in state q.
-pub(crate) fn next(table: &[u8; 2304], q: u8, b: u8) -> u8
-    requires { (q < 9) × (table.now ≡ next_states) }
+pub(crate) fn next(q: u8, b: u8) -> u8
+    requires { q < 9 }
     ensures { result ≡ next_state q b }
 {
-    table[(q as usize) * 256 + (b as usize)]
+    NEXT[(q as usize) * 256 + (b as usize)]
 }

@@ -1,28 +1,68 @@
 // The walk through a text by the table.
-ghost use Rattle.std.specs.Prelude.{◌≡◌, ◌+◌, ◌≤◌, ◌<◌, length};
-ghost use Rattle.image.specs.Bytes.{bytes_at};
-ghost use Rattle.image.specs.Utf8.{next_states, walk, well_formed};
+ghost use Rattle.std.specs.Prelude.{◌≡◌, ◌<◌};
+ghost use Rattle.image.specs.Utf8.{well_formed};
 
 use crate::table::next;
 
-// The state after the n bytes at a place, walked from state q on.
-pub(crate) fn walk_bytes(table: &[u8; 2304], s: &[u8], at: usize, n: usize, q: u8) -> u8
-    requires { (q < 9) × (at + n ≤ length s.now) × (table.now ≡ next_states) }
-    ensures { result ≡ walk q (bytes_at s.now at n) }
-{
-    let mut state = q;
-    let mut i: usize = 0;
-    while i < n {
-        state = next(table, state, s[at + i]);
-        i += 1;
-    }
-    state
+// What is left of a text that is being walked, and the state that the walk is in.
+#[derive(Clone, Copy)]
+pub(crate) struct Walk<'a> {
+    pub left: &'a [u8],
+    pub state: u8,
+    ghost known: { state < 9 },
 }
 
-// The n bytes at a place are well-formed text: one walk, from the first byte to the last.
-pub(crate) fn in_one(table: &[u8; 2304], s: &[u8], at: usize, n: usize) -> bool
-    requires { (at + n ≤ length s.now) × (table.now ≡ next_states) }
-    ensures { result ≡ well_formed (bytes_at s.now at n) }
+impl<'a> Walk<'a> {
+    ghost use Rattle.std.specs.Prelude.{◌≡◌};
+    ghost use Rattle.utf8.specs.Walks.{Begun, Left, Further, Passed, ends_well};
+
+    // A walk that is at the first byte.
+    pub fn start(text: &'a [u8]) -> Walk<'a>
+        ensures { Begun text.now result }
+    {
+        Walk {
+            left: text,
+            state: 0,
+        }
+    }
+
+    // One byte further.
+    pub fn step(self) -> Walk<'a>
+        requires { Left 1 self }
+        ensures { Further 1 self.entry result }
+    {
+        Walk {
+            left: &self.left[1..],
+            state: next(self.state, self.left[0]),
+        }
+    }
+
+    // n bytes further, in the same state.
+    pub fn pass(self, n: usize) -> Walk<'a>
+        requires { Left n self }
+        ensures { Passed n self.entry result }
+    {
+        Walk {
+            left: &self.left[n..],
+            state: self.state,
+        }
+    }
+
+    // The walk of what is left ends between characters.
+    pub fn ends_well(self) -> bool
+        ensures { result ≡ ends_well self.entry }
+    {
+        let mut state = self.state;
+        for b in self.left {
+            state = next(state, *b);
+        }
+        state == 0
+    }
+}
+
+// The text is well-formed: one walk, from the first byte to the last.
+pub(crate) fn in_one(text: &[u8]) -> bool
+    ensures { result ≡ well_formed text.now }
 {
-    walk_bytes(table, s, at, n, 0) == 0
+    Walk::start(text).ends_well()
 }

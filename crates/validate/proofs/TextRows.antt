@@ -26,7 +26,7 @@ use Rattle.laws.specs.Accepted.{NoneBelow, OffsetsRise}
 use Rattle.laws.proofs.Accepted.{tables, after_14, after_17, after_18}
 use Rattle.accepted.specs.Parts.{Viewed, ViewBytes}
 use Rattle.accepted.proofs.Views.{shown_short, shown_long}
-use Rattle.utf8.specs.Ascii.{high}
+use Rattle.utf8.specs.Ascii.{any_high}
 use Rattle.utf8.specs.Cuts.{Cut}
 use Rattle.utf8.proofs.Plain.{plain_part}
 use Rattle.utf8.proofs.Cutting.{part_formed}
@@ -96,7 +96,7 @@ module _ {s : List ℕ} {k : ℕ} (t : TextNode s k) {at : TextsAt} (r : TextsRe
 
   -- a short view without a byte above 7F
   pub plain_short : {len : ℕ} → len ≡ number_at 4 s (at.place + i * 16) → i < length_of s k → valid s k i ≡ true → len ≤ 12
-      → any (high s) (at.place + i * 16) 16 ≡ false → well_formed (text_at s k (offset_of s k + i)) ≡ true
+      → any_high (bytes_at s (at.place + i * 16) 16) ≡ false → well_formed (text_at s k (offset_of s k + i)) ≡ true
   plain_short {len} el lt set short none =
       ap well_formed (sym (view_span el (shown_short s k (at.place + i * 16) len (viewed el lt set) short)).text)
       ∙ plain_part s (at.place + i * 16) 16 none (at.place + i * 16 + 4) len (omega arith) (omega arith)
@@ -150,7 +150,7 @@ buffer_more {P} {j} f here = record { each = λ m low lt. cases m low (eq-or-lt_
 pub buffer_all : {P : ℕ → Type 0} {n j : ℕ} → EachBuffer P j → n ≤ j → EachBuffer P n
 buffer_all f le = record { each = λ m low lt. f.each m low (omega arith) }
 
-pub plain_here : (s : List ℕ) (k j : ℕ) {p n : ℕ} {b : Bool} → p ≡ buffer_place s k j → n ≡ buffer_length s k j → b ≡ any (high s) p n → b ≡ false → plain_buffer s k j
+pub plain_here : (s : List ℕ) (k j : ℕ) {p n : ℕ} {b : Bool} → p ≡ buffer_place s k j → n ≡ buffer_length s k j → b ≡ any_high (bytes_at s p n) → b ≡ false → plain_buffer s k j
 plain_here s k j ep en eb is = rw (← ep, ← en) (sym eb ∙ is)
 
 pub formed_here : (s : List ℕ) (k j : ℕ) {p n : ℕ} {b : Bool} → p ≡ buffer_place s k j → n ≡ buffer_length s k j → b ≡ well_formed (bytes_at s p n) → b ≡ true → formed_buffer s k j
@@ -263,7 +263,7 @@ module _ {s : List ℕ} {k : ℕ} (t : TextNode s k) {at : TextsAt} (r : TextsRe
     upto : text_start s k i + (text_start s k (i + 1) - text_start s k i) ≤ a.place + a.len
     upto = omega (arith, up, all.end, starts_rise t (not_view t r isnt) (i + 1) (length_of s k) (omega arith) (omega arith))
 
-  pub plain_together : any (high s) a.place a.len ≡ false → any (text_row_fault s k) 0 (length_of s k) ≡ false
+  pub plain_together : any_high (bytes_at s a.place a.len) ≡ false → any (text_row_fault s k) 0 (length_of s k) ≡ false
   plain_together e =
       any_none (text_row_fault s k) 0 (length_of s k) (λ i low lt. formed_row i (plain_part s a.place a.len e (text_start s k i) _ (from i (omega arith)) (upto i (omega arith))))
 

@@ -1,13 +1,12 @@
 -- What is read once of a node whose rows are text, and what is read of a row.
 use Rattle.std.specs.Prelude.{◌≡◌, Bool, true, false, ◌&&◌, List, ℕ, ◌+◌, ◌*◌, ◌<◌, ◌≤◌, eqb, ltb, length}
-use Rattle.image.specs.Ranges.{any}
 use Rattle.image.specs.Bytes.{byte_at, bytes_at}
 use Rattle.image.specs.Record.{node_count, code_of, length_of, offset_of, buffer_count, buffer_place, buffer_length}
 use Rattle.image.specs.TypeCode.{is_text}
 use Rattle.image.specs.Element.{valid, element_width, element_at, text_at}
 use Rattle.image.specs.Utf8.{has, tail, well_formed}
 use Rattle.laws.specs.Accepted.{NoneBelow}
-use Rattle.utf8.specs.Ascii.{high}
+use Rattle.utf8.specs.Ascii.{any_high}
 use Rattle.validate.specs.declared.texts.TextsAt.{TextsAt}
 use Rattle.validate.specs.declared.texts.Span.{Span}
 use Rattle.validate.specs.declared.texts.Buffers.{Buffers}
@@ -43,7 +42,7 @@ pub record EachBuffer (P : ℕ → Type 0) (n : ℕ) : Type 0 where
 
 -- buffer j has no byte above 7F; it is well-formed as one text
 abbrev pub plain_buffer : List ℕ → ℕ → ℕ → Type 0
-plain_buffer s k j = any (high s) (buffer_place s k j) (buffer_length s k j) ≡ false
+plain_buffer s k j = any_high (bytes_at s (buffer_place s k j) (buffer_length s k j)) ≡ false
 
 abbrev pub formed_buffer : List ℕ → ℕ → ℕ → Type 0
 formed_buffer s k j = well_formed (bytes_at s (buffer_place s k j) (buffer_length s k j)) ≡ true

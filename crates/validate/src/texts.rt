@@ -4,7 +4,7 @@ ghost use Rattle.image.specs.Ranges.{any};
 ghost use Rattle.image.specs.Record.{node_count, length_of, offset_of, buffer_count};
 ghost use Rattle.image.specs.Element.{text_at};
 ghost use Rattle.image.specs.Faults.{fault19, text_row_fault};
-ghost use Rattle.image.specs.Utf8.{well_formed, next_states};
+ghost use Rattle.image.specs.Utf8.{well_formed};
 ghost use Rattle.laws.specs.Accepted.{NoneBelow};
 ghost use Rattle.validate.specs.Texts.{TextNode, TextsRead, TextRow, TextSpan, EachBuffer, plain_buffer, formed_buffer, Found, Stretch, splits};
 
@@ -15,8 +15,7 @@ use image::record::{buffer_count, buffer_length, buffer_place, code, length, off
 use image::type_code::TypeCode;
 use utf8::ascii::{has_high, high_among};
 use utf8::parts::is_tail;
-use utf8::table::next_states;
-use utf8::{is_text, walks_well};
+use utf8::{is_utf8, walks_well};
 
 // Where the texts of a node's rows stand, for a loop that asks for many rows: whether they are views, where the view or the
 // offset of row 0 stands, how wide it is, and where the text starts that offsets count in.
@@ -85,7 +84,7 @@ fn is_plain(image: &[u8], node: u32, at: TextsAt, found: Buffers, i: usize) -> b
 {
     let view = at.place + i * VIEW_SIZE;
     if quad(image, view) <= INLINE_LENGTH {
-        return !high_among(image, view, VIEW_SIZE);
+        return !high_among(&image[view..view + VIEW_SIZE]);
     }
     found.plain
 }
@@ -114,15 +113,8 @@ fn cut_well(image: &[u8], node: u32, at: TextsAt, i: usize) -> bool
 }
 
 // The text of row i, which is not null, is well-formed.
-fn is_formed(
-    table: &[u8; 2304],
-    image: &[u8],
-    node: u32,
-    at: TextsAt,
-    found: Buffers,
-    i: usize,
-) -> bool
-    requires { TextRow image.now node at i × (table.now ≡ next_states) × Found image.now node at found }
+fn is_formed(image: &[u8], node: u32, at: TextsAt, found: Buffers, i: usize) -> bool
+    requires { TextRow image.now node at i × Found image.now node at found }
     ensures { result ≡ well_formed (text_at image.now node (offset_of image.now node + i)) }
 {
     if at.views {
@@ -136,7 +128,7 @@ fn is_formed(
         }
     }
     let text = text_of(image, node, at, i);
-    is_text(table, image, text.place, text.len)
+    is_utf8(&image[text.place..text.place + text.len])
 }
 
 // A row that is not null has an ill-formed text.
@@ -144,13 +136,12 @@ fn rows_fault(image: &[u8], node: u32, at: TextsAt, found: Buffers) -> bool
     requires { TextNode image.now node × TextsRead image.now node at × Found image.now node at found }
     ensures { result ≡ any (text_row_fault image.now node) 0 (length_of image.now node) }
 {
-    let table = next_states();
     let rows = length(image, node);
     let mask = mask_of(image, node);
     let mut i: usize = 0;
     while i < rows {
         if is_kept(image, node, mask, i) {
-            if !is_formed(&table, image, node, at, found, i) {
+            if !is_formed(image, node, at, found, i) {
                 return true;
             }
         }
@@ -198,11 +189,11 @@ fn formed_together(image: &[u8], node: u32, at: TextsAt) -> bool
     ensures { result ≡ true → any (text_row_fault image.now node) 0 (length_of image.now node) ≡ false }
 {
     let all = stretch_of(image, node, at);
-    if !has_high(image, all.place, all.len) {
+    let text = &image[all.place..all.place + all.len];
+    if !has_high(text) {
         return true;
     }
-    let table = next_states();
-    if !walks_well(&table, image, all.place, all.len) {
+    if !walks_well(text) {
         return false;
     }
     !letter_split(image, node, at, all.place + all.len)
@@ -232,7 +223,7 @@ fn buffers_plain(image: &[u8], node: u32) -> bool
     while j < count {
         let place = buffer_place(image, node, j);
         let len = buffer_length(image, node, j);
-        if has_high(image, place, len) {
+        if has_high(&image[place..place + len]) {
             return false;
         }
         j += 1;
@@ -245,13 +236,12 @@ fn buffers_formed(image: &[u8], node: u32) -> bool
     requires { TextNode image.now node }
     ensures { result ≡ true → EachBuffer (formed_buffer image.now node) (buffer_count image.now node) }
 {
-    let table = next_states();
     let count = buffer_count(image, node);
     let mut j: u32 = 1;
     while j < count {
         let place = buffer_place(image, node, j);
         let len = buffer_length(image, node, j);
-        if !is_text(&table, image, place, len) {
+        if !is_utf8(&image[place..place + len]) {
             return false;
         }
         j += 1;

@@ -5,7 +5,7 @@ use native.Mathlib.Omega.{arith}
 use Rattle.parse.proofs.is_rows.Goals as goal
 
 pub scan_rows-requires : goal.scan_rows-requires
-scan_rows-requires c = (root_within _ c.requires.s_value.0, begun_first _ _ _ (omega (arith, c.well_formed.1.1.0.1)) c.next_states-table.ensures c.requires.spans_value)
+scan_rows-requires c = (root_within _ c.requires.s_value.0, begun_first _ _ (omega (arith, c.well_formed.1.1.0.1)) c.requires.spans_value)
 
 pub shape_of-spans : goal.shape_of-spans
 shape_of-spans c = c.scan_rows.ensures.sized

@@ -27,13 +27,13 @@ abbrev pub decreases-scan_value : goal.decreases-scan_value
 decreases-scan_value l = 5 * l.depth + 4
 
 abbrev pub invariant-scan_rows-loop-i : goal.invariant-scan_rows-loop-i
-invariant-scan_rows-loop-i l = Left (row_turns l.depth l.s l.node l.count) l.b l.at l.count (rows_of (row_in l.depth l.s l.node) l.count (drop l.at l.b)) (rows_add l.depth l.s l.node) l.initial.spans l.i l.next l.spans × Begun l.b l.next l.table l.spans
+invariant-scan_rows-loop-i l = Left (row_turns l.depth l.s l.node l.count) l.b l.at l.count (rows_of (row_in l.depth l.s l.node) l.count (drop l.at l.b)) (rows_add l.depth l.s l.node) l.initial.spans l.i l.next l.spans × Begun l.b l.next l.spans
 
 abbrev pub decreases-scan_rows-loop-i : goal.decreases-scan_rows-loop-i
 decreases-scan_rows-loop-i l = l.count - l.i
 
 abbrev pub invariant-scan_struct-loop-c : goal.invariant-scan_struct-loop-c
-invariant-scan_struct-loop-c l = Left (child_turns l.depth l.s l.first l.count) l.b l.at 0 (row_of_each (row_in l.depth l.s) (first_child l.s l.node) (child_count l.s l.node) (drop l.at l.b)) (each_adds l.depth l.s (first_child l.s l.node)) l.initial.spans l.c l.next l.spans × Begun l.b l.next l.table l.spans
+invariant-scan_struct-loop-c l = Left (child_turns l.depth l.s l.first l.count) l.b l.at 0 (row_of_each (row_in l.depth l.s) (first_child l.s l.node) (child_count l.s l.node) (drop l.at l.b)) (each_adds l.depth l.s (first_child l.s l.node)) l.initial.spans l.c l.next l.spans × Begun l.b l.next l.spans
 
 abbrev pub decreases-scan_struct-loop-c : goal.decreases-scan_struct-loop-c
 decreases-scan_struct-loop-c l = l.count - l.c

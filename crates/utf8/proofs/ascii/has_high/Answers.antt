@@ -1,28 +1,50 @@
 -- `utf8::ascii::has_high` meets its contract: blocks of 256 bytes, then of 16, then the last 16.
--- Both loops keep that what is left to look at gives the answer; the measure is how much is left.
-use mathlib.Core.Path.{sym, ◌∙◌}
-use Rattle.image.proofs.Loops.{rest_none, any_jump, jump_found}
-use Rattle.utf8.proofs.Ends.{rest_last}
+-- Both loops keep that what is left to look at gives the answer.
+use mathlib.Core.Path.{◌≡◌, refl, sym, ap, ◌∙◌}
 use native.Mathlib.Omega.{arith}
+use Prim.Native.Nat.{ℕ, ◌-◌, ◌%◌}
+use lib.ListN.{length, drop}
+use Rattle.std.specs.Slice.Iter.{chunks_exact_rest}
+use Rattle.std.proofs.Common.{length-append}
+use Rattle.std.proofs.lemmas.List.{take_rest}
+use Rattle.utf8.specs.Ascii.{any_high}
+use Rattle.utf8.proofs.Ends.{ahead_none, ahead_more, ahead_found, ahead_last}
 use Rattle.utf8.proofs.ascii.has_high.Goals as goal
 
-pub loop-i-init : goal.loop-i-init
-loop-i-init c = rest_none _ _ _
+pub loop-block-init : goal.loop-block-init
+loop-block-init c =
+    let new = c.chunks_exact-blocks.ensures in
+    rw (c.into_iter-block-iterator.ensures.into_iter_gives, new.size, new.rest) (omega arith, tt, refl, refl, ahead_none _)
 
 pub returns-then-high_among : goal.returns-then-high_among
-returns-then-high_among c = jump_found _ _ _ _ 256 c.loop-i-test.true c.loop-i.invariant (sym c.high_among.ensures ∙ c.if-high_among.true)
+returns-then-high_among c = ahead_found _ _ _ c.loop-block.invariant.4 c.in-Some.ensures.steps.1.0 (sym c.high_among.ensures ∙ c.if-high_among.true)
 
-pub loop-i-preserved : goal.loop-i-preserved
-loop-i-preserved c = any_jump _ _ _ _ 256 c.loop-i-test.true c.loop-i.invariant (sym c.high_among.ensures ∙ c.if-high_among.false)
+pub loop-block-preserved : goal.loop-block-preserved
+loop-block-preserved c =
+    let step = c.in-Some.ensures.steps in
+    let long = ap length step.1.0 ∙ length-append c.in-Some.block.now (chunks_exact_rest c.next.new.self) in
+    (rw step.0 c.loop-block.invariant.0, tt, step.0 ∙ c.loop-block.invariant.2, omega (arith, long, step.1.1, c.loop-block.invariant.2, c.loop-block.invariant.3), ahead_more _ _ _ c.loop-block.invariant.4 step.1.0 (sym c.high_among.ensures ∙ c.if-high_among.false))
 
-pub loop-i-2-init : goal.loop-i-2-init
-loop-i-2-init c = c.loop-i.invariant
+pub loop-block-2-init : goal.loop-block-2-init
+loop-block-2-init c =
+    let new = c.chunks_exact-block-items.ensures in
+    let end = c.in-None.ensures.steps in
+    let few : length (chunks_exact_rest c.loop-block.block-iterator) ≡ length c.args.text.now % 256 = omega (arith, end.1.0, c.loop-block.invariant.2, c.loop-block.invariant.3) in
+    let same : c.remainder-rest.result.now ≡ chunks_exact_rest c.loop-block.block-iterator =
+    c.remainder-rest.ensures ∙ c.chunks_exact-blocks.ensures.remainder ∙ ap (λ (n : ℕ). drop (length c.args.text.now - n) c.args.text.now) (sym few) ∙ sym c.loop-block.invariant.4.part in
+    rw (c.into_iter-block-iterator-2.ensures.into_iter_gives, new.size, new.rest, same) (omega arith, tt, refl, c.loop-block.invariant.4)
 
 pub returns-then-high_among-2 : goal.returns-then-high_among-2
-returns-then-high_among-2 c = jump_found _ _ _ _ 16 c.loop-i-2-test.true c.loop-i-2.invariant (sym c.high_among-in-loop-i-2.ensures ∙ c.if-high_among-2.true)
+returns-then-high_among-2 c = ahead_found _ _ _ c.loop-block-2.invariant.3 c.in-Some-block.ensures.steps.1.0 (sym c.high_among-in-loop-block-2.ensures ∙ c.if-high_among-2.true)
 
-pub loop-i-2-preserved : goal.loop-i-2-preserved
-loop-i-2-preserved c = any_jump _ _ _ _ 16 c.loop-i-2-test.true c.loop-i-2.invariant (sym c.high_among-in-loop-i-2.ensures ∙ c.if-high_among-2.false)
+pub loop-block-2-preserved : goal.loop-block-2-preserved
+loop-block-2-preserved c =
+    let step = c.in-Some-block.ensures.steps in
+    (rw step.0 c.loop-block-2.invariant.0, tt, step.0 ∙ c.loop-block-2.invariant.2, ahead_more _ _ _ c.loop-block-2.invariant.3 step.1.0 (sym c.high_among-in-loop-block-2.ensures ∙ c.if-high_among-2.false))
 
 pub returns : goal.returns
-returns c = c.high_among-2.ensures ∙ rest_last _ _ _ _ 16 c.loop-i-2.invariant (omega (arith, c.loop-i-2-test.false)) c.if-n-lt-SMALL_BLOCK.false
+returns c =
+    let few = c.in-None-block.ensures.steps.1.0 in
+    c.high_among-2.ensures
+    ∙ ap any_high (take_rest c.args.text.now (length c.args.text.now - 16))
+    ∙ ahead_last _ 16 c.loop-block-2.invariant.3 (omega (arith, few, c.loop-block-2.invariant.2)) c.if-text-lt-SMALL_BLOCK.false

@@ -1,20 +1,20 @@
 -- `utf8::ascii::high_among` meets its contract.
--- The loop keeps that what was found is what stands in the bytes passed; the measure is how many are left.
-use mathlib.Core.Path.{◌≡◌}
-use native.Mathlib.Omega.{arith}
-use borrow.Author.Rules.{rules}
-use Rattle.image.proofs.Loops.{any_empty, any_snoc}
-use Rattle.utf8.specs.Ascii.{high}
+-- The loop keeps that what was found is what stands in the bytes passed.
+use mathlib.Core.Path.{refl}
+use lib.Dec.{leb}
+use Rattle.std.proofs.lemmas.List.{take_all}
+use Rattle.std.proofs.lemmas.List.Folds.{list_any_more}
+use Rattle.utf8.specs.Ascii.{any_high}
 use Rattle.utf8.proofs.ascii.high_among.Goals as goal
 
-pub loop-i-init : goal.loop-i-init
-loop-i-init c = (search rules, any_empty _ _)
+pub loop-b-init : goal.loop-b-init
+unfolding any_high
+loop-b-init c = refl
 
-pub loop-i-preserved : goal.loop-i-preserved
-unfolding high
-loop-i-preserved c = (search rules, rw (any_snoc, ← c.loop-i.invariant.1))
+pub loop-b-preserved : goal.loop-b-preserved
+unfolding any_high
+loop-b-preserved c = rw (list_any_more (leb 128) c.args.text.now c.loop-b.b-index 0 c.loop-b-test.true, ← c.loop-b.invariant)
 
 pub returns : goal.returns
-returns c =
-    let e : c.args.n ≡ c.loop-i.i = omega arith in
-    rw e c.loop-i.invariant.1
+unfolding any_high
+returns c = rw (take_all c.loop-b.b-index c.args.text.now c.loop-b-test.false) at c.loop-b.invariant

@@ -6,16 +6,16 @@ use Rattle.image.proofs.Loops.{rest_none, first_more, first_found, first_done}
 use Rattle.utf8.specs.Cuts.{begins}
 use Rattle.utf8.proofs.parts.cut.Goals as goal
 
-pub loop-i-init : goal.loop-i-init
-loop-i-init c = rest_none _ _ _
+pub loop-k-init : goal.loop-k-init
+loop-k-init c = rest_none _ _ _
 
-pub returns-then-not-is_tail : goal.returns-then-not-is_tail
+pub returns-then-not-is_tail-clause-place : goal.returns-then-not-is_tail-clause-place
 unfolding begins
-returns-then-not-is_tail c = first_found _ _ _ _ c.loop-i-test.true c.loop-i.invariant (ap not (sym c.is_tail.ensures ∙ c.if-not-is_tail.true))
+returns-then-not-is_tail-clause-place c = first_found _ _ _ _ c.loop-k-test.true c.loop-k.invariant (ap not (sym c.is_tail.ensures ∙ c.if-not-is_tail.true))
 
-pub loop-i-preserved : goal.loop-i-preserved
+pub loop-k-preserved : goal.loop-k-preserved
 unfolding begins
-loop-i-preserved c = first_more _ _ _ _ c.loop-i-test.true c.loop-i.invariant (ap not (sym c.is_tail.ensures ∙ c.if-not-is_tail.false))
+loop-k-preserved c = first_more _ _ _ _ c.loop-k-test.true c.loop-k.invariant (ap not (sym c.is_tail.ensures ∙ c.if-not-is_tail.false))
 
-pub returns : goal.returns
-returns c = first_done _ _ _ _ c.loop-i-test.false c.loop-i.invariant
+pub returns-clause-place : goal.returns-clause-place
+returns-clause-place c = first_done _ _ _ _ c.loop-k-test.false c.loop-k.invariant

@@ -1,22 +1,26 @@
 -- `utf8::parts::walk_blocks` meets its contract: plain blocks leave state 0 as it is, any others are walked 16 bytes at a time.
--- The loop keeps that each part is as many bytes further as were walked; the measure is how many are left.
+-- The loop keeps that each walk is 16 bytes further for each turn.
 use mathlib.Core.Path.{◌≡◌, sym, ◌∙◌}
+use Prim.Native.Nat.{◌+◌, ◌*◌}
 use native.Mathlib.Omega.{arith}
-use borrow.Author.Rules.{rules}
-use Rattle.utf8.proofs.FourParts.{each_plain, each_none, each_then, each_after}
+use Rattle.utf8.proofs.Walks.{each_plain, each_none, each_then, each_after}
 use Rattle.utf8.proofs.parts.walk_blocks.Goals as goal
 
 pub returns-then-are_plain : goal.returns-then-are_plain
-returns-then-are_plain c = each_plain _ c.requires.0 (sym c.are_plain.ensures ∙ c.if-are_plain.true) c.pass_each.ensures
+returns-then-are_plain c = each_plain _ _ _ (sym c.are_plain.ensures ∙ c.if-are_plain.true) c.pass_each.ensures
 
-pub loop-i-init : goal.loop-i-init
-loop-i-init c = (search rules, search rules, each_none _ c.requires.0)
+pub loop-init : goal.loop-init
+loop-init c = each_none _
 
-pub walk_small_blocks-r-requires : goal.walk_small_blocks-r-requires
-walk_small_blocks-r-requires c = (each_after _ (omega arith) c.requires.0 c.loop-i.invariant.2, c.requires.1)
+pub walk_small_blocks-moved-requires : goal.walk_small_blocks-moved-requires
+walk_small_blocks-moved-requires c = each_after (c.loop.counter * 16) _ _ (omega arith) c.requires c.loop.invariant
 
-pub loop-i-preserved : goal.loop-i-preserved
-loop-i-preserved c = (omega arith, omega arith, each_then _ c.loop-i.invariant.2 c.walk_small_blocks-r.ensures)
+pub loop-preserved : goal.loop-preserved
+loop-preserved c =
+    let e : (c.loop.counter + 1) * 16 ≡ c.loop.counter * 16 + 16 = omega arith in
+    rw e (each_then _ _ _ _ _ c.loop.invariant c.walk_small_blocks-moved.ensures)
 
 pub returns : goal.returns
-returns c = let e : 64 ≡ c.loop-i.i = omega arith in rw e c.loop-i.invariant.2
+returns c =
+    let e : 64 ≡ c.loop.counter * 16 = omega arith in
+    rw e c.loop.invariant

@@ -1,8 +1,11 @@
 -- Where `formed_together` says yes, no row's text is ill-formed.
 -- Bytes up to 7F are well-formed in every part, and a well-formed text in every part that is cut where no tail stands.
-use mathlib.Core.Path.{sym, ◌∙◌}
+use mathlib.Core.Path.{sym, ap, ◌∙◌}
 use mathlib.Core.Bool.{false≢true}
 use borrow.Author.Tests.{not-true}
+use Rattle.image.specs.Utf8.{well_formed}
+use Rattle.utf8.specs.Ascii.{any_high}
+use Rattle.utf8.proofs.Slices.{sliced}
 use Rattle.validate.proofs.TextRows.{small_image, plain_together, cut_together}
 use native.Mathlib.Omega.{arith}
 use Rattle.validate.proofs.texts.formed_together.Goals as goal
@@ -10,14 +13,8 @@ use Rattle.validate.proofs.texts.formed_together.Goals as goal
 pub stretch_of-all-requires : goal.stretch_of-all-requires
 stretch_of-all-requires c = c.requires
 
-pub has_high-requires : goal.has_high-requires
-has_high-requires c = c.stretch_of-all.ensures.inside
-
 pub returns-then-not-has_high : goal.returns-then-not-has_high
-returns-then-not-has_high c = λ e. plain_together c.requires.0 c.requires.1 c.requires.2 c.stretch_of-all.ensures (sym c.has_high.ensures ∙ c.if-not-has_high.true)
-
-pub walks_well-requires : goal.walks_well-requires
-walks_well-requires c = (c.stretch_of-all.ensures.inside, c.next_states-table.ensures)
+returns-then-not-has_high c = λ e. plain_together c.requires.0 c.requires.1 c.requires.2 c.stretch_of-all.ensures (sym (c.has_high.ensures ∙ ap any_high (sliced _ _ _ c.stretch_of-all.ensures.inside)) ∙ c.if-not-has_high.true)
 
 pub returns-then-not-walks_well : goal.returns-then-not-walks_well
 returns-then-not-walks_well c = λ e. absurd (false≢true e)
@@ -29,4 +26,4 @@ pub letter_split-requires : goal.letter_split-requires
 letter_split-requires c = (c.requires.0, c.requires.1, c.requires.2, omega (arith, c.stretch_of-all.ensures.inside))
 
 pub returns : goal.returns
-returns c = λ e. cut_together c.requires.0 c.requires.1 c.requires.2 c.stretch_of-all.ensures (sym c.letter_split.ensures ∙ not-true _ e) (sym c.walks_well.ensures ∙ c.if-not-walks_well.false)
+returns c = λ e. cut_together c.requires.0 c.requires.1 c.requires.2 c.stretch_of-all.ensures (sym c.letter_split.ensures ∙ not-true _ e) (sym (c.walks_well.ensures ∙ ap well_formed (sliced _ _ _ c.stretch_of-all.ensures.inside)) ∙ c.if-not-walks_well.false)

@@ -1,7 +1,9 @@
 -- Where `is_plain` says yes, the view's text is well-formed.
 -- A short view holds its text; a long one's is a part of a data buffer.
-use mathlib.Core.Path.{refl, sym, ◌∙◌}
+use mathlib.Core.Path.{refl, sym, ap, ◌∙◌}
 use borrow.Author.Tests.{not-true}
+use Rattle.utf8.specs.Ascii.{any_high}
+use Rattle.utf8.proofs.Slices.{sliced}
 use Rattle.validate.proofs.TextRows.{small_image, view_fits, plain_short, plain_long}
 use native.Mathlib.Omega.{arith}
 use Rattle.validate.proofs.texts.is_plain.Goals as goal
@@ -15,11 +17,14 @@ overflow_add-view c = omega (arith, view_fits c.requires.0.node c.requires.0.rea
 pub quad-requires : goal.quad-requires
 quad-requires c = omega (arith, view_fits c.requires.0.node c.requires.0.read c.requires.1 _ c.requires.0.row)
 
-pub high_among-requires : goal.high_among-requires
-high_among-requires c = omega (arith, view_fits c.requires.0.node c.requires.0.read c.requires.1 _ c.requires.0.row)
+pub overflow_add-view-then-quad-le-INLINE_LENGTH : goal.overflow_add-view-then-quad-le-INLINE_LENGTH
+overflow_add-view-then-quad-le-INLINE_LENGTH c = omega (arith, view_fits c.requires.0.node c.requires.0.read c.requires.1 _ c.requires.0.row, small_image c.requires.0.node)
+
+pub slice_bounds-high_among-end : goal.slice_bounds-high_among-end
+slice_bounds-high_among-end c = omega (arith, view_fits c.requires.0.node c.requires.0.read c.requires.1 _ c.requires.0.row)
 
 pub returns-then-quad-le-INLINE_LENGTH : goal.returns-then-quad-le-INLINE_LENGTH
-returns-then-quad-le-INLINE_LENGTH c = λ e. plain_short c.requires.0.node c.requires.0.read c.requires.1 _ c.quad.ensures.value c.requires.0.row c.requires.0.not_null c.if-quad-le-INLINE_LENGTH.true (sym c.high_among.ensures ∙ not-true _ e)
+returns-then-quad-le-INLINE_LENGTH c = λ e. plain_short c.requires.0.node c.requires.0.read c.requires.1 _ c.quad.ensures.value c.requires.0.row c.requires.0.not_null c.if-quad-le-INLINE_LENGTH.true (sym (c.high_among.ensures ∙ ap any_high (sliced _ _ 16 (omega (arith, view_fits c.requires.0.node c.requires.0.read c.requires.1 _ c.requires.0.row)))) ∙ not-true _ e)
 
 pub returns : goal.returns
 returns c = λ e. plain_long c.requires.0.node c.requires.0.read c.requires.1 _ c.quad.ensures.value c.requires.0.row c.requires.0.not_null c.if-quad-le-INLINE_LENGTH.false refl (c.requires.2.plain e)

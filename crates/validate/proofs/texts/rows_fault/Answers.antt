@@ -15,7 +15,7 @@ pub is_kept-requires : goal.is_kept-requires
 is_kept-requires c = (c.mask_of-mask.ensures, omega (arith, c.length-rows.ensures.small))
 
 pub is_formed-requires : goal.is_formed-requires
-is_formed-requires c = (record { node = c.requires.0; read = c.requires.1; row = omega (arith, c.length-rows.ensures.value); not_null = sym c.is_kept.ensures ∙ c.if-is_kept.true }, c.next_states-table.ensures, c.requires.2)
+is_formed-requires c = (record { node = c.requires.0; read = c.requires.1; row = omega (arith, c.length-rows.ensures.value); not_null = sym c.is_kept.ensures ∙ c.if-is_kept.true }, c.requires.2)
 
 pub returns-then-not-is_formed : goal.returns-then-not-is_formed
 returns-then-not-is_formed c = rw (← c.length-rows.ensures.value) (any_found _ _ _ _ c.loop-i-test.true c.loop-i.invariant (text_row _ _ _ _ _ c.is_kept.ensures c.if-is_kept.true c.is_formed.ensures ∙ ap not c.if-not-is_formed.true))
