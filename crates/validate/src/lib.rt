@@ -77,7 +77,7 @@ fn has_fault(number: u8, node: Node, walk: Walk) -> bool
         16 => fault_16(node),
         17 => fault_17(node),
         18 => fault_18(node),
-        _ => fault_19(node.image, node.number),
+        _ => fault_19(node),
     }
 }
 

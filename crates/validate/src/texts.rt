@@ -1,5 +1,6 @@
 // 19: a text of a row that is not null is ill-formed.
 ghost use Rattle.std.specs.Prelude.{◌≡◌, true, false, ◌+◌, ◌<◌, ◌≤◌, length};
+ghost use Rattle.image.specs.Of.{◌of◌};
 ghost use Rattle.image.specs.Ranges.{any};
 ghost use Rattle.image.specs.Record.{node_count, length_of, offset_of, buffer_count};
 ghost use Rattle.image.specs.Element.{text_at};
@@ -9,9 +10,9 @@ ghost use Rattle.laws.specs.Accepted.{NoneBelow};
 ghost use Rattle.validate.specs.Texts.{TextNode, TextsRead, TextRow, TextSpan, EachBuffer, plain_buffer, formed_buffer, Found, Stretch, splits};
 
 use accepted::byte_view::data_place;
-use image::bytes::{nth_inside, quad};
-use image::element::{INLINE_LENGTH, VIEW_SIZE, element_width, is_kept, mask_of};
-use image::record::{buffer_count, buffer_length, buffer_place, code, length, offset};
+use image::bytes::{Numbers, load};
+use image::element::{INLINE_LENGTH, VIEW_SIZE};
+use image::record::Node;
 use image::type_code::TypeCode;
 use utf8::ascii::{has_high, high_among};
 use utf8::parts::is_tail;
@@ -43,34 +44,39 @@ pub struct Span {
 }
 
 // The texts of a node.
-fn texts_of(image: &[u8], node: u32) -> TextsAt
-    requires { TextNode image.now node }
-    ensures { TextsRead image.now node result }
+fn texts_of(node: Node) -> TextsAt
+    requires { TextNode of node }
+    ensures { (TextsRead of node.entry) result }
 {
-    let width = element_width(image, node);
+    let width = node.element_width();
     TextsAt {
-        views: code(image, node) == TypeCode::UTF8_VIEW,
-        place: buffer_place(image, node, 0) + offset(image, node) * width,
+        views: node.code() == TypeCode::UTF8_VIEW,
+        place: node.buffer_place(0) + node.offset() * width,
         width: width,
-        text: buffer_place(image, node, 1),
+        text: node.buffer_place(1),
     }
 }
 
 // The text of row i, which is not null.
-fn text_of(image: &[u8], node: u32, at: TextsAt, i: usize) -> Span
-    requires { TextRow image.now node at i }
-    ensures { TextSpan image.now node i result }
+fn text_of(node: Node, at: TextsAt, i: usize) -> Span
+    requires { (TextRow of node) at i }
+    ensures { (TextSpan of node.entry) i result }
 {
     if at.views {
         let view = at.place + i * VIEW_SIZE;
-        let len = quad(image, view);
+        let len = load::<4>(node.image, view);
         return Span {
-            place: data_place(image, node, view, len),
+            place: data_place(node.image, node.number, view, len),
             len: len,
         };
     }
-    let from = nth_inside(image, at.place, at.width, i);
-    let to = nth_inside(image, at.place, at.width, i + 1);
+    let offsets = Numbers {
+        bytes: node.image,
+        place: at.place,
+        width: at.width,
+    };
+    let from = offsets.inside(i);
+    let to = offsets.inside(i + 1);
     Span {
         place: at.text + from,
         len: to - from,
@@ -78,85 +84,87 @@ fn text_of(image: &[u8], node: u32, at: TextsAt, i: usize) -> Span
 }
 
 // The view of row i is a short one without a byte above 7F, or a long one, where no data buffer has such a byte.
-fn is_plain(image: &[u8], node: u32, at: TextsAt, found: Buffers, i: usize) -> bool
-    requires { TextRow image.now node at i × (at.views ≡ true) × Found image.now node at found }
-    ensures { result ≡ true → well_formed (text_at image.now node (offset_of image.now node + i)) ≡ true }
+fn is_plain(node: Node, at: TextsAt, found: Buffers, i: usize) -> bool
+    requires { (TextRow of node) at i × (at.views ≡ true) × (Found of node) at found }
+    ensures { result ≡ true → well_formed ((text_at of node.entry) ((offset_of of node.entry) + i)) ≡ true }
 {
     let view = at.place + i * VIEW_SIZE;
-    if quad(image, view) <= INLINE_LENGTH {
-        return !high_among(&image[view..view + VIEW_SIZE]);
+    if load::<4>(node.image, view) <= INLINE_LENGTH {
+        return !high_among(&node.image[view..view + VIEW_SIZE]);
     }
     found.plain
 }
 
 // The text of row i, a view, is cut out of its data buffer where no tail stands: it is well-formed where the buffer is, as
 // one text. A short view's text stands in no buffer.
-fn cut_well(image: &[u8], node: u32, at: TextsAt, i: usize) -> bool
-    requires { TextRow image.now node at i × (at.views ≡ true) }
-    ensures { result ≡ true → EachBuffer (formed_buffer image.now node) (buffer_count image.now node) → well_formed (text_at image.now node (offset_of image.now node + i)) ≡ true }
+fn cut_well(node: Node, at: TextsAt, i: usize) -> bool
+    requires { (TextRow of node) at i × (at.views ≡ true) }
+    ensures { result ≡ true → EachBuffer (formed_buffer of node.entry) (buffer_count of node.entry) → well_formed ((text_at of node.entry) ((offset_of of node.entry) + i)) ≡ true }
 {
     let view = at.place + i * VIEW_SIZE;
-    let len = quad(image, view);
+    let len = load::<4>(node.image, view);
     if len <= INLINE_LENGTH {
         return false;
     }
-    let buffer = (1 + quad(image, view + 8)) as u32;
-    let end = buffer_place(image, node, buffer) + buffer_length(image, node, buffer);
-    let start = data_place(image, node, view, len);
-    if is_tail(image[start]) {
+    let buffer = (1 + load::<4>(node.image, view + 8)) as u32;
+    let end = node.buffer_place(buffer) + node.buffer_length(buffer);
+    let start = data_place(node.image, node.number, view, len);
+    if is_tail(node.image[start]) {
         return false;
     }
     if start + len < end {
-        return !is_tail(image[start + len]);
+        return !is_tail(node.image[start + len]);
     }
     true
 }
 
 // The text of row i, which is not null, is well-formed.
-fn is_formed(image: &[u8], node: u32, at: TextsAt, found: Buffers, i: usize) -> bool
-    requires { TextRow image.now node at i × Found image.now node at found }
-    ensures { result ≡ well_formed (text_at image.now node (offset_of image.now node + i)) }
+fn is_formed(node: Node, at: TextsAt, found: Buffers, i: usize) -> bool
+    requires { (TextRow of node) at i × (Found of node) at found }
+    ensures { result ≡ well_formed ((text_at of node.entry) ((offset_of of node.entry) + i)) }
 {
     if at.views {
-        if is_plain(image, node, at, found, i) {
+        if is_plain(node, at, found, i) {
             return true;
         }
     }
     if found.formed {
-        if cut_well(image, node, at, i) {
+        if cut_well(node, at, i) {
             return true;
         }
     }
-    let text = text_of(image, node, at, i);
-    is_utf8(&image[text.place..text.place + text.len])
+    let text = text_of(node, at, i);
+    is_utf8(&node.image[text.place..text.place + text.len])
 }
 
 // A row that is not null has an ill-formed text.
-fn rows_fault(image: &[u8], node: u32, at: TextsAt, found: Buffers) -> bool
-    requires { TextNode image.now node × TextsRead image.now node at × Found image.now node at found }
-    ensures { result ≡ any (text_row_fault image.now node) 0 (length_of image.now node) }
+fn rows_fault(node: Node, at: TextsAt, found: Buffers) -> bool
+    requires { (TextNode of node) × (TextsRead of node) at × (Found of node) at found }
+    ensures { result ≡ any (text_row_fault of node.entry) 0 (length_of of node.entry) }
 {
-    let rows = length(image, node);
-    let mask = mask_of(image, node);
-    let mut i: usize = 0;
-    while i < rows {
-        if is_kept(image, node, mask, i) {
-            if !is_formed(image, node, at, found, i) {
+    let bitmap = node.bitmap();
+    for i in 0..node.length() {
+        if node.is_kept(bitmap, i) {
+            if !is_formed(node, at, found, i) {
                 return true;
             }
         }
-        i += 1;
     }
     false
 }
 
 // The texts of all rows, which stand one after the other, as one.
-fn stretch_of(image: &[u8], node: u32, at: TextsAt) -> Span
-    requires { TextNode image.now node × TextsRead image.now node at × (at.views ≡ false) }
-    ensures { Stretch image.now node result }
+fn stretch_of(node: Node, at: TextsAt) -> Span
+    requires { (TextNode of node) × (TextsRead of node) at × (at.views ≡ false) }
+    ensures { (Stretch of node.entry) result }
 {
-    let from = nth_inside(image, at.place, at.width, 0);
-    let to = nth_inside(image, at.place, at.width, length(image, node));
+    let offsets = Numbers {
+        bytes: node.image,
+        place: at.place,
+        width: at.width,
+    };
+    let from = offsets.inside(0);
+    let to = offsets.inside(node.length());
     Span {
         place: at.text + from,
         len: to - from,
@@ -164,102 +172,95 @@ fn stretch_of(image: &[u8], node: u32, at: TextsAt) -> Span
 }
 
 // A row's text starts inside a letter: with a tail, before the end of all texts.
-fn letter_split(image: &[u8], node: u32, at: TextsAt, end: usize) -> bool
-    requires { TextNode image.now node × TextsRead image.now node at × (at.views ≡ false) × (end ≤ length image.now) }
-    ensures { result ≡ any (splits image.now node end) 0 (length_of image.now node) }
+fn letter_split(node: Node, at: TextsAt, end: usize) -> bool
+    requires { (TextNode of node) × (TextsRead of node) at × (at.views ≡ false) × (end ≤ length node.image.now) }
+    ensures { result ≡ any ((splits of node.entry) end) 0 (length_of of node.entry) }
 {
-    let rows = length(image, node);
-    let mut i: usize = 0;
-    while i < rows {
-        let start = at.text + nth_inside(image, at.place, at.width, i);
+    let offsets = Numbers {
+        bytes: node.image,
+        place: at.place,
+        width: at.width,
+    };
+    for i in 0..node.length() {
+        let start = at.text + offsets.inside(i);
         if start < end {
-            if is_tail(image[start]) {
+            if is_tail(node.image[start]) {
                 return true;
             }
         }
-        i += 1;
     }
     false
 }
 
 // The texts of all rows are well-formed, as one look at all of them together tells: there is no byte above 7F, or they are
 // one well-formed text and no row's starts inside a letter. A no tells nothing, since bytes under nulls are among them.
-fn formed_together(image: &[u8], node: u32, at: TextsAt) -> bool
-    requires { TextNode image.now node × TextsRead image.now node at × (at.views ≡ false) }
-    ensures { result ≡ true → any (text_row_fault image.now node) 0 (length_of image.now node) ≡ false }
+fn formed_together(node: Node, at: TextsAt) -> bool
+    requires { (TextNode of node) × (TextsRead of node) at × (at.views ≡ false) }
+    ensures { result ≡ true → any (text_row_fault of node.entry) 0 (length_of of node.entry) ≡ false }
 {
-    let all = stretch_of(image, node, at);
-    let text = &image[all.place..all.place + all.len];
+    let all = stretch_of(node, at);
+    let text = &node.image[all.place..all.place + all.len];
     if !has_high(text) {
         return true;
     }
     if !walks_well(text) {
         return false;
     }
-    !letter_split(image, node, at, all.place + all.len)
+    !letter_split(node, at, all.place + all.len)
 }
 
 // The views have more bytes in all than the image, so that many share theirs. It chooses a path and no answer.
-fn bytes_shared(image: &[u8], node: u32, at: TextsAt) -> bool
-    requires { TextNode image.now node × TextsRead image.now node at × (at.views ≡ true) }
+fn bytes_shared(node: Node, at: TextsAt) -> bool
+    requires { (TextNode of node) × (TextsRead of node) at × (at.views ≡ true) }
 {
-    let rows = length(image, node);
     let mut sum: usize = 0;
-    let mut i: usize = 0;
-    while i < rows {
-        sum += quad(image, at.place + i * VIEW_SIZE);
-        i += 1;
+    for i in 0..node.length() {
+        sum += load::<4>(node.image, at.place + i * VIEW_SIZE);
     }
-    image.len() < sum
+    node.image.len() < sum
 }
 
 // The data buffers of views have no byte above 7F.
-fn buffers_plain(image: &[u8], node: u32) -> bool
-    requires { TextNode image.now node }
-    ensures { result ≡ true → EachBuffer (plain_buffer image.now node) (buffer_count image.now node) }
+fn buffers_plain(node: Node) -> bool
+    requires { TextNode of node }
+    ensures { result ≡ true → EachBuffer (plain_buffer of node.entry) (buffer_count of node.entry) }
 {
-    let count = buffer_count(image, node);
-    let mut j: u32 = 1;
-    while j < count {
-        let place = buffer_place(image, node, j);
-        let len = buffer_length(image, node, j);
-        if has_high(&image[place..place + len]) {
+    for j in 1..node.buffer_count() {
+        let place = node.buffer_place(j);
+        let len = node.buffer_length(j);
+        if has_high(&node.image[place..place + len]) {
             return false;
         }
-        j += 1;
     }
     true
 }
 
 // The data buffers of views are well-formed, each as one text.
-fn buffers_formed(image: &[u8], node: u32) -> bool
-    requires { TextNode image.now node }
-    ensures { result ≡ true → EachBuffer (formed_buffer image.now node) (buffer_count image.now node) }
+fn buffers_formed(node: Node) -> bool
+    requires { TextNode of node }
+    ensures { result ≡ true → EachBuffer (formed_buffer of node.entry) (buffer_count of node.entry) }
 {
-    let count = buffer_count(image, node);
-    let mut j: u32 = 1;
-    while j < count {
-        let place = buffer_place(image, node, j);
-        let len = buffer_length(image, node, j);
-        if !is_utf8(&image[place..place + len]) {
+    for j in 1..node.buffer_count() {
+        let place = node.buffer_place(j);
+        let len = node.buffer_length(j);
+        if !is_utf8(&node.image[place..place + len]) {
             return false;
         }
-        j += 1;
     }
     true
 }
 
 // What can be said of the data buffers of views. That they are well-formed is looked at only where views share their bytes:
 // then each is walked once, and no longer for each view.
-fn buffers_of(image: &[u8], node: u32, at: TextsAt) -> Buffers
-    requires { TextNode image.now node × TextsRead image.now node at × (at.views ≡ true) }
-    ensures { Found image.now node at result }
+fn buffers_of(node: Node, at: TextsAt) -> Buffers
+    requires { (TextNode of node) × (TextsRead of node) at × (at.views ≡ true) }
+    ensures { (Found of node.entry) at result }
 {
-    let plain = buffers_plain(image, node);
-    if bytes_shared(image, node, at) {
+    let plain = buffers_plain(node);
+    if bytes_shared(node, at) {
         return Buffers {
             plain: plain,
-            formed: buffers_formed(image, node),
+            formed: buffers_formed(node),
         };
     }
     Buffers {
@@ -269,22 +270,21 @@ fn buffers_of(image: &[u8], node: u32, at: TextsAt) -> Buffers
 }
 
 // The node has fault 19.
-pub fn fault_19(image: &[u8], node: u32) -> bool
-    requires { NoneBelow 19 image.now × (node < node_count image.now) }
-    ensures { result ≡ fault19 image.now node }
+pub fn fault_19(node: Node) -> bool
+    requires { NoneBelow 19 node.image.now × (node.number < node_count node.image.now) }
+    ensures { result ≡ fault19 of node.entry }
 {
-    if !TypeCode::is_text(code(image, node)) {
+    if !TypeCode::is_text(node.code()) {
         return false;
     }
-    let at = texts_of(image, node);
+    let at = texts_of(node);
     if at.views {
-        return rows_fault(image, node, at, buffers_of(image, node, at));
+        return rows_fault(node, at, buffers_of(node, at));
     }
-    if formed_together(image, node, at) {
+    if formed_together(node, at) {
         return false;
     }
     rows_fault(
-        image,
         node,
         at,
         Buffers {

@@ -14,17 +14,17 @@ overflow_mul-view c = omega (arith, view_fits c.requires.0.node c.requires.0.rea
 pub overflow_add-view : goal.overflow_add-view
 overflow_add-view c = omega (arith, view_fits c.requires.0.node c.requires.0.read c.requires.1 _ c.requires.0.row, small_image c.requires.0.node)
 
-pub quad-requires : goal.quad-requires
-quad-requires c = omega (arith, view_fits c.requires.0.node c.requires.0.read c.requires.1 _ c.requires.0.row)
+pub load-requires : goal.load-requires
+load-requires c = (omega arith, omega (arith, view_fits c.requires.0.node c.requires.0.read c.requires.1 _ c.requires.0.row))
 
-pub overflow_add-view-then-quad-le-INLINE_LENGTH : goal.overflow_add-view-then-quad-le-INLINE_LENGTH
-overflow_add-view-then-quad-le-INLINE_LENGTH c = omega (arith, view_fits c.requires.0.node c.requires.0.read c.requires.1 _ c.requires.0.row, small_image c.requires.0.node)
+pub overflow_add-view-then-load-le-INLINE_LENGTH : goal.overflow_add-view-then-load-le-INLINE_LENGTH
+overflow_add-view-then-load-le-INLINE_LENGTH c = omega (arith, view_fits c.requires.0.node c.requires.0.read c.requires.1 _ c.requires.0.row, small_image c.requires.0.node)
 
 pub slice_bounds-high_among-end : goal.slice_bounds-high_among-end
 slice_bounds-high_among-end c = omega (arith, view_fits c.requires.0.node c.requires.0.read c.requires.1 _ c.requires.0.row)
 
-pub returns-then-quad-le-INLINE_LENGTH : goal.returns-then-quad-le-INLINE_LENGTH
-returns-then-quad-le-INLINE_LENGTH c = λ e. plain_short c.requires.0.node c.requires.0.read c.requires.1 _ c.quad.ensures.value c.requires.0.row c.requires.0.not_null c.if-quad-le-INLINE_LENGTH.true (sym (c.high_among.ensures ∙ ap any_high (sliced _ _ 16 (omega (arith, view_fits c.requires.0.node c.requires.0.read c.requires.1 _ c.requires.0.row)))) ∙ not-true _ e)
+pub returns-then-load-le-INLINE_LENGTH : goal.returns-then-load-le-INLINE_LENGTH
+returns-then-load-le-INLINE_LENGTH c = λ e. plain_short c.requires.0.node c.requires.0.read c.requires.1 _ c.load.ensures.value c.requires.0.row c.requires.0.not_null c.if-load-le-INLINE_LENGTH.true (sym (c.high_among.ensures ∙ ap any_high (sliced _ _ 16 (omega (arith, view_fits c.requires.0.node c.requires.0.read c.requires.1 _ c.requires.0.row)))) ∙ not-true _ e)
 
 pub returns : goal.returns
-returns c = λ e. plain_long c.requires.0.node c.requires.0.read c.requires.1 _ c.quad.ensures.value c.requires.0.row c.requires.0.not_null c.if-quad-le-INLINE_LENGTH.false refl (c.requires.2.plain e)
+returns c = λ e. plain_long c.requires.0.node c.requires.0.read c.requires.1 _ c.load.ensures.value c.requires.0.row c.requires.0.not_null c.if-load-le-INLINE_LENGTH.false refl (c.requires.2.plain e)

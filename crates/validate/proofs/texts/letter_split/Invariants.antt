@@ -3,11 +3,7 @@
 use Rattle.image.specs.Ranges.{any}
 use Rattle.image.proofs.Loops.{Rest}
 use Rattle.validate.specs.Texts.{splits}
-use Prim.Native.Nat.{◌-◌}
 use Rattle.validate.proofs.texts.letter_split.Given as goal
 
 abbrev pub invariant-loop-i : goal.invariant-loop-i
-invariant-loop-i l = Rest (any (splits l.image l.node l.end)) 0 l.rows l.i
-
-abbrev pub decreases-loop-i : goal.decreases-loop-i
-decreases-loop-i l = l.rows - l.i
+invariant-loop-i l = Rest (any (splits l.node.image.now l.node.number l.end)) 0 l.i-end l.i

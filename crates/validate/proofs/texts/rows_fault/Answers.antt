@@ -12,16 +12,16 @@ pub loop-i-init : goal.loop-i-init
 loop-i-init c = rest_none _ _ _
 
 pub is_kept-requires : goal.is_kept-requires
-is_kept-requires c = (c.mask_of-mask.ensures, omega (arith, c.length-rows.ensures.small))
+is_kept-requires c = (c.bitmap-bitmap.ensures, omega (arith, c.length-i-end.ensures.small))
 
 pub is_formed-requires : goal.is_formed-requires
-is_formed-requires c = (record { node = c.requires.0; read = c.requires.1; row = omega (arith, c.length-rows.ensures.value); not_null = sym c.is_kept.ensures ∙ c.if-is_kept.true }, c.requires.2)
+is_formed-requires c = (record { node = c.requires.0; read = c.requires.1; row = omega (arith, c.length-i-end.ensures.value); not_null = sym c.is_kept.ensures ∙ c.if-is_kept.true }, c.requires.2)
 
 pub returns-then-not-is_formed : goal.returns-then-not-is_formed
-returns-then-not-is_formed c = rw (← c.length-rows.ensures.value) (any_found _ _ _ _ c.loop-i-test.true c.loop-i.invariant (text_row _ _ _ _ _ c.is_kept.ensures c.if-is_kept.true c.is_formed.ensures ∙ ap not c.if-not-is_formed.true))
+returns-then-not-is_formed c = rw (← c.length-i-end.ensures.value) (any_found _ _ _ _ c.loop-i-test.true c.loop-i.invariant (text_row _ _ _ _ _ c.is_kept.ensures c.if-is_kept.true c.is_formed.ensures ∙ ap not c.if-not-is_formed.true))
 
 pub loop-i-preserved : goal.loop-i-preserved
 loop-i-preserved c = any_more _ _ _ _ c.loop-i-test.true c.loop-i.invariant (elim c.if-is_kept.branch [ then-is_kept+else-not-is_formed w ↦ text_row _ _ _ _ _ c.is_kept.ensures w.if-is_kept.true w.is_formed.ensures ∙ ap not w.if-not-is_formed.false | else-is_kept w ↦ null_row _ _ _ _ c.is_kept.ensures w.if-is_kept.false ])
 
 pub returns : goal.returns
-returns c = rw (← c.length-rows.ensures.value) (any_done _ _ _ _ c.loop-i-test.false c.loop-i.invariant)
+returns c = rw (← c.length-i-end.ensures.value) (any_done _ _ _ _ c.loop-i-test.false c.loop-i.invariant)

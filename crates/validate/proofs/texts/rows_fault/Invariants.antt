@@ -3,11 +3,7 @@
 use Rattle.image.specs.Ranges.{any}
 use Rattle.image.specs.Faults.{text_row_fault}
 use Rattle.image.proofs.Loops.{Rest}
-use Prim.Native.Nat.{◌-◌}
 use Rattle.validate.proofs.texts.rows_fault.Given as goal
 
 abbrev pub invariant-loop-i : goal.invariant-loop-i
-invariant-loop-i l = Rest (any (text_row_fault l.image l.node)) 0 l.rows l.i
-
-abbrev pub decreases-loop-i : goal.decreases-loop-i
-decreases-loop-i l = l.rows - l.i
+invariant-loop-i l = Rest (any (text_row_fault l.node.image.now l.node.number)) 0 l.i-end l.i

@@ -4,17 +4,17 @@ use Rattle.validate.proofs.TextRows.{small_image, offset_inside, starts_apart, s
 use native.Mathlib.Omega.{arith}
 use Rattle.validate.proofs.texts.stretch_of.Goals as goal
 
-pub nth_inside-from-requires : goal.nth_inside-from-requires
-nth_inside-from-requires c = offset_inside c.requires.0 c.requires.1 c.requires.2 0 (omega arith)
+pub inside-from-requires : goal.inside-from-requires
+inside-from-requires c = offset_inside c.requires.0 c.requires.1 c.requires.2 0 (omega arith)
 
-pub nth_inside-to-requires : goal.nth_inside-to-requires
-nth_inside-to-requires c = offset_inside c.requires.0 c.requires.1 c.requires.2 _ (omega (arith, c.length.ensures.value))
+pub inside-to-requires : goal.inside-to-requires
+inside-to-requires c = offset_inside c.requires.0 c.requires.1 c.requires.2 _ (omega (arith, c.length.ensures.value))
 
 pub overflow_add-result : goal.overflow_add-result
-overflow_add-result c = omega (arith, (stretch c.requires.0 c.requires.1 c.requires.2 c.length.ensures.value c.nth_inside-from.ensures.value c.nth_inside-to.ensures.value).inside, small_image c.requires.0)
+overflow_add-result c = omega (arith, (stretch c.requires.0 c.requires.1 c.requires.2 c.length.ensures.value c.inside-from.ensures.value c.inside-to.ensures.value).inside, small_image c.requires.0)
 
 pub overflow_sub-result : goal.overflow_sub-result
-overflow_sub-result c = starts_apart c.requires.0 c.requires.1 c.requires.2 {i = 0} {j = c.length.result} (omega arith) (omega (arith, c.length.ensures.value)) c.nth_inside-from.ensures.value c.nth_inside-to.ensures.value
+overflow_sub-result c = starts_apart c.requires.0 c.requires.1 c.requires.2 {i = 0} {j = c.length.result} (omega arith) (omega (arith, c.length.ensures.value)) c.inside-from.ensures.value c.inside-to.ensures.value
 
 pub returns : goal.returns
-returns c = stretch c.requires.0 c.requires.1 c.requires.2 c.length.ensures.value c.nth_inside-from.ensures.value c.nth_inside-to.ensures.value
+returns c = stretch c.requires.0 c.requires.1 c.requires.2 c.length.ensures.value c.inside-from.ensures.value c.inside-to.ensures.value

@@ -11,29 +11,29 @@ overflow_mul-view c = omega (arith, view_fits c.requires.node c.requires.read c.
 pub overflow_add-view : goal.overflow_add-view
 overflow_add-view c = omega (arith, view_fits c.requires.node c.requires.read c.if-at.true _ c.requires.row, small_image c.requires.node)
 
-pub quad-len-requires : goal.quad-len-requires
-quad-len-requires c = omega (arith, view_fits c.requires.node c.requires.read c.if-at.true _ c.requires.row)
+pub load-len-requires : goal.load-len-requires
+load-len-requires c = (omega arith, omega (arith, view_fits c.requires.node c.requires.read c.if-at.true _ c.requires.row))
 
 pub data_place-requires : goal.data_place-requires
-data_place-requires c = viewed c.requires.node c.requires.read c.if-at.true _ c.quad-len.ensures.value c.requires.row c.requires.not_null
+data_place-requires c = viewed c.requires.node c.requires.read c.if-at.true _ c.load-len.ensures.value c.requires.row c.requires.not_null
 
 pub returns-then-at : goal.returns-then-at
-returns-then-at c = view_span c.requires.node c.requires.read c.if-at.true _ c.quad-len.ensures.value c.data_place.ensures
+returns-then-at c = view_span c.requires.node c.requires.read c.if-at.true _ c.load-len.ensures.value c.data_place.ensures
 
-pub nth_inside-from-requires : goal.nth_inside-from-requires
-nth_inside-from-requires c = offset_inside c.requires.node c.requires.read c.if-at.false _ (omega (arith, c.requires.row))
+pub inside-from-requires : goal.inside-from-requires
+inside-from-requires c = offset_inside c.requires.node c.requires.read c.if-at.false _ (omega (arith, c.requires.row))
 
 pub overflow_add-i : goal.overflow_add-i
 overflow_add-i c = omega (arith, c.requires.row, few_rows c.requires.node)
 
-pub nth_inside-to-requires : goal.nth_inside-to-requires
-nth_inside-to-requires c = offset_inside c.requires.node c.requires.read c.if-at.false _ (omega (arith, c.requires.row))
+pub inside-to-requires : goal.inside-to-requires
+inside-to-requires c = offset_inside c.requires.node c.requires.read c.if-at.false _ (omega (arith, c.requires.row))
 
 pub overflow_add-result : goal.overflow_add-result
-overflow_add-result c = omega (arith, (offset_span c.requires.node c.requires.read c.if-at.false c.requires.row c.nth_inside-from.ensures.value c.nth_inside-to.ensures.value).inside, small_image c.requires.node)
+overflow_add-result c = omega (arith, (offset_span c.requires.node c.requires.read c.if-at.false c.requires.row c.inside-from.ensures.value c.inside-to.ensures.value).inside, small_image c.requires.node)
 
 pub overflow_sub-result : goal.overflow_sub-result
-overflow_sub-result c = starts_apart c.requires.node c.requires.read c.if-at.false {i = c.args.i} {j = c.args.i + 1} (omega arith) (omega (arith, c.requires.row)) c.nth_inside-from.ensures.value c.nth_inside-to.ensures.value
+overflow_sub-result c = starts_apart c.requires.node c.requires.read c.if-at.false {i = c.args.i} {j = c.args.i + 1} (omega arith) (omega (arith, c.requires.row)) c.inside-from.ensures.value c.inside-to.ensures.value
 
 pub returns : goal.returns
-returns c = offset_span c.requires.node c.requires.read c.if-at.false c.requires.row c.nth_inside-from.ensures.value c.nth_inside-to.ensures.value
+returns c = offset_span c.requires.node c.requires.read c.if-at.false c.requires.row c.inside-from.ensures.value c.inside-to.ensures.value
