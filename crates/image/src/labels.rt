@@ -5,7 +5,7 @@ ghost use Rattle.image.specs.Types.{counted_for};
 use crate::type_code::TypeCode;
 
 // Which of a child's labels count.
-#[derive(Clone, Copy)]
+#[derive(Clone, Copy, Debug, PartialEq, Eq)]
 pub struct Counted {
     pub name: bool,
     pub flag: bool,

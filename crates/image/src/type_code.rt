@@ -3,7 +3,7 @@ ghost use Rattle.std.specs.Prelude.{◌≡◌, ◌≤◌};
 ghost use Rattle.image.specs.TypeCode.{entry_of, layout_of, integer_width, width_of, child_rule, buffer_rule, takes_bitmap, p1_fits, p2_fits, is_text, is_union, key_signed, sign_bit, counts};
 
 // How a node stores its rows. Every code has one of these layouts.
-#[derive(Clone, Copy)]
+#[derive(Clone, Copy, Debug, PartialEq, Eq)]
 pub enum Layout {
     Null,
     Boolean,
@@ -21,7 +21,7 @@ pub enum Layout {
 }
 
 // How many children or buffers a node may have.
-#[derive(Clone, Copy)]
+#[derive(Clone, Copy, Debug, PartialEq, Eq)]
 pub enum Count {
     Exactly(u16),
     AtLeast(u16),
@@ -29,12 +29,12 @@ pub enum Count {
 
 impl Count {
     // Whether a node may have n children or buffers.
-    pub fn allows(self, n: u16) -> bool
+    pub fn allows(self, n: u32) -> bool
         ensures { result ≡ counts self n }
     {
         match self {
-            Count::Exactly(k) => n == k,
-            Count::AtLeast(k) => k <= n,
+            Count::Exactly(k) => n == u32::from(k),
+            Count::AtLeast(k) => u32::from(k) <= n,
         }
     }
 }
@@ -330,17 +330,17 @@ impl TypeCode {
     pub fn is_union(code: u8) -> bool
         ensures { result ≡ is_union code }
     {
-        match code {
-            TypeCode::DENSE_UNION | TypeCode::SPARSE_UNION => true,
-            _ => false,
-        }
+        matches!(code, TypeCode::DENSE_UNION | TypeCode::SPARSE_UNION)
     }
 
     // Whether the rows of a node of this code are text.
     pub fn is_text(code: u8) -> bool
         ensures { result ≡ is_text code }
     {
-        (code == TypeCode::UTF8) | (code == TypeCode::LARGE_UTF8) | (code == TypeCode::UTF8_VIEW)
+        matches!(
+            code,
+            TypeCode::UTF8 | TypeCode::LARGE_UTF8 | TypeCode::UTF8_VIEW
+        )
     }
 
     // Whether a Dictionary's keys, of the integer code p1, are signed.

@@ -9,7 +9,7 @@ ghost use Rattle.image.specs.Of.{◌of◌};
 ghost use Rattle.validate.specs.Walks.{Walks};
 
 use crate::names::is_outside;
-use crate::tree::{Walk, count_wrong, total_wrong};
+use crate::tree::{Walk, total_wrong};
 use image::record::{MOST_ELEMENTS, Node, buffer_total};
 use image::type_code::{Layout, TypeCode};
 
@@ -77,7 +77,7 @@ pub fn fault_14(node: Node, walk: Walk) -> bool
     requires { (Walks of node) walk }
     ensures { result ≡ fault14 of node.entry }
 {
-    if count_wrong(TypeCode::buffers(node.code()), node.buffer_count()) {
+    if !TypeCode::buffers(node.code()).allows(node.buffer_count()) {
         return true;
     }
     if node.first_buffer() as usize != walk.buffers {

@@ -8,7 +8,7 @@ ghost use Rattle.image.specs.Ranges.{sum_to};
 ghost use Rattle.validate.specs.Walks.{Sum, Total, Counts, Passed, Parents, Walks};
 
 use image::record::{MAX_DEPTH, Node, node_count};
-use image::type_code::{Count, TypeCode};
+use image::type_code::TypeCode;
 
 const LARGEST_ID: usize = 127;
 
@@ -138,14 +138,6 @@ impl Walk {
     }
 }
 
-// The number of children or buffers is not what the code's rule says.
-pub fn count_wrong(rule: Count, count: u32) -> bool
-    requires { count < 2 ^ 16 }
-    ensures { result ≡ not (counts rule count) }
-{
-    !rule.allows(count as u16)
-}
-
 // Node 0 stands for the total: the counts of all nodes make what the header or the tables say.
 pub fn total_wrong(node: u32, all: usize, total: u32) -> bool
     ensures { result ≡ (eqb node 0 && not (eqb all total)) }
@@ -247,7 +239,7 @@ pub fn fault_12(node: Node, walk: Walk) -> bool
     requires { (Walks of node) walk }
     ensures { result ≡ fault12 of node.entry }
 {
-    if count_wrong(TypeCode::children(node.code()), node.child_count()) {
+    if !TypeCode::children(node.code()).allows(node.child_count()) {
         return true;
     }
     let first = node.first_child();
