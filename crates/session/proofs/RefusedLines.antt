@@ -12,11 +12,10 @@ use Rattle.image.specs.Faults.{Checked, check_image}
 use Rattle.std.proofs.Common.{Ok, Err}
 use Rattle.answers.specs.Answers.{write_answer, write_output}
 use Rattle.api.proofs.RefusedWrites.{refused_unwritten}
-use Rattle.session.specs.declared.frame.Frame.{Frame}
 use Rattle.session.specs.Frames.{Asked}
 use Rattle.session.specs.declared.frame.Frame.TheVariants.{Piece, Close, Compare, CompareRange, Write, Empty}
 use Rattle.session.specs.declared.reply.Reply.TheVariants.{Done}
-use Rattle.session.specs.declared.reply.Refusal.TheVariants.{NoFrame, Faulty, UnequalTypes, OutOfRange, PastStore, Closed, Open, TooLong}
+use Rattle.session.specs.declared.reply.Refusal.TheVariants.{PastStore, Closed, Open}
 use Rattle.session.specs.declared.step.SideState.{SideState}
 use Rattle.session.specs.declared.step.State.{State}
 use Rattle.session.specs.Frames.{frame_of}

@@ -13,12 +13,11 @@ use Rattle.image.specs.declared.answer.Side.{Side}
 use Rattle.image.specs.Faults.{Checked, check_image}
 use Rattle.std.proofs.Common.{Ok, Err}
 use Rattle.image.specs.declared.answer.Fault.{Fault}
-use Rattle.session.specs.declared.frame.Frame.{Frame}
 use Rattle.session.specs.Frames.{Asked}
 use Rattle.session.specs.declared.frame.Frame.TheVariants.{Piece}
 use Rattle.session.specs.Replies.{Replied}
 use Rattle.session.specs.declared.reply.Reply.TheVariants.{Done}
-use Rattle.session.specs.declared.reply.Refusal.TheVariants.{NoFrame, Faulty, UnequalTypes, OutOfRange, PastStore, Closed, Open, TooLong}
+use Rattle.session.specs.declared.reply.Refusal.TheVariants.{Faulty, PastStore, Closed, Open}
 use Rattle.session.specs.declared.step.SideState.{SideState}
 use Rattle.session.specs.declared.step.State.{State}
 use Rattle.session.specs.Frames.{frame_of}

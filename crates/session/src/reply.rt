@@ -100,12 +100,8 @@ fn copy(n: usize, out: &[u8], bytes: &mut [u8]) -> usize
     ensures bytes_after { take (1 + result) bytes.new ≡ take 1 bytes.old ++ take n out.now }
 {
     let most = front(out, n);
-    let mut k: usize = 0;
-    while k < most {
-        bytes[1 + k] = out[k];
-        k += 1;
-    }
-    k
+    bytes[1..1 + most].copy_from_slice(&out[..most]);
+    most
 }
 
 // The bytes of a refusal, put at the front of a buffer, and how many they are.
@@ -195,15 +191,14 @@ fn print(bytes: &[u8], text: &mut [u8]) -> usize
     ensures value { result ≡ length (line_text bytes.now) }
     ensures text_after { text.new ≡ line_text bytes.now ++ drop result text.old }
 {
-    let mut k: usize = 0;
-    while k < bytes.len() {
+    let n = bytes.len();
+    for k in 0..n {
         let x = bytes[k];
         text[2 * k] = digit_text(x / 16);
         text[2 * k + 1] = digit_text(x % 16);
-        k += 1;
     }
-    text[2 * k] = LINE_FEED;
-    2 * k + 1
+    text[2 * n] = LINE_FEED;
+    2 * n + 1
 }
 
 // The line that a reply is printed as, put at the front of a text, and how many characters it has.

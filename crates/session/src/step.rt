@@ -89,11 +89,7 @@ fn piece(store: &mut [u8], side_state: SideState, bytes: &[u8]) -> SideStepped
             reply: Err(Refusal::PastStore),
         };
     }
-    let mut k: usize = 0;
-    while k < n {
-        store[used + k] = bytes[k];
-        k += 1;
-    }
+    store[used..used + n].copy_from_slice(bytes);
     SideStepped {
         state: SideState {
             used: used + n,

@@ -1,7 +1,6 @@
 -- The side is that of the second byte.
 -- By the byte.
 use borrow.Author.Tests.{ne_eqb}
-use native.Mathlib.Omega.{arith}
 use Rattle.session.specs.Frames.{side_in}
 use Rattle.session.proofs.frame.side_in.Goals as goal
 

@@ -2,7 +2,6 @@
 -- By the reply's variants; each stores its bytes one by one, or has them copied.
 use lib.ListN.{length-set, length-take}
 use Rattle.session.proofs.Texts.{puts, yes_byte}
-use Rattle.image.specs.Bytes.{number_bytes}
 use mathlib.Core.List.{[], ◌∷◌}
 use mathlib.Core.Path.{refl, ◌∙◌}
 use native.Mathlib.Omega.{arith}

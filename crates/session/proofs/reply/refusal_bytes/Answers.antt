@@ -1,10 +1,9 @@
 -- The bytes of a refusal stand at the front: its number, and what follows it.
 -- By the refusal's variants.
-use lib.ListN.{length-set, length-take}
 use Rattle.session.proofs.Texts.{puts}
 use Rattle.image.specs.Bytes.{number_bytes}
 use mathlib.Core.List.{[], ◌∷◌}
-use mathlib.Core.Path.{◌∙◌, refl}
+use mathlib.Core.Path.{refl}
 use native.Mathlib.Omega.{arith}
 use Rattle.session.proofs.reply.refusal_bytes.Goals as goal
 
