@@ -9,9 +9,10 @@ use lib.Seq.{paste}
 use Rattle.image.specs.declared.answer.Side.TheVariants.{Left, Right}
 use Rattle.image.specs.Faults.{Checked, check_image}
 use Rattle.std.proofs.Common.{Ok, Err}
-use Rattle.session.specs.declared.frame.Frame.{Frame}
-use Rattle.session.specs.declared.frame.Frame.TheVariants.{Piece, Close, Compare, CompareRange, Write, Empty, Refused as BadFrame}
-use Rattle.session.specs.declared.reply.Reply.TheVariants.{Done, Refused}
+use Rattle.session.specs.Frames.{Asked}
+use Rattle.session.specs.declared.frame.Frame.TheVariants.{Piece, Close, Compare, CompareRange, Write, Empty}
+use Rattle.session.specs.declared.reply.Reply.TheVariants.{Done}
+use Rattle.session.specs.declared.reply.Refusal.TheVariants.{PastStore, Closed}
 use Rattle.session.specs.declared.step.SideState.{SideState}
 use Rattle.session.specs.declared.step.State.{State}
 use Rattle.session.specs.Frames.{frame_of}
@@ -27,13 +28,13 @@ piece_sound : (store : List ℕ) (s : SideState) (bytes : List ℕ) → Sound s 
 unfolding piece_side piece_store
 piece_sound store s bytes sound = by_closed s.closed refl
   where
-    by_past : (b : Bool) → s.closed ≡ false → Sound (cond b (side_stepped s (Refused 40)) (side_stepped (side_state (s.used + length bytes) false) Done)).state (cond b store (paste store s.used bytes (length bytes)))
+    by_past : (b : Bool) → s.closed ≡ false → Sound (cond b (side_stepped s (Err PastStore)) (side_stepped (side_state (s.used + length bytes) false) (Ok Done))).state (cond b store (paste store s.used bytes (length bytes)))
     by_past true e = open_sound s store e
     by_past false e = open_sound (side_state (s.used + length bytes) false) _ refl
 
     by_closed : (b : Bool) → s.closed ≡ b →
         Sound
-        (cond b (side_stepped s (Refused 41)) (cond (past_store store s bytes) (side_stepped s (Refused 40)) (side_stepped (side_state (s.used + length bytes) false) Done))).state
+        (cond b (side_stepped s (Err Closed)) (cond (past_store store s bytes) (side_stepped s (Err PastStore)) (side_stepped (side_state (s.used + length bytes) false) (Ok Done)))).state
         (cond b store (cond (past_store store s bytes) store (paste store s.used bytes (length bytes))))
     by_closed true e = sound
     by_closed false e = by_past (past_store store s bytes) e
@@ -46,22 +47,22 @@ close_sound store s sound = by_closed s.closed
     by_check (Ok _) e = λ closed. e
     by_check (Err f) e = open_sound emptied store refl
 
-    by_closed : (b : Bool) → Sound (cond b (side_stepped s (Refused 41)) (closed_by (check_image (image_of s store)) s.used)).state store
+    by_closed : (b : Bool) → Sound (cond b (side_stepped s (Err Closed)) (closed_by (check_image (image_of s store)) s.used)).state store
     by_closed true = sound
     by_closed false = by_check (check_image (image_of s store)) refl
 
-frame_sound : (f : Frame) (b left right : List ℕ) (state : State) (out : List ℕ) → Sound state.left left → Sound state.right right → BothSound (obeyed f b left right state out)
+frame_sound : (f : Asked) (b left right : List ℕ) (state : State) (out : List ℕ) → Sound state.left left → Sound state.right right → BothSound (obeyed f b left right state out)
 unfolding piece_stepped close_stepped write_stepped empty_stepped
-frame_sound (Piece Left) b left right state out p q = record { left = piece_sound left state.left (drop 1 b) p; right = q }
-frame_sound (Piece Right) b left right state out p q = record { left = p; right = piece_sound right state.right (drop 1 b) q }
-frame_sound (Close Left) b left right state out p q = record { left = close_sound left state.left p; right = q }
-frame_sound (Close Right) b left right state out p q = record { left = p; right = close_sound right state.right q }
-frame_sound Compare b left right state out p q = record { left = p; right = q }
-frame_sound (CompareRange i j n) b left right state out p q = record { left = p; right = q }
-frame_sound (Write side i n) b left right state out p q = record { left = p; right = q }
-frame_sound (Empty Left) b left right state out p q = record { left = open_sound emptied left refl; right = q }
-frame_sound (Empty Right) b left right state out p q = record { left = p; right = open_sound emptied right refl }
-frame_sound (BadFrame number) b left right state out p q = record { left = p; right = q }
+frame_sound (Ok (Piece Left)) b left right state out p q = record { left = piece_sound left state.left (drop 1 b) p; right = q }
+frame_sound (Ok (Piece Right)) b left right state out p q = record { left = p; right = piece_sound right state.right (drop 1 b) q }
+frame_sound (Ok (Close Left)) b left right state out p q = record { left = close_sound left state.left p; right = q }
+frame_sound (Ok (Close Right)) b left right state out p q = record { left = p; right = close_sound right state.right q }
+frame_sound (Ok Compare) b left right state out p q = record { left = p; right = q }
+frame_sound (Ok (CompareRange i j n)) b left right state out p q = record { left = p; right = q }
+frame_sound (Ok (Write side i n)) b left right state out p q = record { left = p; right = q }
+frame_sound (Ok (Empty Left)) b left right state out p q = record { left = open_sound emptied left refl; right = q }
+frame_sound (Ok (Empty Right)) b left right state out p q = record { left = p; right = open_sound emptied right refl }
+frame_sound (Err fault) b left right state out p q = record { left = p; right = q }
 
 line_sound : (line : List ℕ) (a : After) → BothSound a → BothSound (next line a)
 unfolding after_line after_frame

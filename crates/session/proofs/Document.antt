@@ -29,7 +29,7 @@ pub document_session :
     ≡ ascii "00\n00\n00\n00\n0001\n000105000107\n"
 unfolding Bytes.ascii Sessions.replies Input.in_front Input.lines_of Input.printed_from List.flatten
     Lines.digit_of Lines.preceded Lines.scan Lines.not_too_long Lines.bytes_of
-    Frames.by_side Frames.of_length Frames.piece_frame Frames.close_frame Frames.compare_frame Frames.write_frame Frames.by_kind Frames.frame_of
+    Frames.side_in Frames.of_length Frames.piece_frame Frames.close_frame Frames.compare_frame Frames.write_frame Frames.by_kind Frames.frame_of
     Replies.digit_text Replies.hex_text Replies.line_text Replies.reply_line
     Steps.image_of Steps.past_store Steps.piece_side Steps.piece_store Steps.close_side Steps.both_closed Steps.compares_reply
     Steps.write_reply Steps.write_out Steps.piece_stepped Steps.close_stepped Steps.write_stepped Steps.written_out Steps.after_frame Steps.after_line

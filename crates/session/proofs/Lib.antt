@@ -1,6 +1,5 @@
 pub mod Chunks
 pub mod ClosedAccepted
-pub mod Copies
 pub mod Document
 pub mod Feeds
 pub mod Fronts

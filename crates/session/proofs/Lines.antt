@@ -1,7 +1,7 @@
 -- What is left to be found of a line, step by step as a decoder goes from byte to byte.
 -- A decoder keeps that the line's bytes are those it has, with what is found from its place on.
 use mathlib.Core.Path.{◌≡◌, refl, sym, ap, ◌∙◌}
-use mathlib.Core.Bool.{Bool, true, false, cond}
+use mathlib.Core.Bool.{Bool, true, false, cond, false≢true}
 use mathlib.Core.List.{List, [], ◌∷◌, ◌++◌, append-nil}
 use Prim.Native.Nat.{ℕ, ◌+◌, ◌*◌, ◌-◌, ◌≤◌, ◌<◌}
 use native.Mathlib.Numerals.{add-one}
@@ -10,7 +10,9 @@ use lib.ListN.{length, get_or, take, drop, set, length-append, length-set, lengt
 use lib.Seq.{drop-cons, take-suc-set, length-take-le, append_snoc}
 use lib.Dec.{eqb, ltb}
 use borrow.Author.Tests.{ltb-true, ltb-false, lt-ltb, le-ltb, eq-eqb, ne_eqb}
-use Rattle.session.specs.Lines.{digit_of, between, Found, bad, good, preceded, scan, not_too_long, bytes_of, rest, NextByte}
+use Rattle.std.proofs.Common.{Some, None}
+use Rattle.std.specs.Bool.{then_some}
+use Rattle.session.specs.Lines.{digit_of, digit_value, between, Found, bad, good, preceded, scan, not_too_long, bytes_of, rest, NextByte}
 
 same_arms : {A : Type 0} (b : Bool) (x : A) → cond b x x ≡ x
 same_arms true x = refl
@@ -37,8 +39,22 @@ digit_most c = by_low (ltb c 48) refl
     by_low true e = omega arith
     by_low false e = by_figure (ltb c 58) refl (ltb-false _ _ e)
 
-pub digit_small : (c r : ℕ) → r ≡ digit_of c → (r ≡ 16 → ⊥) → r < 16
-digit_small c r e ne = omega (arith, digit_most c)
+-- a character that is a digit, and one that is not
+pub digit_found : (c h : ℕ) → digit_value c ≡ Some h → (h ≡ digit_of c) × (h < 16)
+digit_found c h = cases (digit_of c) (ltb (digit_of c) 16) refl
+  where
+    cases : (d : ℕ) (b : Bool) → ltb d 16 ≡ b → then_some b d ≡ Some h → (h ≡ d) × (h < 16)
+    cases d true small e =
+        let same : d ≡ h = cc in
+        (sym same, rw same at (ltb-true d 16 small))
+    cases d false small e = absurd (false≢true cc)
+
+pub no_digit : (c : ℕ) → digit_value c ≡ None → digit_of c ≡ 16
+no_digit c = cases (digit_of c) (ltb (digit_of c) 16) refl (digit_most c)
+  where
+    cases : (d : ℕ) (b : Bool) → ltb d 16 ≡ b → d ≤ 16 → then_some b d ≡ None → d ≡ 16
+    cases d true small most e = absurd (false≢true cc)
+    cases d false small most e = omega (arith, ltb-false d 16 small)
 
 -- after a byte: at most one character is left
 pub between_one : (cs : List ℕ) → length cs < 2 → scan cs between ≡ rest cs

@@ -12,9 +12,10 @@ use Rattle.image.specs.Faults.{Checked, check_image}
 use Rattle.std.proofs.Common.{Ok, Err}
 use Rattle.answers.specs.Answers.{write_answer, write_output}
 use Rattle.api.proofs.RefusedWrites.{refused_unwritten}
-use Rattle.session.specs.declared.frame.Frame.{Frame}
-use Rattle.session.specs.declared.frame.Frame.TheVariants.{Piece, Close, Compare, CompareRange, Write, Empty, Refused as BadFrame}
-use Rattle.session.specs.declared.reply.Reply.TheVariants.{Done, Refused}
+use Rattle.session.specs.Frames.{Asked}
+use Rattle.session.specs.declared.frame.Frame.TheVariants.{Piece, Close, Compare, CompareRange, Write, Empty}
+use Rattle.session.specs.declared.reply.Reply.TheVariants.{Done}
+use Rattle.session.specs.declared.reply.Refusal.TheVariants.{PastStore, Closed, Open}
 use Rattle.session.specs.declared.step.SideState.{SideState}
 use Rattle.session.specs.declared.step.State.{State}
 use Rattle.session.specs.Frames.{frame_of}
@@ -31,13 +32,13 @@ piece_refused store s bytes = by_closed s.closed
     fits : SideState
     fits = side_state (s.used + length bytes) false
 
-    by_past : (b : Bool) → refusal (cond b (side_stepped s (Refused 40)) (side_stepped fits Done)).reply ≡ true →
-        ((cond b (side_stepped s (Refused 40)) (side_stepped fits Done)).state ≡ s) × (cond b store (paste store s.used bytes (length bytes)) ≡ store)
+    by_past : (b : Bool) → refusal (cond b (side_stepped s (Err PastStore)) (side_stepped fits (Ok Done))).reply ≡ true →
+        ((cond b (side_stepped s (Err PastStore)) (side_stepped fits (Ok Done))).state ≡ s) × (cond b store (paste store s.used bytes (length bytes)) ≡ store)
     by_past true e = (refl, refl)
     by_past false e = absurd (false≢true e)
 
-    by_closed : (b : Bool) → refusal (cond b (side_stepped s (Refused 41)) (cond (past_store store s bytes) (side_stepped s (Refused 40)) (side_stepped fits Done))).reply ≡ true →
-        ((cond b (side_stepped s (Refused 41)) (cond (past_store store s bytes) (side_stepped s (Refused 40)) (side_stepped fits Done))).state ≡ s)
+    by_closed : (b : Bool) → refusal (cond b (side_stepped s (Err Closed)) (cond (past_store store s bytes) (side_stepped s (Err PastStore)) (side_stepped fits (Ok Done)))).reply ≡ true →
+        ((cond b (side_stepped s (Err Closed)) (cond (past_store store s bytes) (side_stepped s (Err PastStore)) (side_stepped fits (Ok Done)))).state ≡ s)
         × (cond b store (cond (past_store store s bytes) store (paste store s.used bytes (length bytes))) ≡ store)
     by_closed true e = (refl, refl)
     by_closed false e = by_past (past_store store s bytes) e
@@ -51,8 +52,8 @@ close_refused store s = by_closed s.closed
     by_check (Ok _) e = absurd (false≢true e)
     by_check (Err f) e = refl
 
-    by_closed : (b : Bool) → refusal (cond b (side_stepped s (Refused 41)) (closed_by (check_image (image_of s store)) s.used)).reply ≡ true →
-        (cond b (side_stepped s (Refused 41)) (closed_by (check_image (image_of s store)) s.used)).state ≡ cond b s emptied
+    by_closed : (b : Bool) → refusal (cond b (side_stepped s (Err Closed)) (closed_by (check_image (image_of s store)) s.used)).reply ≡ true →
+        (cond b (side_stepped s (Err Closed)) (closed_by (check_image (image_of s store)) s.used)).state ≡ cond b s emptied
     by_closed true e = refl
     by_closed false e = by_check (check_image (image_of s store)) e
 
@@ -61,36 +62,36 @@ write_refused : (store : List ℕ) (s : SideState) (side : Side) (i n : ℕ) (ou
 unfolding write_reply write_out
 write_refused store s side i n out = by_closed s.closed
   where
-    by_closed : (b : Bool) → refusal (cond b (written_reply (write_answer (image_of s store) i n out) side) (Refused 42)) ≡ true → cond b (write_output (image_of s store) i n out) out ≡ out
+    by_closed : (b : Bool) → refusal (cond b (written_reply (write_answer (image_of s store) i n out) side) (Err Open)) ≡ true → cond b (write_output (image_of s store) i n out) out ≡ out
     by_closed true e = refused_unwritten (image_of s store) i n out (λ k wrote. false≢true (rw wrote at e))
     by_closed false e = refl
 
-frame_refused : (f : Frame) (b left right : List ℕ) (state : State) (out : List ℕ) → refusal (obeyed f b left right state out).stepped.reply ≡ true →
+frame_refused : (f : Asked) (b left right : List ℕ) (state : State) (out : List ℕ) → refusal (obeyed f b left right state out).stepped.reply ≡ true →
     ((obeyed f b left right state out).left ≡ left) × ((obeyed f b left right state out).right ≡ right) × ((obeyed f b left right state out).out ≡ out)
     × ((obeyed f b left right state out).stepped.state ≡ refused_state f state)
 unfolding piece_stepped close_stepped write_stepped written_out empty_stepped
-frame_refused (Piece Left) b left right state out e =
+frame_refused (Ok (Piece Left)) b left right state out e =
     let side = piece_refused left state.left (drop 1 b) e in
     (side.1, refl, refl, rw side.0 refl)
-frame_refused (Piece Right) b left right state out e =
+frame_refused (Ok (Piece Right)) b left right state out e =
     let side = piece_refused right state.right (drop 1 b) e in
     (refl, side.1, refl, rw side.0 refl)
-frame_refused (Close Left) b left right state out e = (refl, refl, refl, rw (close_refused left state.left e) (cases state.left.closed))
+frame_refused (Ok (Close Left)) b left right state out e = (refl, refl, refl, rw (close_refused left state.left e) (cases state.left.closed))
   where
     cases : (c : Bool) → ◌≡◌ {A = State} (record { left = cond c state.left emptied; right = state.right }) (cond c state (record { left = emptied; right = state.right }))
     cases true = refl
     cases false = refl
-frame_refused (Close Right) b left right state out e = (refl, refl, refl, rw (close_refused right state.right e) (cases state.right.closed))
+frame_refused (Ok (Close Right)) b left right state out e = (refl, refl, refl, rw (close_refused right state.right e) (cases state.right.closed))
   where
     cases : (c : Bool) → ◌≡◌ {A = State} (record { left = state.left; right = cond c state.right emptied }) (cond c state (record { left = state.left; right = emptied }))
     cases true = refl
     cases false = refl
-frame_refused Compare b left right state out e = (refl, refl, refl, refl)
-frame_refused (CompareRange i j n) b left right state out e = (refl, refl, refl, refl)
-frame_refused (Write side i n) b left right state out e = (refl, refl, write_refused (store_of side left right) (side_of side state) side i n out e, refl)
-frame_refused (Empty Left) b left right state out e = absurd (false≢true e)
-frame_refused (Empty Right) b left right state out e = absurd (false≢true e)
-frame_refused (BadFrame number) b left right state out e = (refl, refl, refl, refl)
+frame_refused (Ok Compare) b left right state out e = (refl, refl, refl, refl)
+frame_refused (Ok (CompareRange i j n)) b left right state out e = (refl, refl, refl, refl)
+frame_refused (Ok (Write side i n)) b left right state out e = (refl, refl, write_refused (store_of side left right) (side_of side state) side i n out e, refl)
+frame_refused (Ok (Empty Left)) b left right state out e = absurd (false≢true e)
+frame_refused (Ok (Empty Right)) b left right state out e = absurd (false≢true e)
+frame_refused (Err fault) b left right state out e = (refl, refl, refl, refl)
 
 pub refused_keeps : (line : List ℕ) (a : After) → refusal (next line a).stepped.reply ≡ true → Unchanged line a
 unfolding after_line after_frame

@@ -13,10 +13,11 @@ use Rattle.image.specs.declared.answer.Side.{Side}
 use Rattle.image.specs.Faults.{Checked, check_image}
 use Rattle.std.proofs.Common.{Ok, Err}
 use Rattle.image.specs.declared.answer.Fault.{Fault}
-use Rattle.session.specs.declared.frame.Frame.{Frame}
+use Rattle.session.specs.Frames.{Asked}
 use Rattle.session.specs.declared.frame.Frame.TheVariants.{Piece}
-use Rattle.session.specs.declared.reply.Reply.{Reply}
-use Rattle.session.specs.declared.reply.Reply.TheVariants.{Done, Refused, Faulty}
+use Rattle.session.specs.Replies.{Replied}
+use Rattle.session.specs.declared.reply.Reply.TheVariants.{Done}
+use Rattle.session.specs.declared.reply.Refusal.TheVariants.{Faulty, PastStore, Closed, Open}
 use Rattle.session.specs.declared.step.SideState.{SideState}
 use Rattle.session.specs.declared.step.State.{State}
 use Rattle.session.specs.Frames.{frame_of}
@@ -42,11 +43,11 @@ module _ (store : List ℕ) (s : SideState) (n : ℕ) (fills : n ≡ length (ima
   image_length = front_length n s.used store fills
 
   -- a close of an open side
-  pub close_accepts : (x : Checked) → s.closed ≡ false → x ≡ check_image (take n store) → x ≡ Ok tt → side_stepped (side_state s.used true) Done ≡ close_side store s
+  pub close_accepts : (x : Checked) → s.closed ≡ false → x ≡ check_image (take n store) → x ≡ Ok tt → side_stepped (side_state s.used true) (Ok Done) ≡ close_side store s
   unfolding close_side
   close_accepts x was e is = rw (← front_image, ← e, is, was)
 
-  pub close_refuses : (x : Checked) (f : Fault) → s.closed ≡ false → x ≡ check_image (take n store) → x ≡ Err f → side_stepped emptied (Faulty f) ≡ close_side store s
+  pub close_refuses : (x : Checked) (f : Fault) → s.closed ≡ false → x ≡ check_image (take n store) → x ≡ Err f → side_stepped emptied (Err (Faulty f)) ≡ close_side store s
   unfolding close_side
   close_refuses x f was e is = rw (← front_image, ← e, is, was)
 
@@ -58,35 +59,35 @@ pub right_decides : (state : State) → state.left.closed ≡ true → state.rig
 right_decides state was = rw was
 
 -- 42 comes before any comparison
-pub side_open : (state : State) (reply : Reply) {both : Bool} → both ≡ closed_both state → both ≡ false → Refused 42 ≡ both_closed state reply
+pub side_open : (state : State) (reply : Replied) {both : Bool} → both ≡ closed_both state → both ≡ false → Err Open ≡ both_closed state reply
 unfolding both_closed
 side_open state reply e is = rw (← e, is)
 
-pub both_closed_lem : (state : State) (reply : Reply) {both : Bool} → both ≡ closed_both state → both ≡ true → reply ≡ both_closed state reply
+pub both_closed_lem : (state : State) (reply : Replied) {both : Bool} → both ≡ closed_both state → both ≡ true → reply ≡ both_closed state reply
 unfolding both_closed
 both_closed_lem state reply e is = rw (← e, is)
 
 -- a piece for a side
 module _ (store : List ℕ) (s : SideState) (bytes : List ℕ) where
-  pub piece_closed : s.closed ≡ true → (side_stepped s (Refused 41) ≡ piece_side store s bytes) × (store ≡ piece_store store s bytes)
+  pub piece_closed : s.closed ≡ true → (side_stepped s (Err Closed) ≡ piece_side store s bytes) × (store ≡ piece_store store s bytes)
   unfolding piece_side piece_store
   piece_closed was = (yes s.closed _ _ was, yes s.closed _ _ was)
 
-  pub piece_past : s.closed ≡ false → length store < s.used + length bytes → (side_stepped s (Refused 40) ≡ piece_side store s bytes) × (store ≡ piece_store store s bytes)
+  pub piece_past : s.closed ≡ false → length store < s.used + length bytes → (side_stepped s (Err PastStore) ≡ piece_side store s bytes) × (store ≡ piece_store store s bytes)
   unfolding piece_side piece_store past_store
   piece_past was past =
       let over : ltb (length store) (s.used + length bytes) ≡ true = lt-ltb _ _ past in
       (yes _ _ _ over ∙ no s.closed _ _ was, yes _ _ _ over ∙ no s.closed _ _ was)
 
   pub piece_fits : (after : List ℕ) (n : ℕ) → s.closed ≡ false → n ≡ length bytes → s.used + n ≤ length store → after ≡ paste store s.used bytes n →
-      (side_stepped (side_state (s.used + n) false) Done ≡ piece_side store s bytes) × (after ≡ piece_store store s bytes)
+      (side_stepped (side_state (s.used + n) false) (Ok Done) ≡ piece_side store s bytes) × (after ≡ piece_store store s bytes)
   unfolding piece_side piece_store past_store
   piece_fits after n was whole fits put =
       let under : ltb (length store) (s.used + length bytes) ≡ false = le-ltb (length store) (s.used + length bytes) (rw (← whole) fits) in
-      (ap (λ (m : ℕ). side_stepped (side_state (s.used + m) false) Done) whole ∙ no _ _ _ under ∙ no s.closed _ _ was, put ∙ ap (paste store s.used bytes) whole ∙ no _ _ _ under ∙ no s.closed _ _ was)
+      (ap (λ (m : ℕ). side_stepped (side_state (s.used + m) false) (Ok Done)) whole ∙ no _ _ _ under ∙ no s.closed _ _ was, put ∙ ap (paste store s.used bytes) whole ∙ no _ _ _ under ∙ no s.closed _ _ was)
 
 -- a frame that is a piece has a first byte
-pub piece_long : (b : List ℕ) (x : Frame) (side : Side) → x ≡ frame_of b → x ≡ Piece side → 1 ≤ length b
+pub piece_long : (b : List ℕ) (x : Asked) (side : Side) → x ≡ frame_of b → x ≡ Ok (Piece side) → 1 ≤ length b
 unfolding frame_of
 piece_long [] x side e is = let z : ◌≡◌ {A = ℕ} 0 1 = cc in omega arith
 piece_long (y ∷ b) x side e is = omega arith

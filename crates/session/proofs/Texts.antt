@@ -6,13 +6,16 @@ use Prim.Native.Nat.{ℕ, suc, ◌+◌, ◌*◌, ◌/◌, ◌%◌, ◌≤◌, �
 use native.Mathlib.Numerals.{add-one}
 use native.Mathlib.Omega.{arith}
 use lib.ListN.{length, get_or, take, drop, set, length-take, length-append, length-set}
-use lib.Seq.{sets, sets-eq, take-append_seam, take-paste, take_all, take-suc, length-take-le, drop-cons, set_at, append_snoc}
+use lib.Seq.{sets, sets-eq, take-append_seam, take_all, take-suc, length-take-le, drop-cons, set_at, append_snoc}
 use Rattle.image.specs.Bytes.{number_bytes}
-use Rattle.session.specs.declared.reply.Reply.{Reply}
-use Rattle.session.specs.declared.reply.Reply.TheVariants.{Done, Answer, Bytes, Refused, Faulty, OutOfRange}
+use mathlib.Core.Bool.{Bool, true, false}
+use mir.Val.{bool_byte}
+use Rattle.answers.specs.Numbers.{yes_value}
+use Rattle.std.proofs.Common.{Ok, Err}
+use Rattle.session.specs.Replies.{Replied}
+use Rattle.session.specs.declared.reply.Reply.TheVariants.{Done, Answer, Bytes}
+use Rattle.session.specs.declared.reply.Refusal.TheVariants.{NoFrame, Faulty, UnequalTypes, OutOfRange, PastStore, Closed, Open, TooLong}
 use Rattle.session.specs.Replies.{reply_bytes, digit_text, hex_text, line_text}
-use Rattle.session.proofs.Copies.{Pasted}
-use Rattle.session.proofs.Fronts.{front_same}
 
 -- bytes that are stored one by one from the front on
 pub puts : (bytes vs : List ℕ) → length vs ≤ length bytes → take (length vs) (sets bytes 0 vs) ≡ vs
@@ -21,20 +24,24 @@ puts bytes vs h =
     rw (sets-eq vs bytes 0 h') (take-append_seam vs (drop (0 + length vs) bytes))
 
 -- a reply has at most 65 bytes
-pub reply_few : (reply : Reply) (out : List ℕ) → length out ≤ 64 → length (reply_bytes reply out) ≤ 65
+pub reply_few : (reply : Replied) (out : List ℕ) → length out ≤ 64 → length (reply_bytes reply out) ≤ 65
 unfolding number_bytes
-reply_few Done out h = omega arith
-reply_few (Answer agreed) out h = omega arith
-reply_few (Bytes n) out h = omega (arith, length-take n out)
-reply_few (Refused number) out h = omega arith
-reply_few (Faulty f) out h = omega arith
-reply_few (OutOfRange side) out h = omega arith
+reply_few (Ok Done) out h = omega arith
+reply_few (Ok (Answer agreed)) out h = omega arith
+reply_few (Ok (Bytes n)) out h = omega (arith, length-take n out)
+reply_few (Err (NoFrame fault)) out h = omega arith
+reply_few (Err (Faulty f)) out h = omega arith
+reply_few (Err UnequalTypes) out h = omega arith
+reply_few (Err (OutOfRange side)) out h = omega arith
+reply_few (Err PastStore) out h = omega arith
+reply_few (Err Closed) out h = omega arith
+reply_few (Err Open) out h = omega arith
+reply_few (Err TooLong) out h = omega arith
 
--- the bytes of an output that are asked for are copied after the first byte
-pub copied : (bytes₀ out bytes : List ℕ) (n k : ℕ) → length bytes₀ ≡ 65 → Pasted bytes₀ 1 out bytes k → k ≡ length (take n out) →
-    (k ≡ length (take n out)) × (take (1 + k) bytes ≡ take 1 bytes₀ ++ take n out)
-copied bytes₀ out bytes n k sized p all =
-    (all, rw p.same (take-paste bytes₀ 1 out k (omega arith) p.within) ∙ ap (λ (r : List ℕ). take 1 bytes₀ ++ r) (front_same k n out all))
+-- the byte of a yes or no
+pub yes_byte : (b : Bool) → bool_byte b ≡ yes_value b
+yes_byte true = refl
+yes_byte false = refl
 
 -- the characters of bytes
 hex_more : (xs : List ℕ) (x : ℕ) → hex_text (xs ++ (x ∷ [])) ≡ hex_text xs ++ (digit_text (x / 16) ∷ digit_text (x % 16) ∷ [])

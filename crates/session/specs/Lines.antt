@@ -1,9 +1,14 @@
 -- Lines: "1 to 65 bytes of lower-case hexadecimal, one space allowed between bytes".
-use Rattle.std.specs.Prelude.{cond, List, [], ◌∷◌, ◌≡◌, ℕ, ◌+◌, ◌*◌, ◌-◌, ◌≤◌, length, drop, eqb, ltb}
+use Rattle.std.specs.Prelude.{cond, List, [], ◌∷◌, ◌≡◌, ℕ, ◌+◌, ◌*◌, ◌-◌, ◌≤◌, length, drop, eqb, ltb, Option}
+use Rattle.std.specs.Bool.{then_some}
 
 -- the value of a digit, 0 to 9 and a to f; 16 for any other character
 unfoldable pub digit_of : ℕ → ℕ
 digit_of c = cond (ltb c 48) 16 (cond (ltb c 58) (c - 48) (cond (ltb c 97) 16 (cond (ltb c 103) (c - 87) 16)))
+
+-- a digit's value, and none of any other character
+abbrev pub digit_value : ℕ → Option ℕ
+digit_value c = then_some (ltb (digit_of c) 16) (digit_of c)
 
 -- where a reader of a line stands: a byte has to begin; after its first digit, of that value; after a byte
 pub data Stand : Type 0 where

@@ -1,48 +1,71 @@
 -- Replies: "One output line each, without spaces: 00, then 01 or 00 for yes or no, or the written bytes; or the refusal's
 -- byte, then for 10 to 18 the node as u16, for 21 the side."; 19 is as 18, "in the session too".
-use Rattle.std.specs.Prelude.{Bool, true, false, cond, List, [], ◌∷◌, ◌++◌, ℕ, ◌+◌, ◌/◌, ◌%◌, take, ltb, Result, Ok, Err}
+use Rattle.std.specs.Prelude.{Bool, cond, List, [], ◌∷◌, ◌++◌, ℕ, ◌+◌, ◌/◌, ◌%◌, take, ltb, Result, Ok, Err}
 use Rattle.image.specs.declared.answer.Side.{Side}
 use Rattle.answers.specs.declared.SideFault.{SideFault}
 use Rattle.answers.specs.declared.RangeRefusal.{RangeRefusal}
-use Rattle.answers.specs.declared.RangeRefusal.TheVariants.{Image as RangeImage, UnequalTypes, OutOfRange as RangeOut}
+use Rattle.answers.specs.declared.RangeRefusal.TheVariants.{Image as RangeImage, UnequalTypes as RangeUnequal, OutOfRange as RangeOut}
 use Rattle.answers.specs.declared.WriteRefusal.{WriteRefusal}
-use Rattle.answers.specs.declared.WriteRefusal.TheVariants.{Image as WriteImage, OutOfRange as WriteOut, TooLong}
+use Rattle.answers.specs.declared.WriteRefusal.TheVariants.{Image as WriteImage, OutOfRange as WriteOut, TooLong as WriteLong}
 use Rattle.image.specs.Bytes.{number_bytes}
-use Rattle.answers.specs.Numbers.{side_number}
+use Rattle.answers.specs.Numbers.{side_number, yes_value}
+use Rattle.session.specs.declared.frame.FrameFault.{FrameFault}
+use Rattle.session.specs.declared.frame.FrameFault.TheVariants.{NotHexadecimal, UnknownCommand, WrongForm}
 use Rattle.session.specs.declared.reply.Reply.{Reply}
-use Rattle.session.specs.declared.reply.Reply.TheVariants.{Done, Answer, Bytes, Refused, Faulty, OutOfRange}
+use Rattle.session.specs.declared.reply.Reply.TheVariants.{Done, Answer, Bytes}
+use Rattle.session.specs.declared.reply.Refusal.{Refusal}
+use Rattle.session.specs.declared.reply.Refusal.TheVariants.{NoFrame, Faulty, UnequalTypes, OutOfRange, PastStore, Closed, Open, TooLong}
+
+-- what a line is answered with: a reply, or why it is refused
+abbrev pub Replied : Type 0
+Replied = Result Reply Refusal
 
 -- the reply to what a comparison of tables answers
-abbrev pub compared_reply : Result Bool SideFault → Reply
-compared_reply (Ok equal) = Answer equal
-compared_reply (Err e) = Faulty e.fault
+abbrev pub compared_reply : Result Bool SideFault → Replied
+compared_reply (Ok equal) = Ok (Answer equal)
+compared_reply (Err e) = Err (Faulty e.fault)
 
 -- the reply to what a comparison of ranges answers
-abbrev pub ranges_reply : Result Bool RangeRefusal → Reply
-ranges_reply (Ok equal) = Answer equal
-ranges_reply (Err (RangeImage e)) = Faulty e.fault
-ranges_reply (Err UnequalTypes) = Refused 20
-ranges_reply (Err (RangeOut side)) = OutOfRange side
+abbrev pub ranges_reply : Result Bool RangeRefusal → Replied
+ranges_reply (Ok equal) = Ok (Answer equal)
+ranges_reply (Err (RangeImage e)) = Err (Faulty e.fault)
+ranges_reply (Err RangeUnequal) = Err UnequalTypes
+ranges_reply (Err (RangeOut side)) = Err (OutOfRange side)
 
 -- the reply to what a write of a side's rows answers
-abbrev pub written_reply : Result ℕ WriteRefusal → Side → Reply
-written_reply (Ok n) side = Bytes n
-written_reply (Err (WriteImage f)) side = Faulty f
-written_reply (Err WriteOut) side = OutOfRange side
-written_reply (Err TooLong) side = Refused 43
+abbrev pub written_reply : Result ℕ WriteRefusal → Side → Replied
+written_reply (Ok n) side = Ok (Bytes n)
+written_reply (Err (WriteImage f)) side = Err (Faulty f)
+written_reply (Err WriteOut) side = Err (OutOfRange side)
+written_reply (Err WriteLong) side = Err TooLong
 
-abbrev pub agreed_byte : Bool → ℕ
-agreed_byte true = 1
-agreed_byte false = 0
+-- "1 not hexadecimal, 2 .., 3 .."
+abbrev pub frame_fault_number : FrameFault → ℕ
+frame_fault_number NotHexadecimal = 1
+frame_fault_number UnknownCommand = 2
+frame_fault_number WrongForm = 3
+
+-- the bytes of a refusal: its number, and for 10 to 19 the node, for 21 the side
+abbrev pub refusal_bytes : Refusal → List ℕ
+refusal_bytes (NoFrame fault) = frame_fault_number fault ∷ []
+refusal_bytes (Faulty f) = f.number ∷ number_bytes 2 f.node
+refusal_bytes UnequalTypes = 20 ∷ []
+refusal_bytes (OutOfRange side) = 21 ∷ side_number side ∷ []
+refusal_bytes PastStore = 40 ∷ []
+refusal_bytes Closed = 41 ∷ []
+refusal_bytes Open = 42 ∷ []
+refusal_bytes TooLong = 43 ∷ []
 
 -- the bytes of a reply; the written bytes stand at the output's front
-abbrev pub reply_bytes : Reply → List ℕ → List ℕ
-reply_bytes Done out = 0 ∷ []
-reply_bytes (Answer agreed) out = 0 ∷ agreed_byte agreed ∷ []
-reply_bytes (Bytes n) out = 0 ∷ take n out
-reply_bytes (Refused number) out = number ∷ []
-reply_bytes (Faulty f) out = f.number ∷ number_bytes 2 f.node
-reply_bytes (OutOfRange side) out = 21 ∷ side_number side ∷ []
+abbrev pub answer_bytes : Reply → List ℕ → List ℕ
+answer_bytes Done out = 0 ∷ []
+answer_bytes (Answer agreed) out = 0 ∷ yes_value agreed ∷ []
+answer_bytes (Bytes n) out = 0 ∷ take n out
+
+-- the bytes of what a line is answered with
+abbrev pub reply_bytes : Replied → List ℕ → List ℕ
+reply_bytes (Ok reply) out = answer_bytes reply out
+reply_bytes (Err refusal) out = refusal_bytes refusal
 
 -- the character of a digit
 unfoldable pub digit_text : ℕ → ℕ
@@ -58,5 +81,5 @@ unfoldable pub line_text : List ℕ → List ℕ
 line_text bytes = hex_text bytes ++ (10 ∷ [])
 
 -- the line that a reply is printed as
-unfoldable pub reply_line : Reply → List ℕ → List ℕ
+unfoldable pub reply_line : Replied → List ℕ → List ℕ
 reply_line reply out = line_text (reply_bytes reply out)

@@ -1,20 +1,18 @@
 -- A session: "Both start empty and open", "One output line each".
-use Rattle.std.specs.Prelude.{◌≡◌, Bool, true, false, cond, List, [], ◌∷◌, ℕ, Ok}
+use Rattle.std.specs.Prelude.{◌≡◌, Bool, true, cond, List, [], ◌∷◌, ℕ, Ok, Err, is_err}
 use Rattle.image.specs.Faults.{check_image}
-use Rattle.session.specs.declared.frame.Frame.{Frame}
-use Rattle.session.specs.declared.frame.Frame.TheVariants.{Piece, Close, Compare, CompareRange, Write, Empty, Refused as BadFrame}
-use Rattle.session.specs.declared.reply.Reply.{Reply}
-use Rattle.session.specs.declared.reply.Reply.TheVariants.{Done, Answer, Bytes, Refused, Faulty, OutOfRange}
+use Rattle.session.specs.declared.frame.Frame.TheVariants.{Piece, Close, Compare, CompareRange, Write, Empty}
+use Rattle.session.specs.declared.reply.Reply.TheVariants.{Done}
 use Rattle.session.specs.declared.step.SideState.{SideState}
 use Rattle.session.specs.declared.step.State.{State}
-use Rattle.session.specs.Frames.{frame_of}
+use Rattle.session.specs.Frames.{Asked, frame_of}
 use Rattle.session.specs.Lines.{bytes_of}
-use Rattle.session.specs.Replies.{reply_line}
+use Rattle.session.specs.Replies.{Replied, reply_line}
 use Rattle.session.specs.Steps.{image_of, start_state, side_of, replied, empty_stepped, After, after, after_line}
 
 -- before the first line, with stores and an output that hold anything; no reply is given yet
 abbrev pub started : List ℕ → List ℕ → List ℕ → After
-started left right out = after (replied Done start_state) left right out
+started left right out = after (replied (Ok Done) start_state) left right out
 
 abbrev pub next : List ℕ → After → After
 next line a = after_line line a.left a.right a.stepped.state a.out
@@ -29,25 +27,20 @@ unfoldable pub replies : List (List ℕ) → After → List (List ℕ)
 replies [] a = []
 replies (line ∷ lines) a = reply_line (next line a).stepped.reply (next line a).out ∷ replies lines (next line a)
 
--- a reply that is a refusal
-abbrev pub refusal : Reply → Bool
-refusal Done = false
-refusal (Answer agreed) = false
-refusal (Bytes n) = false
-refusal (Refused number) = true
-refusal (Faulty f) = true
-refusal (OutOfRange side) = true
+-- a line is refused
+abbrev pub refusal : Replied → Bool
+refusal = is_err
 
 -- The state after a refused frame: as it was, but that "a close whose image is refused leaves its side so", empty and open.
 -- Only an open side's image is checked.
-abbrev pub refused_state : Frame → State → State
-refused_state (Piece side) state = state
-refused_state (Close side) state = cond (side_of side state).closed state (empty_stepped side state).state
-refused_state Compare state = state
-refused_state (CompareRange i j n) state = state
-refused_state (Write side i n) state = state
-refused_state (Empty side) state = state
-refused_state (BadFrame number) state = state
+abbrev pub refused_state : Asked → State → State
+refused_state (Ok (Piece side)) state = state
+refused_state (Ok (Close side)) state = cond (side_of side state).closed state (empty_stepped side state).state
+refused_state (Ok Compare) state = state
+refused_state (Ok (CompareRange i j n)) state = state
+refused_state (Ok (Write side i n)) state = state
+refused_state (Ok (Empty side)) state = state
+refused_state (Err fault) state = state
 
 -- a refused line changes no store, no byte of the output and, but for such a close, no state
 pub record Unchanged (line : List ℕ) (a : After) : Type 0 where

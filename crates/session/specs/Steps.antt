@@ -5,22 +5,21 @@ use Rattle.image.specs.declared.answer.Side.{Side}
 use Rattle.image.specs.declared.answer.Side.TheVariants.{Left, Right}
 use Rattle.image.specs.Faults.{Checked, check_image}
 use Rattle.answers.specs.Answers.{compare_answer, compare_range_answer, write_answer, write_output}
-use Rattle.session.specs.declared.frame.Frame.{Frame}
-use Rattle.session.specs.declared.frame.Frame.TheVariants.{Piece, Close, Compare, CompareRange, Write, Empty, Refused as BadFrame}
-use Rattle.session.specs.declared.reply.Reply.{Reply}
-use Rattle.session.specs.declared.reply.Reply.TheVariants.{Done, Refused, Faulty}
+use Rattle.session.specs.declared.frame.Frame.TheVariants.{Piece, Close, Compare, CompareRange, Write, Empty}
+use Rattle.session.specs.declared.reply.Reply.TheVariants.{Done}
+use Rattle.session.specs.declared.reply.Refusal.TheVariants.{NoFrame, Faulty, PastStore, Closed, Open}
 use Rattle.session.specs.declared.step.SideState.{SideState}
 use Rattle.session.specs.declared.step.State.{State}
 use Rattle.session.specs.declared.step.SideStepped.{SideStepped}
 use Rattle.session.specs.declared.step.Stepped.{Stepped}
 use Rattle.session.specs.Lines.{bytes_of}
-use Rattle.session.specs.Frames.{frame_of}
-use Rattle.session.specs.Replies.{compared_reply, ranges_reply, written_reply}
+use Rattle.session.specs.Frames.{Asked, frame_of}
+use Rattle.session.specs.Replies.{Replied, compared_reply, ranges_reply, written_reply}
 
 abbrev pub side_state : ℕ → Bool → SideState
 side_state used closed = record { used = used; closed = closed }
 
-abbrev pub side_stepped : SideState → Reply → SideStepped
+abbrev pub side_stepped : SideState → Replied → SideStepped
 side_stepped s reply = record { state = s; reply = reply }
 
 -- a side that is empty and open
@@ -42,7 +41,7 @@ past_store store s bytes = ltb (length store) (s.used + length bytes)
 -- a piece for a side: 41 where the side is closed, then 40
 unfoldable pub piece_side : List ℕ → SideState → List ℕ → SideStepped
 piece_side store s bytes =
-    cond s.closed (side_stepped s (Refused 41)) (cond (past_store store s bytes) (side_stepped s (Refused 40)) (side_stepped (side_state (s.used + length bytes) false) Done))
+    cond s.closed (side_stepped s (Err Closed)) (cond (past_store store s bytes) (side_stepped s (Err PastStore)) (side_stepped (side_state (s.used + length bytes) false) (Ok Done)))
 
 -- the store after a piece: the piece stands after what was stored, or nothing is changed
 unfoldable pub piece_store : List ℕ → SideState → List ℕ → List ℕ
@@ -50,34 +49,34 @@ piece_store store s bytes = cond s.closed store (cond (past_store store s bytes)
 
 -- "a close whose image is refused leaves its side so": empty and open
 abbrev pub closed_by : Checked → ℕ → SideStepped
-closed_by (Ok _) used = side_stepped (side_state used true) Done
-closed_by (Err f) used = side_stepped emptied (Faulty f)
+closed_by (Ok _) used = side_stepped (side_state used true) (Ok Done)
+closed_by (Err f) used = side_stepped emptied (Err (Faulty f))
 
 -- a close: 41 where the side is closed, then what the check answers
 unfoldable pub close_side : List ℕ → SideState → SideStepped
-close_side store s = cond s.closed (side_stepped s (Refused 41)) (closed_by (check_image (image_of s store)) s.used)
+close_side store s = cond s.closed (side_stepped s (Err Closed)) (closed_by (check_image (image_of s store)) s.used)
 
 abbrev pub closed_both : State → Bool
 closed_both state = state.left.closed && state.right.closed
 
 -- 42: "comparing or writing with a needed side open"
-unfoldable pub both_closed : State → Reply → Reply
-both_closed state reply = cond (closed_both state) reply (Refused 42)
+unfoldable pub both_closed : State → Replied → Replied
+both_closed state reply = cond (closed_both state) reply (Err Open)
 
-unfoldable pub compares_reply : List ℕ → List ℕ → State → Reply
+unfoldable pub compares_reply : List ℕ → List ℕ → State → Replied
 compares_reply left right state =
     let reply = compared_reply (compare_answer (image_of state.left left) (image_of state.right right)) in
     both_closed state reply
 
-unfoldable pub range_reply : List ℕ → List ℕ → State → ℕ → ℕ → ℕ → Reply
+unfoldable pub range_reply : List ℕ → List ℕ → State → ℕ → ℕ → ℕ → Replied
 range_reply left right state i j n =
     let reply = ranges_reply (compare_range_answer (image_of state.left left) (image_of state.right right) i j n) in
     both_closed state reply
 
-unfoldable pub write_reply : List ℕ → SideState → Side → ℕ → ℕ → List ℕ → Reply
+unfoldable pub write_reply : List ℕ → SideState → Side → ℕ → ℕ → List ℕ → Replied
 write_reply store s side i n out =
     let reply = written_reply (write_answer (image_of s store) i n out) side in
-    cond s.closed reply (Refused 42)
+    cond s.closed reply (Err Open)
 
 -- the output after a write
 unfoldable pub write_out : List ℕ → SideState → ℕ → ℕ → List ℕ → List ℕ
@@ -100,7 +99,7 @@ with_side Left changed state = record { state = record { left = changed.state; r
 with_side Right changed state = record { state = record { left = state.left; right = changed.state }; reply = changed.reply }
 
 -- a reply, and the state as it was
-abbrev pub replied : Reply → State → Stepped
+abbrev pub replied : Replied → State → Stepped
 replied reply state = record { state = state; reply = reply }
 
 -- a piece for a side, and the two stores after it
@@ -127,7 +126,7 @@ written_out side left right state i n out = write_out (store_of side left right)
 
 -- "07 side, empty and open"
 unfoldable pub empty_stepped : Side → State → Stepped
-empty_stepped side state = with_side side (side_stepped emptied Done) state
+empty_stepped side state = with_side side (side_stepped emptied (Ok Done)) state
 
 -- everything that a line may change
 pub record After : Type 0 where
@@ -140,14 +139,14 @@ abbrev pub after : Stepped → List ℕ → List ℕ → List ℕ → After
 after stepped left right out = record { stepped = stepped; left = left; right = right; out = out }
 
 -- a frame that stands in the bytes b; a piece is the bytes after the first
-abbrev pub obeyed : Frame → List ℕ → List ℕ → List ℕ → State → List ℕ → After
-obeyed (Piece side) b left right state out = after (piece_stepped side (drop 1 b) left right state) (piece_left side (drop 1 b) left state) (piece_right side (drop 1 b) right state) out
-obeyed (Close side) b left right state out = after (close_stepped side left right state) left right out
-obeyed Compare b left right state out = after (replied (compares_reply left right state) state) left right out
-obeyed (CompareRange i j n) b left right state out = after (replied (range_reply left right state i j n) state) left right out
-obeyed (Write side i n) b left right state out = after (write_stepped side left right state i n out) left right (written_out side left right state i n out)
-obeyed (Empty side) b left right state out = after (empty_stepped side state) left right out
-obeyed (BadFrame number) b left right state out = after (replied (Refused number) state) left right out
+abbrev pub obeyed : Asked → List ℕ → List ℕ → List ℕ → State → List ℕ → After
+obeyed (Ok (Piece side)) b left right state out = after (piece_stepped side (drop 1 b) left right state) (piece_left side (drop 1 b) left state) (piece_right side (drop 1 b) right state) out
+obeyed (Ok (Close side)) b left right state out = after (close_stepped side left right state) left right out
+obeyed (Ok Compare) b left right state out = after (replied (compares_reply left right state) state) left right out
+obeyed (Ok (CompareRange i j n)) b left right state out = after (replied (range_reply left right state i j n) state) left right out
+obeyed (Ok (Write side i n)) b left right state out = after (write_stepped side left right state i n out) left right (written_out side left right state i n out)
+obeyed (Ok (Empty side)) b left right state out = after (empty_stepped side state) left right out
+obeyed (Err fault) b left right state out = after (replied (Err (NoFrame fault)) state) left right out
 
 unfoldable pub after_frame : List ℕ → List ℕ → List ℕ → State → List ℕ → After
 after_frame b left right state out = obeyed (frame_of b) b left right state out

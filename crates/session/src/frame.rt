@@ -1,11 +1,11 @@
 // Frames: what the bytes of a line ask for.
 ghost use Rattle.std.specs.Prelude.{◌≡◌};
-ghost use Rattle.session.specs.Frames.{piece_frame, close_frame, compare_frame, range_frame, write_frame, empty_frame, frame_of};
+ghost use Rattle.session.specs.Frames.{of_length, side_in, piece_frame, close_frame, compare_frame, range_frame, write_frame, empty_frame, frame_of};
 
 use image::answer::Side;
 use image::bytes::{byte, le32};
 
-#[derive(Clone, Copy)]
+#[derive(Clone, Copy, Debug, PartialEq, Eq)]
 pub enum Frame {
     // a piece of an image, the bytes after the first
     Piece(Side),
@@ -17,88 +17,96 @@ pub enum Frame {
     Write(Side, usize, usize),
     // empty and open
     Empty(Side),
-    // 1, 2 or 3
-    Refused(u8),
+}
+
+// Why a line is no frame, by the refusal's number.
+#[derive(Clone, Copy, Debug, PartialEq, Eq)]
+pub enum FrameFault {
+    NotHexadecimal = 1,
+    UnknownCommand = 2,
+    WrongForm = 3,
+}
+
+// The frame has so many bytes.
+fn of_length(frame: &[u8], n: usize) -> Result<(), FrameFault>
+    ensures { result ≡ of_length n frame.now }
+{
+    if frame.len() != n {
+        return Err(FrameFault::WrongForm);
+    }
+    Ok(())
+}
+
+// The side that a frame names, in its second byte.
+fn side_in(frame: &[u8]) -> Result<Side, FrameFault>
+    ensures { result ≡ side_in frame.now }
+{
+    match byte(frame, 1) {
+        0 => Ok(Side::Left),
+        1 => Ok(Side::Right),
+        _ => Err(FrameFault::WrongForm),
+    }
 }
 
 // "01 or 02 and 1 to 64 bytes, a piece left or right"
-fn piece_frame(frame: &[u8], side: Side) -> Frame
+fn piece_frame(frame: &[u8], side: Side) -> Result<Frame, FrameFault>
     ensures { result ≡ piece_frame frame.now side }
 {
     if frame.len() < 2 {
-        return Frame::Refused(3);
+        return Err(FrameFault::WrongForm);
     }
-    Frame::Piece(side)
+    Ok(Frame::Piece(side))
 }
 
 // "03 side, close"
-fn close_frame(frame: &[u8]) -> Frame
+fn close_frame(frame: &[u8]) -> Result<Frame, FrameFault>
     ensures { result ≡ close_frame frame.now }
 {
-    if frame.len() != 2 {
-        return Frame::Refused(3);
-    }
-    match byte(frame, 1) {
-        0 => Frame::Close(Side::Left),
-        1 => Frame::Close(Side::Right),
-        _ => Frame::Refused(3),
-    }
+    of_length(frame, 2)?;
+    let side = side_in(frame)?;
+    Ok(Frame::Close(side))
 }
 
 // "04 compare all"
-fn compare_frame(frame: &[u8]) -> Frame
+fn compare_frame(frame: &[u8]) -> Result<Frame, FrameFault>
     ensures { result ≡ compare_frame frame.now }
 {
-    if frame.len() != 1 {
-        return Frame::Refused(3);
-    }
-    Frame::Compare
+    of_length(frame, 1)?;
+    Ok(Frame::Compare)
 }
 
 // "05 and three u32 (left start, right start, count)"
-fn range_frame(frame: &[u8]) -> Frame
+fn range_frame(frame: &[u8]) -> Result<Frame, FrameFault>
     ensures { result ≡ range_frame frame.now }
 {
-    if frame.len() != 13 {
-        return Frame::Refused(3);
-    }
-    Frame::CompareRange(le32(frame, 1), le32(frame, 5), le32(frame, 9))
+    of_length(frame, 13)?;
+    Ok(Frame::CompareRange(le32(frame, 1), le32(frame, 5), le32(frame, 9)))
 }
 
 // "06 side, u32 start, u32 count, write"
-fn write_frame(frame: &[u8]) -> Frame
+fn write_frame(frame: &[u8]) -> Result<Frame, FrameFault>
     ensures { result ≡ write_frame frame.now }
 {
-    if frame.len() != 10 {
-        return Frame::Refused(3);
-    }
-    match byte(frame, 1) {
-        0 => Frame::Write(Side::Left, le32(frame, 2), le32(frame, 6)),
-        1 => Frame::Write(Side::Right, le32(frame, 2), le32(frame, 6)),
-        _ => Frame::Refused(3),
-    }
+    of_length(frame, 10)?;
+    let side = side_in(frame)?;
+    Ok(Frame::Write(side, le32(frame, 2), le32(frame, 6)))
 }
 
 // "07 side, empty and open"
-fn empty_frame(frame: &[u8]) -> Frame
+fn empty_frame(frame: &[u8]) -> Result<Frame, FrameFault>
     ensures { result ≡ empty_frame frame.now }
 {
-    if frame.len() != 2 {
-        return Frame::Refused(3);
-    }
-    match byte(frame, 1) {
-        0 => Frame::Empty(Side::Left),
-        1 => Frame::Empty(Side::Right),
-        _ => Frame::Refused(3),
-    }
+    of_length(frame, 2)?;
+    let side = side_in(frame)?;
+    Ok(Frame::Empty(side))
 }
 
 // What the bytes of a line ask for; no bytes are a line that is not hexadecimal.
-pub fn parse(frame: &[u8]) -> Frame
+pub fn parse(frame: &[u8]) -> Result<Frame, FrameFault>
     ensures { result ≡ frame_of frame.now }
 {
     if frame.len() == 0 {
-        return Frame::Refused(1);
+        return Err(FrameFault::NotHexadecimal);
     }
     match byte(frame, 0) {
         1 => piece_frame(frame, Side::Left),
@@ -108,6 +116,6 @@ pub fn parse(frame: &[u8]) -> Frame
         5 => range_frame(frame),
         6 => write_frame(frame),
         7 => empty_frame(frame),
-        _ => Frame::Refused(2),
+        _ => Err(FrameFault::UnknownCommand),
     }
 }

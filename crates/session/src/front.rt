@@ -5,5 +5,5 @@ ghost use Rattle.std.specs.Prelude.{◌≡◌, length, take};
 pub fn front(bytes: &[u8], n: usize) -> usize
     ensures { result ≡ length (take n bytes.now) }
 {
-    if n < bytes.len() { n } else { bytes.len() }
+    n.min(bytes.len())
 }

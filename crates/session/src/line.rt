@@ -1,35 +1,32 @@
 // Lines of lower-case hexadecimal.
 ghost use Rattle.std.specs.Prelude.{◌≡◌, ◌≤◌, length, take};
-ghost use Rattle.session.specs.Lines.{digit_of, bytes_of, NextByte};
+ghost use Rattle.session.specs.Lines.{digit_value, bytes_of, NextByte};
 
 // A frame has at most so many bytes.
 pub const LONGEST_FRAME: usize = 65;
-
-// What stands for a character that is no digit.
-const NO_DIGIT: u8 = 16;
 
 const SPACE: u8 = 32;
 
 // What ends a line, of the input and of the output.
 pub const LINE_FEED: u8 = 10;
 
-// The value of a digit.
-fn digit(c: u8) -> u8
-    ensures { result ≡ digit_of c }
+// The value of a digit, 0 to 9 and a to f.
+fn digit(c: u8) -> Option<u8>
+    ensures { result ≡ digit_value c }
 {
     if c < 48 {
-        return NO_DIGIT;
+        return None;
     }
     if c < 58 {
-        return c - 48;
+        return Some(c - 48);
     }
     if c < 97 {
-        return NO_DIGIT;
+        return None;
     }
     if c < 103 {
-        return c - 87;
+        return Some(c - 87);
     }
-    NO_DIGIT
+    None
 }
 
 // Where the next byte begins after one that ends at a place: past one space, if something follows it.
@@ -59,14 +56,12 @@ pub fn decode(line: &[u8], frame: &mut [u8; LONGEST_FRAME]) -> usize
         if line.len() - at < 2 {
             return 0;
         }
-        let high = digit(line[at]);
-        if high == NO_DIGIT {
+        let Some(high) = digit(line[at]) else {
             return 0;
-        }
-        let low = digit(line[at + 1]);
-        if low == NO_DIGIT {
+        };
+        let Some(low) = digit(line[at + 1]) else {
             return 0;
-        }
+        };
         if n == LONGEST_FRAME {
             return 0;
         }

@@ -1,15 +1,17 @@
-// Replies, and the line of characters that each is printed as.
-ghost use Rattle.std.specs.Prelude.{◌≡◌, ◌++◌, ◌+◌, ◌/◌, ◌%◌, ◌≤◌, length, take, drop};
-ghost use Rattle.answers.specs.Numbers.{side_number};
-ghost use Rattle.session.specs.Replies.{compared_reply, ranges_reply, written_reply, agreed_byte, reply_bytes, digit_text, line_text, reply_line};
+// Replies and refusals, and the line of characters that each is printed as.
+ghost use Rattle.std.specs.Prelude.{◌≡◌, ◌++◌, ◌+◌, ◌≤◌, length, take, drop};
+ghost use Rattle.session.specs.Replies.{compared_reply, ranges_reply, written_reply, frame_fault_number, refusal_bytes, answer_bytes, reply_bytes, digit_text, line_text, reply_line};
 
+use crate::frame::FrameFault;
 use crate::front::front;
 use crate::line::LINE_FEED;
 use crate::sizes::{LONGEST_REPLY, OUTPUT};
+use answers::numbers::side_number;
 use answers::{RangeRefusal, SideFault, WriteRefusal};
 use image::answer::{Fault, Side};
 
-#[derive(Clone, Copy)]
+// What a line that is not refused is answered with.
+#[derive(Clone, Copy, Debug, PartialEq, Eq)]
 pub enum Reply {
     // 00
     Done,
@@ -17,48 +19,63 @@ pub enum Reply {
     Answer(bool),
     // 00, then so many bytes of the output
     Bytes(usize),
-    // the refusal's number alone
-    Refused(u8),
+}
+
+// Why a line is refused: the refusal's number, and what follows it.
+#[derive(Clone, Copy, Debug, PartialEq, Eq)]
+pub enum Refusal {
+    // 1, 2 or 3
+    NoFrame(FrameFault),
     // 10 to 19, then the node
     Faulty(Fault),
+    // 20
+    UnequalTypes,
     // 21, then the side
     OutOfRange(Side),
+    // 40: a piece past its store
+    PastStore,
+    // 41: a piece for a side that is closed, or its close
+    Closed,
+    // 42: a side that is needed is open
+    Open,
+    // 43: the output is too small
+    TooLong,
 }
 
 // A reply has at most so many bytes, of which an output has all but the first.
 const LONGEST_BYTES: usize = 65;
 
 // The reply to a comparison of tables.
-pub fn compared_reply(answer: Result<bool, SideFault>) -> Reply
+pub fn compared_reply(answer: Result<bool, SideFault>) -> Result<Reply, Refusal>
     ensures { result ≡ compared_reply answer }
 {
     match answer {
-        Ok(equal) => Reply::Answer(equal),
-        Err(refusal) => Reply::Faulty(refusal.fault),
+        Ok(equal) => Ok(Reply::Answer(equal)),
+        Err(refusal) => Err(Refusal::Faulty(refusal.fault)),
     }
 }
 
 // The reply to a comparison of ranges of rows.
-pub fn ranges_reply(answer: Result<bool, RangeRefusal>) -> Reply
+pub fn ranges_reply(answer: Result<bool, RangeRefusal>) -> Result<Reply, Refusal>
     ensures { result ≡ ranges_reply answer }
 {
     match answer {
-        Ok(equal) => Reply::Answer(equal),
-        Err(RangeRefusal::Image(refusal)) => Reply::Faulty(refusal.fault),
-        Err(RangeRefusal::UnequalTypes) => Reply::Refused(20),
-        Err(RangeRefusal::OutOfRange(side)) => Reply::OutOfRange(side),
+        Ok(equal) => Ok(Reply::Answer(equal)),
+        Err(RangeRefusal::Image(refusal)) => Err(Refusal::Faulty(refusal.fault)),
+        Err(RangeRefusal::UnequalTypes) => Err(Refusal::UnequalTypes),
+        Err(RangeRefusal::OutOfRange(side)) => Err(Refusal::OutOfRange(side)),
     }
 }
 
 // The reply to a write of rows of a side.
-pub fn written_reply(answer: Result<usize, WriteRefusal>, side: Side) -> Reply
+pub fn written_reply(answer: Result<usize, WriteRefusal>, side: Side) -> Result<Reply, Refusal>
     ensures { result ≡ written_reply answer side }
 {
     match answer {
-        Ok(n) => Reply::Bytes(n),
-        Err(WriteRefusal::Image(fault)) => Reply::Faulty(fault),
-        Err(WriteRefusal::OutOfRange) => Reply::OutOfRange(side),
-        Err(WriteRefusal::TooLong) => Reply::Refused(43),
+        Ok(n) => Ok(Reply::Bytes(n)),
+        Err(WriteRefusal::Image(fault)) => Err(Refusal::Faulty(fault)),
+        Err(WriteRefusal::OutOfRange) => Err(Refusal::OutOfRange(side)),
+        Err(WriteRefusal::TooLong) => Err(Refusal::TooLong),
     }
 }
 
@@ -69,34 +86,11 @@ fn digit_text(x: u8) -> u8
     if x < 10 { 48 + x } else { 87 + x % 16 }
 }
 
-// The byte of a yes or no.
-fn agreed_byte(agreed: bool) -> u8
-    ensures { result ≡ agreed_byte agreed }
+// The number of a line that is no frame.
+fn frame_fault_number(fault: FrameFault) -> u8
+    ensures { result ≡ frame_fault_number fault }
 {
-    if agreed { 1 } else { 0 }
-}
-
-// The byte of a side.
-fn side_byte(side: Side) -> u8
-    ensures { result ≡ side_number side }
-{
-    match side {
-        Side::Left => 0,
-        Side::Right => 1,
-    }
-}
-
-// The two bytes of a node's number, lowest first.
-fn low_byte(node: u16) -> u8
-    ensures { result ≡ node % 256 }
-{
-    (node % 256) as u8
-}
-
-fn high_byte(node: u16) -> u8
-    ensures { result ≡ node / 256 % 256 }
-{
-    (node / 256) as u8
+    fault as u8
 }
 
 // The first n bytes of an output, put after the first byte; how many they are.
@@ -106,19 +100,61 @@ fn copy(n: usize, out: &[u8], bytes: &mut [u8]) -> usize
     ensures bytes_after { take (1 + result) bytes.new ≡ take 1 bytes.old ++ take n out.now }
 {
     let most = front(out, n);
-    let mut k: usize = 0;
-    while k < most {
-        bytes[1 + k] = out[k];
-        k += 1;
+    bytes[1..1 + most].copy_from_slice(&out[..most]);
+    most
+}
+
+// The bytes of a refusal, put at the front of a buffer, and how many they are.
+fn refusal_bytes(refusal: Refusal, bytes: &mut [u8]) -> usize
+    requires { length bytes.old ≡ 65 }
+    ensures value { result ≡ length (refusal_bytes refusal) }
+    ensures bytes_after { take result bytes.new ≡ refusal_bytes refusal }
+{
+    match refusal {
+        Refusal::NoFrame(fault) => {
+            bytes[0] = frame_fault_number(fault);
+            1
+        }
+        Refusal::Faulty(fault) => {
+            let node = fault.node.to_le_bytes();
+            bytes[0] = fault.number;
+            bytes[1] = node[0];
+            bytes[2] = node[1];
+            3
+        }
+        Refusal::UnequalTypes => {
+            bytes[0] = 20;
+            1
+        }
+        Refusal::OutOfRange(side) => {
+            bytes[0] = 21;
+            bytes[1] = side_number(side);
+            2
+        }
+        Refusal::PastStore => {
+            bytes[0] = 40;
+            1
+        }
+        Refusal::Closed => {
+            bytes[0] = 41;
+            1
+        }
+        Refusal::Open => {
+            bytes[0] = 42;
+            1
+        }
+        Refusal::TooLong => {
+            bytes[0] = 43;
+            1
+        }
     }
-    k
 }
 
 // The bytes of a reply, put at the front of a buffer, and how many they are.
-fn reply_bytes(reply: Reply, out: &[u8], bytes: &mut [u8]) -> usize
+fn answer_bytes(reply: Reply, out: &[u8], bytes: &mut [u8]) -> usize
     requires { (length out.now ≤ 64) × (length bytes.old ≡ 65) }
-    ensures value { result ≡ length (reply_bytes reply out.now) }
-    ensures bytes_after { take result bytes.new ≡ reply_bytes reply out.now }
+    ensures value { result ≡ length (answer_bytes reply out.now) }
+    ensures bytes_after { take result bytes.new ≡ answer_bytes reply out.now }
 {
     match reply {
         Reply::Done => {
@@ -127,28 +163,25 @@ fn reply_bytes(reply: Reply, out: &[u8], bytes: &mut [u8]) -> usize
         }
         Reply::Answer(agreed) => {
             bytes[0] = 0;
-            bytes[1] = agreed_byte(agreed);
+            bytes[1] = u8::from(agreed);
             2
         }
         Reply::Bytes(n) => {
             bytes[0] = 0;
             1 + copy(n, out, bytes)
         }
-        Reply::Refused(number) => {
-            bytes[0] = number;
-            1
-        }
-        Reply::Faulty(fault) => {
-            bytes[0] = fault.number;
-            bytes[1] = low_byte(fault.node);
-            bytes[2] = high_byte(fault.node);
-            3
-        }
-        Reply::OutOfRange(side) => {
-            bytes[0] = 21;
-            bytes[1] = side_byte(side);
-            2
-        }
+    }
+}
+
+// The bytes of what a line is answered with, put at the front of a buffer, and how many they are.
+fn reply_bytes(reply: Result<Reply, Refusal>, out: &[u8], bytes: &mut [u8]) -> usize
+    requires { (length out.now ≤ 64) × (length bytes.old ≡ 65) }
+    ensures value { result ≡ length (reply_bytes reply out.now) }
+    ensures bytes_after { take result bytes.new ≡ reply_bytes reply out.now }
+{
+    match reply {
+        Ok(given) => answer_bytes(given, out, bytes),
+        Err(refusal) => refusal_bytes(refusal, bytes),
     }
 }
 
@@ -158,19 +191,22 @@ fn print(bytes: &[u8], text: &mut [u8]) -> usize
     ensures value { result ≡ length (line_text bytes.now) }
     ensures text_after { text.new ≡ line_text bytes.now ++ drop result text.old }
 {
-    let mut k: usize = 0;
-    while k < bytes.len() {
+    let n = bytes.len();
+    for k in 0..n {
         let x = bytes[k];
         text[2 * k] = digit_text(x / 16);
         text[2 * k + 1] = digit_text(x % 16);
-        k += 1;
     }
-    text[2 * k] = LINE_FEED;
-    2 * k + 1
+    text[2 * n] = LINE_FEED;
+    2 * n + 1
 }
 
 // The line that a reply is printed as, put at the front of a text, and how many characters it has.
-pub fn render(reply: Reply, out: &[u8; OUTPUT], text: &mut [u8; LONGEST_REPLY]) -> usize
+pub fn render(
+    reply: Result<Reply, Refusal>,
+    out: &[u8; OUTPUT],
+    text: &mut [u8; LONGEST_REPLY],
+) -> usize
     ensures value { result ≡ length (reply_line reply out.now) }
     ensures text_after { text.new ≡ reply_line reply out.now ++ drop result text.old }
 {

@@ -5,7 +5,7 @@ ghost use Rattle.session.specs.Steps.{emptied, start_state, image_of, piece_side
 use crate::frame::{Frame, parse};
 use crate::front::front;
 use crate::line::{LONGEST_FRAME, decode};
-use crate::reply::{Reply, compared_reply, ranges_reply, written_reply};
+use crate::reply::{Refusal, Reply, compared_reply, ranges_reply, written_reply};
 use crate::sizes::OUTPUT;
 use api::{check, compare, compare_range, write};
 use image::answer::Side;
@@ -27,13 +27,13 @@ pub struct State {
 #[derive(Clone, Copy)]
 pub struct SideStepped {
     pub state: SideState,
-    pub reply: Reply,
+    pub reply: Result<Reply, Refusal>,
 }
 
 #[derive(Clone, Copy)]
 pub struct Stepped {
     pub state: State,
-    pub reply: Reply,
+    pub reply: Result<Reply, Refusal>,
 }
 
 // "Both start empty and open"
@@ -71,14 +71,14 @@ fn piece(store: &mut [u8], side_state: SideState, bytes: &[u8]) -> SideStepped
     if side_state.closed {
         return SideStepped {
             state: side_state,
-            reply: Reply::Refused(41),
+            reply: Err(Refusal::Closed),
         };
     }
     let used = side_state.used;
     if store.len() < used {
         return SideStepped {
             state: side_state,
-            reply: Reply::Refused(40),
+            reply: Err(Refusal::PastStore),
         };
     }
     let room = store.len() - used;
@@ -86,20 +86,16 @@ fn piece(store: &mut [u8], side_state: SideState, bytes: &[u8]) -> SideStepped
     if n < bytes.len() {
         return SideStepped {
             state: side_state,
-            reply: Reply::Refused(40),
+            reply: Err(Refusal::PastStore),
         };
     }
-    let mut k: usize = 0;
-    while k < n {
-        store[used + k] = bytes[k];
-        k += 1;
-    }
+    store[used..used + n].copy_from_slice(bytes);
     SideStepped {
         state: SideState {
             used: used + n,
             closed: false,
         },
-        reply: Reply::Done,
+        reply: Ok(Reply::Done),
     }
 }
 
@@ -110,7 +106,7 @@ fn close(store: &[u8], side_state: SideState) -> SideStepped
     if side_state.closed {
         return SideStepped {
             state: side_state,
-            reply: Reply::Refused(41),
+            reply: Err(Refusal::Closed),
         };
     }
     let end = filled(store, side_state);
@@ -120,11 +116,11 @@ fn close(store: &[u8], side_state: SideState) -> SideStepped
                 used: side_state.used,
                 closed: true,
             },
-            reply: Reply::Done,
+            reply: Ok(Reply::Done),
         },
         Err(fault) => SideStepped {
             state: opened(),
-            reply: Reply::Faulty(fault),
+            reply: Err(Refusal::Faulty(fault)),
         },
     }
 }
@@ -140,11 +136,11 @@ fn both_closed(state: State) -> bool
 }
 
 // The comparison of both sides: 42 where one is open.
-fn compare_all(left: &[u8], right: &[u8], state: State) -> Reply
+fn compare_all(left: &[u8], right: &[u8], state: State) -> Result<Reply, Refusal>
     ensures { result ≡ compares_reply left.now right.now state }
 {
     if !both_closed(state) {
-        return Reply::Refused(42);
+        return Err(Refusal::Open);
     }
     let a = filled(left, state.left);
     let b = filled(right, state.right);
@@ -152,11 +148,18 @@ fn compare_all(left: &[u8], right: &[u8], state: State) -> Reply
 }
 
 // The comparison of ranges of both sides.
-fn compare_ranges(left: &[u8], right: &[u8], state: State, i: usize, j: usize, n: usize) -> Reply
+fn compare_ranges(
+    left: &[u8],
+    right: &[u8],
+    state: State,
+    i: usize,
+    j: usize,
+    n: usize,
+) -> Result<Reply, Refusal>
     ensures { result ≡ range_reply left.now right.now state i j n }
 {
     if !both_closed(state) {
-        return Reply::Refused(42);
+        return Err(Refusal::Open);
     }
     let a = filled(left, state.left);
     let b = filled(right, state.right);
@@ -171,12 +174,12 @@ fn write_rows(
     i: usize,
     n: usize,
     out: &mut [u8],
-) -> Reply
+) -> Result<Reply, Refusal>
     ensures value { result ≡ write_reply store.now side_state side i n out.old }
     ensures out_after { out.new ≡ write_out store.now side_state i n out.old }
 {
     if !side_state.closed {
-        return Reply::Refused(42);
+        return Err(Refusal::Open);
     }
     let end = filled(store, side_state);
     written_reply(write(&store[..end], i, n, out), side)
@@ -223,7 +226,7 @@ fn with_side(side: Side, changed: SideStepped, state: State) -> Stepped
 }
 
 // A reply, and the state as it was.
-fn unchanged(reply: Reply, state: State) -> Stepped
+fn unchanged(reply: Result<Reply, Refusal>, state: State) -> Stepped
     ensures { result ≡ replied reply state }
 {
     Stepped {
@@ -278,7 +281,7 @@ fn obey_empty(side: Side, state: State) -> Stepped
 {
     let changed = SideStepped {
         state: opened(),
-        reply: Reply::Done,
+        reply: Ok(Reply::Done),
     };
     with_side(side, changed, state)
 }
@@ -291,16 +294,16 @@ fn obey(frame: &[u8], left: &mut [u8], right: &mut [u8], state: State, out: &mut
     ensures out_after { out.new ≡ (after_frame frame.now left.old right.old state out.old).out }
 {
     match parse(frame) {
-        Frame::Piece(side) => obey_piece(side, &frame[1..], left, right, state),
-        Frame::Close(side) => obey_close(side, left, right, state),
-        Frame::Compare => unchanged(compare_all(left, right, state), state),
-        Frame::CompareRange(i, j, n) => unchanged(
+        Ok(Frame::Piece(side)) => obey_piece(side, &frame[1..], left, right, state),
+        Ok(Frame::Close(side)) => obey_close(side, left, right, state),
+        Ok(Frame::Compare) => unchanged(compare_all(left, right, state), state),
+        Ok(Frame::CompareRange(i, j, n)) => unchanged(
             compare_ranges(left, right, state, i, j, n),
             state,
         ),
-        Frame::Write(side, i, n) => obey_write(side, left, right, state, i, n, out),
-        Frame::Empty(side) => obey_empty(side, state),
-        Frame::Refused(number) => unchanged(Reply::Refused(number), state),
+        Ok(Frame::Write(side, i, n)) => obey_write(side, left, right, state, i, n, out),
+        Ok(Frame::Empty(side)) => obey_empty(side, state),
+        Err(fault) => unchanged(Err(Refusal::NoFrame(fault)), state),
     }
 }
 

@@ -1,13 +1,15 @@
--- A frame that compares all is one byte.
--- By the two ways of the test.
-use Rattle.session.specs.Frames.{compare_frame, of_length}
-use borrow.Author.Tests.{eq-eqb, ne_eqb}
+-- The frame is a comparison of all.
+-- By the definitions of the steps.
+use Rattle.std.proofs.lemmas.Result.{err_from_is_err_and}
+use Rattle.session.specs.Frames.{compare_frame}
 use Rattle.session.proofs.frame.compare_frame.Goals as goal
 
-pub returns-then-frame-ne1 : goal.returns-then-frame-ne1
-unfolding compare_frame of_length
-returns-then-frame-ne1 c = rw (ne_eqb _ _ c.if-frame-ne1.true)
+pub returns-in_err-of_length : goal.returns-in_err-of_length
+unfolding compare_frame
+returns-in_err-of_length c =
+    let p = err_from_is_err_and c.from_residual.result c.from_residual.ensures.1 in
+    rw (p.1, p.2, ← c.of_length.ensures, c.in_err-of_length.was)
 
 pub returns : goal.returns
-unfolding compare_frame of_length
-returns c = rw (eq-eqb _ _ c.if-frame-ne1.false)
+unfolding compare_frame
+returns c = rw (← c.of_length.ensures, c.in_ok-of_length.was)

@@ -1,21 +1,21 @@
--- A frame that empties a side is two bytes, the second the side's.
--- Each way of the tests is the definition's.
-use Rattle.session.specs.Frames.{empty_frame, of_length, by_side}
-use borrow.Author.Tests.{eq-eqb, ne_eqb}
+-- The frame empties the side that it names.
+-- By the definitions of the steps.
+use Rattle.std.proofs.lemmas.Result.{err_from_is_err_and}
+use Rattle.session.specs.Frames.{empty_frame}
 use Rattle.session.proofs.frame.empty_frame.Goals as goal
 
-pub returns-then-frame-ne2 : goal.returns-then-frame-ne2
-unfolding empty_frame of_length
-returns-then-frame-ne2 c = rw (ne_eqb _ _ c.if-frame-ne2.true)
+pub returns-in_err-of_length : goal.returns-in_err-of_length
+unfolding empty_frame
+returns-in_err-of_length c =
+    let p = err_from_is_err_and c.from_residual.result c.from_residual.ensures.1 in
+    rw (p.1, p.2, ← c.of_length.ensures, c.in_err-of_length.was)
 
-pub returns-in-0 : goal.returns-in-0
-unfolding empty_frame of_length by_side
-returns-in-0 c = rw (eq-eqb _ _ c.if-frame-ne2.false, ← c.byte.ensures.value, c.in-0.is)
+pub returns-in_err-side : goal.returns-in_err-side
+unfolding empty_frame
+returns-in_err-side c =
+    let p = err_from_is_err_and c.from_residual-in_err-side.result c.from_residual-in_err-side.ensures.1 in
+    rw (p.1, p.2, ← c.of_length.ensures, c.in_ok-of_length.was, ← c.side_in.ensures, c.in_err-side.was)
 
-pub returns-in-1 : goal.returns-in-1
-unfolding empty_frame of_length by_side
-returns-in-1 c = rw (eq-eqb _ _ c.if-frame-ne2.false, ← c.byte.ensures.value, c.in-1.is)
-
-pub returns-in_default : goal.returns-in_default
-unfolding empty_frame of_length by_side
-returns-in_default c = rw (eq-eqb _ _ c.if-frame-ne2.false, ← c.byte.ensures.value, ne_eqb _ _ c.in_default.in_default-own.rest.0.1, ne_eqb _ _ c.in_default.in_default-own.rest.1)
+pub returns : goal.returns
+unfolding empty_frame
+returns c = rw (← c.of_length.ensures, c.in_ok-of_length.was, ← c.side_in.ensures, c.in_ok-side.was)

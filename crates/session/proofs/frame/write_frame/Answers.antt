@@ -1,21 +1,21 @@
--- A write is ten bytes: the side's after the first, then two numbers.
--- Each way of the tests is the definition's, with what the numbers were read as.
-use Rattle.session.specs.Frames.{write_frame, of_length, by_side}
-use borrow.Author.Tests.{eq-eqb, ne_eqb}
+-- The frame is a write of the rows that it names.
+-- By the definitions of the steps.
+use Rattle.std.proofs.lemmas.Result.{err_from_is_err_and}
+use Rattle.session.specs.Frames.{write_frame}
 use Rattle.session.proofs.frame.write_frame.Goals as goal
 
-pub returns-then-frame-ne10 : goal.returns-then-frame-ne10
-unfolding write_frame of_length
-returns-then-frame-ne10 c = rw (ne_eqb _ _ c.if-frame-ne10.true)
+pub returns-in_err-of_length : goal.returns-in_err-of_length
+unfolding write_frame
+returns-in_err-of_length c =
+    let p = err_from_is_err_and c.from_residual.result c.from_residual.ensures.1 in
+    rw (p.1, p.2, ← c.of_length.ensures, c.in_err-of_length.was)
 
-pub returns-in-0 : goal.returns-in-0
-unfolding write_frame of_length by_side
-returns-in-0 c = rw (eq-eqb _ _ c.if-frame-ne10.false, ← c.byte.ensures.value, c.in-0.is, ← c.le32.ensures.value, ← c.le32-in-0.ensures.value)
+pub returns-in_err-side : goal.returns-in_err-side
+unfolding write_frame
+returns-in_err-side c =
+    let p = err_from_is_err_and c.from_residual-in_err-side.result c.from_residual-in_err-side.ensures.1 in
+    rw (p.1, p.2, ← c.of_length.ensures, c.in_ok-of_length.was, ← c.side_in.ensures, c.in_err-side.was)
 
-pub returns-in-1 : goal.returns-in-1
-unfolding write_frame of_length by_side
-returns-in-1 c = rw (eq-eqb _ _ c.if-frame-ne10.false, ← c.byte.ensures.value, c.in-1.is, ← c.le32-in-1.ensures.value, ← c.le32-in-1-2.ensures.value)
-
-pub returns-in_default : goal.returns-in_default
-unfolding write_frame of_length by_side
-returns-in_default c = rw (eq-eqb _ _ c.if-frame-ne10.false, ← c.byte.ensures.value, ne_eqb _ _ c.in_default.in_default-own.rest.0.1, ne_eqb _ _ c.in_default.in_default-own.rest.1)
+pub returns : goal.returns
+unfolding write_frame
+returns c = rw (← c.of_length.ensures, c.in_ok-of_length.was, ← c.side_in.ensures, c.in_ok-side.was, ← c.le32.ensures.value, ← c.le32-2.ensures.value)

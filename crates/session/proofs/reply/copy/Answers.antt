@@ -1,32 +1,21 @@
--- The first bytes of an output stand after the first byte of the buffer.
--- The loop keeps that the buffer is the one at entry with so many bytes of the output copied in.
-use Rattle.session.proofs.Texts.{copied}
-use Rattle.session.proofs.Copies.{pasted_none, pasted_more}
-use lib.ListN.{length-take}
+-- The first bytes of the output stand behind the first byte.
+-- By what a part holds that bytes are copied into; the output's front is as long as is asked for, or as the output.
+use mathlib.Core.Path.{ap, ◌∙◌}
+use mathlib.Core.List.{List, ◌++◌}
+use Prim.Native.Nat.{ℕ}
 use native.Mathlib.Omega.{arith}
-use borrow.Author.Rules.{rules}
+use lib.ListN.{take, length-take}
+use Rattle.std.proofs.lemmas.Slice.{take-put_mid}
+use Rattle.session.proofs.Fronts.{front_same}
 use Rattle.session.proofs.reply.copy.Goals as goal
 
-pub loop-k-init : goal.loop-k-init
-loop-k-init c = (search rules, omega (arith, c.front-most.ensures, length-take c.args.n c.args.out.now), pasted_none _ _ _)
-
-pub bounds-out-k : goal.bounds-out-k
-bounds-out-k c = omega (arith, c.loop-k.invariant.1)
-
-pub overflow_add-bytes : goal.overflow_add-bytes
-overflow_add-bytes c = omega (arith, c.requires.0, c.loop-k.invariant.1)
-
-pub bounds-bytes-k : goal.bounds-bytes-k
-bounds-bytes-k c = omega (arith, c.loop-k.invariant.2.sized, c.loop-k.invariant.1, c.requires.0, c.requires.1)
-
-pub overflow_add-k : goal.overflow_add-k
-overflow_add-k c = omega (arith, c.loop-k.invariant.1, c.requires.0)
-
-pub loop-k-preserved : goal.loop-k-preserved
-loop-k-preserved c = (search rules, c.loop-k.invariant.1, pasted_more _ _ _ _ _ c.loop-k.invariant.2 (omega (arith, c.loop-k.invariant.1)) (omega (arith, c.loop-k.invariant.1, c.requires.0, c.requires.1)))
-
-pub shape_of-bytes : goal.shape_of-bytes
-shape_of-bytes c = c.loop-k.invariant.2.sized
-
 pub returns : goal.returns
-returns c = let both = copied _ _ _ c.args.n _ c.requires.1 c.loop-k.invariant.2 (omega (arith, c.front-most.ensures)) in record { value = both.0; bytes_after = both.1 }
+returns c =
+    let most = c.front-most.result in
+    let short = length-take c.args.n c.args.out.now in
+    record {
+      value = c.front-most.ensures;
+      bytes_after =
+          take-put_mid 1 _ c.args.bytes.now _ _ (omega (arith, c.copy_from_slice.ensures.len, length-take most c.args.out.now, c.front-most.ensures, short)) (omega (arith, c.requires.1))
+          ∙ ap (λ (r : List ℕ). take 1 c.args.bytes.now ++ r) (c.copy_from_slice.ensures.after ∙ front_same most c.args.n c.args.out.now c.front-most.ensures);
+    }

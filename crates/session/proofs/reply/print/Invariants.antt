@@ -1,12 +1,7 @@
 -- The characters of bytes and a line feed stand at the front of the text.
 -- The loop keeps that the text begins with the characters of the bytes so far.
 use Rattle.session.proofs.Texts.{Printed}
-use Prim.Native.Nat.{◌-◌}
-use lib.ListN.{length}
 use Rattle.session.proofs.reply.print.Given as goal
 
 abbrev pub invariant-loop-k : goal.invariant-loop-k
 invariant-loop-k l = Printed l.bytes l.initial.text l.text l.k
-
-abbrev pub decreases-loop-k : goal.decreases-loop-k
-decreases-loop-k l = length l.bytes - l.k

@@ -1,34 +1,9 @@
--- The bytes of a reply stand at the front of the buffer.
--- By the reply's variants; each stores its bytes one by one, or has them copied.
-use lib.ListN.{length-set, length-take}
-use Rattle.session.proofs.Texts.{puts}
-use Rattle.image.specs.Bytes.{number_bytes}
-use mathlib.Core.List.{[], ◌∷◌}
-use mathlib.Core.Path.{◌∙◌, refl}
-use native.Mathlib.Omega.{arith}
+-- The bytes are those of the reply or of the refusal.
+-- By what the two calls give.
 use Rattle.session.proofs.reply.reply_bytes.Goals as goal
 
-pub overflow_add-result : goal.overflow_add-result
-overflow_add-result c = record { fits = omega (arith, c.copy.ensures.value, length-take c.in-Bytes.n c.args.out.now, c.requires.0) }
+pub returns-in-Ok : goal.returns-in-Ok
+returns-in-Ok c = rw c.in-Ok.is (record { value = c.answer_bytes.ensures.value; bytes_after = c.answer_bytes.ensures.bytes_after })
 
-pub returns-in-Done : goal.returns-in-Done
-returns-in-Done c = rw c.in-Done.is (record { value = refl; bytes_after = puts c.args.bytes.now (0 ∷ []) (omega (arith, c.requires.1)) })
-
-pub returns-in-Answer : goal.returns-in-Answer
-returns-in-Answer c = rw (c.in-Answer.is, ← c.agreed_byte.ensures) (record { value = refl; bytes_after = puts c.args.bytes.now (0 ∷ c.agreed_byte.result ∷ []) (omega (arith, c.requires.1)) })
-
-pub shape_of-bytes-in-Bytes : goal.shape_of-bytes-in-Bytes
-shape_of-bytes-in-Bytes c = c.copy.auto.bytes ∙ length-set c.args.bytes.now 0 0
-
-pub returns-in-Bytes : goal.returns-in-Bytes
-returns-in-Bytes c = rw c.in-Bytes.is (record { value = omega (arith, c.copy.ensures.value); bytes_after = c.copy.ensures.bytes_after ∙ rw (puts c.args.bytes.now (0 ∷ []) (omega (arith, c.requires.1))) })
-
-pub returns-in-Refused : goal.returns-in-Refused
-returns-in-Refused c = rw c.in-Refused.is (record { value = refl; bytes_after = puts c.args.bytes.now (_ ∷ []) (omega (arith, c.requires.1)) })
-
-pub returns-in-Faulty : goal.returns-in-Faulty
-unfolding number_bytes
-returns-in-Faulty c = rw (c.in-Faulty.is, ← c.low_byte.ensures, ← c.high_byte.ensures) (record { value = refl; bytes_after = puts c.args.bytes.now (_ ∷ c.low_byte.result ∷ c.high_byte.result ∷ []) (omega (arith, c.requires.1)) })
-
-pub returns-in-OutOfRange : goal.returns-in-OutOfRange
-returns-in-OutOfRange c = rw (c.in-OutOfRange.is, ← c.side_byte.ensures) (record { value = refl; bytes_after = puts c.args.bytes.now (21 ∷ c.side_byte.result ∷ []) (omega (arith, c.requires.1)) })
+pub returns-in-Err : goal.returns-in-Err
+returns-in-Err c = rw c.in-Err.is (record { value = c.refusal_bytes.ensures.value; bytes_after = c.refusal_bytes.ensures.bytes_after })
