@@ -14,7 +14,7 @@ use Rattle.image.specs.declared.answer.Checked.TheVariants.{Accepted, Refused}
 use Rattle.image.specs.Record.{max_depth, length_of}
 use Rattle.image.specs.Faults.{check_image}
 use Rattle.image.specs.Row.{row_at}
-use Rattle.image.specs.Types.{types_agree, types_agree_at}
+use Rattle.image.specs.Types.{types_agree}
 use Rattle.image.specs.Equality.{ranges_equal, tables_equal}
 use Rattle.image.proofs.Bools.{and_left, and_right}
 use Rattle.answers.specs.declared.Paired.TheVariants.{Agreed, Refused as PairRefused, UnequalTypes as PairUnequal}
@@ -72,12 +72,12 @@ module _ (s t : List ℕ) where
   unfolding paired_of
   paired_right left is = rw (left, is)
 
-  pub paired_unequal : check_image s ≡ Accepted → check_image t ≡ Accepted → types_agree_at max_depth false s t 0 0 ≡ false → PairUnequal ≡ paired_of s t
-  unfolding paired_of types_agree
+  pub paired_unequal : check_image s ≡ Accepted → check_image t ≡ Accepted → types_agree s t ≡ false → PairUnequal ≡ paired_of s t
+  unfolding paired_of
   paired_unequal left right e = rw (left, right, e)
 
-  pub paired_agreed : check_image s ≡ Accepted → check_image t ≡ Accepted → types_agree_at max_depth false s t 0 0 ≡ true → Agreed ≡ paired_of s t
-  unfolding paired_of types_agree
+  pub paired_agreed : check_image s ≡ Accepted → check_image t ≡ Accepted → types_agree s t ≡ true → Agreed ≡ paired_of s t
+  unfolding paired_of
   paired_agreed left right e = rw (left, right, e)
 
 -- where they agree, both are accepted and of equal type

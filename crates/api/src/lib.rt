@@ -16,13 +16,14 @@ use accepted::column::REMEMBERED;
 use answers::{Bounds, Built, Compared, Difference, DigitsCompared, MapNames, Paired, Written};
 use builder::is_readable;
 use digits::{digits_equal, not_digits};
-use equal::equal_range;
+use equal::rows_equal;
 use image::answer::{Checked, Side};
 use image::record::{MAX_DEPTH, length};
 use names::maps_named;
 use rows::measure::{Room, measure_rows};
 use rows::write::write_rows;
-use values::types::types_equal;
+use values::pair::Rows;
+use values::types::same_types;
 use values::utils::base_equal;
 
 // The image check.
@@ -47,7 +48,12 @@ fn compare_accepted(left: &[u8], right: &[u8]) -> Compared
         return Compared::No;
     }
     let rows = length(left, 0);
-    yes_or_no(equal_range(left, 0, right, 0, 0, 0, rows, MAX_DEPTH))
+    let whole = Rows {
+        left: 0,
+        right: 0,
+        count: rows,
+    };
+    yes_or_no(rows_equal(left, right, whole))
 }
 
 // Whether two tables are equal, the left one accepted.
@@ -85,7 +91,7 @@ fn paired(left: &[u8], right: &[u8]) -> Paired
     if let Checked::Refused(fault) = second {
         return Paired::Refused(Side::Right, fault);
     }
-    if !types_equal(left, right, 0, 0, false, MAX_DEPTH) {
+    if !same_types(left, right) {
         return Paired::UnequalTypes;
     }
     Paired::Agreed
@@ -132,19 +138,15 @@ fn compare_agreed(
     requires { paired_of left.now right.now ≡ Agreed }
     ensures { result ≡ bounded_answer (bounds_of left.now right.now left_start right_start count) (ranges_equal left.now right.now left_start right_start count) }
 {
+    let rows = Rows {
+        left: left_start,
+        right: right_start,
+        count: count,
+    };
     let bounds = bounds_of(left, right, left_start, right_start, count);
     match bounds {
         Bounds::OutOfRange(side) => Compared::OutOfRange(side),
-        Bounds::Within => yes_or_no(equal_range(
-            left,
-            0,
-            right,
-            0,
-            left_start,
-            right_start,
-            count,
-            MAX_DEPTH,
-        )),
+        Bounds::Within => yes_or_no(rows_equal(left, right, rows)),
     }
 }
 
@@ -187,13 +189,15 @@ fn difference_agreed(
     requires { paired_of left.now right.now ≡ Agreed }
     ensures { result ≡ bounded_difference (bounds_of left.now right.now left_start right_start count) (differs_at count (first_difference left.now right.now left_start right_start count)) }
 {
+    let rows = Rows {
+        left: left_start,
+        right: right_start,
+        count: count,
+    };
     let bounds = bounds_of(left, right, left_start, right_start, count);
     match bounds {
         Bounds::OutOfRange(side) => Difference::OutOfRange(side),
-        Bounds::Within => differs_at(
-            count,
-            difference::first_difference(left, right, left_start, right_start, count),
-        ),
+        Bounds::Within => differs_at(count, difference::first_difference(left, right, rows)),
     }
 }
 
@@ -234,7 +238,12 @@ fn digits_agreed(
     if let Bounds::OutOfRange(side) = bounds {
         return DigitsCompared::OutOfRange(side);
     }
-    if digits_equal(left, right, left_start, right_start, count, digits) {
+    let rows = Rows {
+        left: left_start,
+        right: right_start,
+        count: count,
+    };
+    if digits_equal(left, right, rows, digits) {
         DigitsCompared::Yes
     } else {
         DigitsCompared::No

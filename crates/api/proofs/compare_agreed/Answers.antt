@@ -4,11 +4,11 @@ use mathlib.Core.Path.{sym, ◌∙◌}
 use Rattle.api.proofs.Answers.{range_sides, range_rows}
 use Rattle.api.proofs.compare_agreed.Goals as goal
 
-pub equal_range-requires : goal.equal_range-requires
-equal_range-requires c = range_sides _ _ _ _ _ c.requires (sym c.bounds_of-bounds.ensures ∙ c.in-Within.is)
+pub rows_equal-requires : goal.rows_equal-requires
+rows_equal-requires c = range_sides _ _ _ _ _ c.requires (sym c.bounds_of-bounds.ensures ∙ c.in-Within.is)
 
 pub returns-in-OutOfRange : goal.returns-in-OutOfRange
 returns-in-OutOfRange c = rw (← c.bounds_of-bounds.ensures, c.in-OutOfRange.is)
 
 pub returns-in-Within : goal.returns-in-Within
-returns-in-Within c = rw (← c.bounds_of-bounds.ensures, c.in-Within.is) (range_rows _ _ _ _ _ c.equal_range.ensures c.yes_or_no.ensures)
+returns-in-Within c = rw (← c.bounds_of-bounds.ensures, c.in-Within.is) (range_rows _ _ _ _ _ c.rows_equal.ensures c.yes_or_no.ensures)

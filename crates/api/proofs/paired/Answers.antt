@@ -10,8 +10,8 @@ returns-in-Refused c = paired_left _ _ (sym c.check-first.ensures ∙ c.in-Refus
 pub returns-in-Refused-second : goal.returns-in-Refused-second
 returns-in-Refused-second c = paired_right _ _ (sym c.check-first.ensures ∙ c.in_default.is) (sym c.check-second.ensures ∙ c.in-Refused-second.is)
 
-pub returns-then-not-types_equal : goal.returns-then-not-types_equal
-returns-then-not-types_equal c = paired_unequal _ _ (sym c.check-first.ensures ∙ c.in_default.is) (sym c.check-second.ensures ∙ c.in_default-second.is) (sym c.types_equal.ensures ∙ c.if-not-types_equal.true)
+pub returns-then-not-same_types : goal.returns-then-not-same_types
+returns-then-not-same_types c = paired_unequal _ _ (sym c.check-first.ensures ∙ c.in_default.is) (sym c.check-second.ensures ∙ c.in_default-second.is) (sym c.same_types.ensures ∙ c.if-not-same_types.true)
 
 pub returns : goal.returns
-returns c = paired_agreed _ _ (sym c.check-first.ensures ∙ c.in_default.is) (sym c.check-second.ensures ∙ c.in_default-second.is) (sym c.types_equal.ensures ∙ c.if-not-types_equal.false)
+returns c = paired_agreed _ _ (sym c.check-first.ensures ∙ c.in_default.is) (sym c.check-second.ensures ∙ c.in_default-second.is) (sym c.same_types.ensures ∙ c.if-not-same_types.false)
