@@ -4,15 +4,17 @@ use mathlib.Core.Path.{◌≡◌, ap, ◌∙◌}
 use mathlib.Core.Bool.{true, false}
 use mathlib.Core.List.{List}
 use mathlib.Core.Logic.{◌⊎◌, inl, inr}
-use Prim.Native.Nat.{ℕ, suc, ◌+◌, ◌-◌, ◌/◌, ◌<◌, ◌≤◌}
+use Prim.Native.Nat.{ℕ, suc, ◌+◌, ◌-◌, ◌*◌, ◌/◌, ◌<◌, ◌≤◌, ◌^◌}
 use native.Mathlib.Omega.{arith}
-use native.Mathlib.Nat.{le_refl, le_antisymm, lt_of_not-le, le_of_suc-le-suc, eq-or-lt_of_le}
+use native.Mathlib.Nat.{add-mul, le_refl, le_antisymm, lt_of_not-le, le_of_suc-le-suc, eq-or-lt_of_le}
 use borrow.Author.Tests.{ltb-false, lt-ltb}
-use Rattle.image.specs.Record.{code_of, length_of, first_child, child_count, elements_of}
+use Rattle.image.specs.Bytes.{number_at}
+use Rattle.image.specs.Record.{code_of, length_of, offset_of, first_child, child_count, elements_of, buffer_place}
 use Rattle.image.specs.TypeCode.{layout_of}
 use Rattle.image.specs.declared.type_code.Layout.TheVariants.{Runs}
 use Rattle.image.specs.Element.{run_end_at, ends_above, run_at}
-use Rattle.image.specs.Reads.{Read}
+use Rattle.image.specs.declared.bytes.Numbers.{Numbers}
+use Rattle.image.specs.Reads.{Read, Nth, EndsOf}
 use Rattle.image.proofs.Ranges.{first_before, first_at_most}
 use Rattle.laws.specs.Accepted.{RunsCover}
 use Rattle.accepted.specs.Parts.{Part, RunPart}
@@ -54,6 +56,18 @@ module _ {s : List ℕ} {k : ℕ} (cover : RunsCover s k) where
 pub run_first : {s : List ℕ} {k j n : ℕ} → Part s k j n → layout_of (code_of s k) ≡ Runs → 0 < n → RunPart s k j
 run_first r runs lt = record { image = r.image; node = r.node; runs = runs; element = omega (arith, r.high) }
 
+-- the ends of a run node, read by number
+module _ {s : List ℕ} {k : ℕ} {v : Numbers} (f : EndsOf s k v) where
+  pub end_nth : {r : ℕ} → r < 2 ^ 33 → Nth v.place v.width r
+  end_nth lt = record { near = f.near; narrow = f.narrow; few = omega arith }
+
+  pub end_is : (r : ℕ) {x : ℕ} → Read (number_at v.width v.bytes.now (v.place + r * v.width)) (8 * v.width) x → x ≡ run_end_at s k r
+  unfolding run_end_at
+  end_is r e =
+      let d : (offset_of s (first_child s k) + r) * v.width ≡ offset_of s (first_child s k) * v.width + r * v.width = add-mul (offset_of s (first_child s k)) r v.width in
+      let at : buffer_place s (first_child s k) 0 + (offset_of s (first_child s k) + r) * v.width ≡ v.place + r * v.width = omega (arith, f.place) in
+      e.value ∙ rw (f.bytes, ← f.width, at)
+
 -- The bisection: the runs below low end at or before element j, and those from high on end above it.
 pub record Bisect (s : List ℕ) (k j low high : ℕ) : Type 0 where
   pub order : low ≤ high
@@ -71,9 +85,10 @@ module _ {s : List ℕ} {k j : ℕ} (r : RunPart s k j) where
       let two : child_count s k ≡ 2 = (r.image.node k r.node).tree.exactly 2 (rw r.runs) in
       length_small s (first_child s k) r.image (first_child_node s k r.image r.node (omega arith))
 
-  pub bisect_start : {e n : ℕ} → Read (first_child s k) 16 e → Read (length_of s e) 32 n → Bisect s k j 0 n
+  pub bisect_start : {e n : ℕ} → e ≡ first_child s k + 0 → Read (length_of s e) 32 n → Bisect s k j 0 n
   bisect_start {e} {n} ee en =
-      let whole : n ≡ length_of s (first_child s k) = en.value ∙ ap (length_of s) ee.value in
+      let first : e ≡ first_child s k = omega (arith, ee) in
+      let whole : n ≡ length_of s (first_child s k) = en.value ∙ ap (length_of s) first in
       record { order = omega arith; within = omega arith; before = λ q lt. absurd (omega arith); after = λ q le lt. absurd (omega arith) }
 
   module _ {low high : ℕ} (b : Bisect s k j low high) where

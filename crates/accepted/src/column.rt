@@ -5,7 +5,7 @@ ghost use Rattle.accepted.specs.Runs.{ColumnRead, Kept, Stays, Remembered, remem
 
 use crate::runs::{least, next_run, run_of};
 use image::element::{EndsAt, ends_of, run_end};
-use image::record::{code, offset};
+use image::record::{Node, code, offset};
 use image::type_code::TypeCode;
 
 // How many nodes an image has at most, and how many numbers the runs have that are remembered: two for each node, the
@@ -66,7 +66,13 @@ pub fn first_run(s: &[u8], node: u32, column: Column, i: usize, runs: &[usize]) 
     if runs[place] == j + 1 {
         return runs[MOST_NODES + place];
     }
-    run_of(s, node, j)
+    run_of(
+        Node {
+            image: s,
+            number: node,
+        },
+        j,
+    )
 }
 
 // The run behind a range of rows is remembered, that of row i, where the node has runs.

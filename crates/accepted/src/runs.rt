@@ -4,20 +4,19 @@ ghost use Rattle.image.specs.Element.{run_at};
 ghost use Rattle.accepted.specs.Parts.{RunPart};
 ghost use Rattle.accepted.specs.Runs.{next_run};
 
-use image::element::{ends_of, run_end};
-use image::record::{first_child, length};
+use image::record::Node;
 
 // The run that holds element j: the first whose end lies above it, found by bisection.
-pub fn run_of(s: &[u8], node: u32, j: usize) -> usize
-    requires { RunPart s.now node j }
-    ensures { result ≡ run_at s.now node j }
+pub fn run_of(node: Node, j: usize) -> usize
+    requires { RunPart node.image.now node.number j }
+    ensures { result ≡ run_at node.entry.image.now node.entry.number j }
 {
-    let ends = ends_of(s, node);
+    let ends = node.ends();
     let mut low: usize = 0;
-    let mut high = length(s, first_child(s, node));
+    let mut high = node.child(0).length();
     while low < high {
         let middle = low + (high - low) / 2;
-        if run_end(s, node, ends, middle) <= j {
+        if ends.at(middle) <= j {
             low = middle + 1;
         } else {
             high = middle;
@@ -29,7 +28,7 @@ pub fn run_of(s: &[u8], node: u32, j: usize) -> usize
 pub fn least(x: usize, y: usize) -> usize
     ensures { result ≡ min x y }
 {
-    if x < y { x } else { y }
+    x.min(y)
 }
 
 // The run that holds the element after j, from the run of j and its end.

@@ -12,13 +12,14 @@ use accepted::column::REMEMBERED;
 use answers::{BuildRefusal, DigitsRefusal, RangeRefusal, SideFault, WriteRefusal};
 use builder::is_readable;
 use digits::{digits_equal, not_digits};
-use equal::equal_range;
+use equal::rows_equal;
 use image::answer::{Fault, Side};
 use image::record::{MAX_DEPTH, length};
 use names::maps_named;
 use rows::measure::{Room, measure_rows};
 use rows::write::write_rows;
-use values::types::types_equal;
+use values::pair::Rows;
+use values::types::same_types;
 use values::utils::base_equal;
 
 // The image check.
@@ -37,7 +38,12 @@ fn compare_accepted(left: &[u8], right: &[u8]) -> bool
         return false;
     }
     let rows = length(left, 0);
-    equal_range(left, 0, right, 0, 0, 0, rows, MAX_DEPTH)
+    let whole = Rows {
+        left: 0,
+        right: 0,
+        count: rows,
+    };
+    rows_equal(left, right, whole)
 }
 
 // Whether two tables are equal, the left one accepted.
@@ -85,7 +91,7 @@ fn paired(left: &[u8], right: &[u8]) -> Result<(), RangeRefusal>
 {
     check_side(left, Side::Left)?;
     check_side(right, Side::Right)?;
-    if !types_equal(left, right, 0, 0, false, MAX_DEPTH) {
+    if !same_types(left, right) {
         return Err(RangeRefusal::UnequalTypes);
     }
     Ok(())
@@ -133,7 +139,12 @@ pub fn compare_range(
 {
     paired(left, right)?;
     bounds_of(left, right, left_start, right_start, count)?;
-    Ok(equal_range(left, 0, right, 0, left_start, right_start, count, MAX_DEPTH))
+    let rows = Rows {
+        left: left_start,
+        right: right_start,
+        count: count,
+    };
+    Ok(rows_equal(left, right, rows))
 }
 
 // The first of `count` rows of two tables from their starts on that is not equal.
@@ -148,7 +159,12 @@ pub fn first_difference(
 {
     paired(left, right)?;
     bounds_of(left, right, left_start, right_start, count)?;
-    let row = difference::first_difference(left, right, left_start, right_start, count);
+    let rows = Rows {
+        left: left_start,
+        right: right_start,
+        count: count,
+    };
+    let row = difference::first_difference(left, right, rows);
     Ok((row < count).then_some(row))
 }
 
@@ -168,7 +184,12 @@ pub fn compare_digits(
         return Err(DigitsRefusal::NotDigits);
     }
     bounds_of(left, right, left_start, right_start, count)?;
-    Ok(digits_equal(left, right, left_start, right_start, count, digits))
+    let rows = Rows {
+        left: left_start,
+        right: right_start,
+        count: count,
+    };
+    Ok(digits_equal(left, right, rows, digits))
 }
 
 // Whether every Map's entries are named `entries` and its fields `key` and `value`.

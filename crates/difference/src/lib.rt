@@ -6,26 +6,26 @@ ghost use Rattle.image.specs.Record.{max_depth};
 ghost use Rattle.image.specs.Equality.{ranges_equal, first_difference};
 ghost use Rattle.values.specs.Parts.{Sides};
 
-use equal::equal_range;
-use image::record::MAX_DEPTH;
+use equal::rows_equal;
+use values::pair::{Pair, Rows};
 use values::utils::first_unequal_null;
 
-// The first unequal row of n rows that are not all equal. A row that is null on one side alone is unequal, so those after
+// The first unequal row of rows that are not all equal. A row that is null on one side alone is unequal, so those after
 // the first such row are not looked at; the others are bisected.
-fn first_unequal_row(a: &[u8], b: &[u8], s: usize, t: usize, n: usize) -> usize
-    requires sides { Sides a.now b.now 0 0 s t n max_depth }
-    requires n_value { ranges_equal a.now b.now s t n ≡ false }
-    ensures { result ≡ first_difference a.now b.now s t n }
+fn first_unequal_row(a: &[u8], b: &[u8], rows: Rows) -> usize
+    requires sides { Sides a.now b.now 0 0 rows.left rows.right rows.count max_depth }
+    requires unequal { ranges_equal a.now b.now rows.left rows.right rows.count ≡ false }
+    ensures { result ≡ first_difference a.now b.now rows.left rows.right rows.count }
 {
-    let null = first_unequal_null(a, 0, b, 0, s, t, n);
+    let null = first_unequal_null(Pair::roots(a, b), rows);
     let mut low: usize = 0;
-    let mut high = n;
-    if null < n {
+    let mut high = rows.count;
+    if null < rows.count {
         high = null + 1;
     }
     while 1 < high - low {
         let middle = low + (high - low) / 2;
-        if equal_range(a, 0, b, 0, s + low, t + low, middle - low, MAX_DEPTH) {
+        if rows_equal(a, b, rows.part(low, middle - low)) {
             low = middle;
         } else {
             high = middle;
@@ -37,30 +37,24 @@ fn first_unequal_row(a: &[u8], b: &[u8], s: usize, t: usize, n: usize) -> usize
 // How many rows are compared at once, after k rows that are equal and with so many left: the first one alone, then as many
 // as were equal so far, and no more than are left.
 fn block(k: usize, left: usize) -> usize
-    requires { 0 < left }
     ensures { result ≡ min left (max 1 k) }
 {
-    if left < k {
-        return left;
-    }
-    if k == 0 {
-        return 1;
-    }
-    k
+    left.min(k.max(1))
 }
 
-// The first unequal row of n rows, or n where all are equal.
-pub fn first_difference(a: &[u8], b: &[u8], s: usize, t: usize, n: usize) -> usize
-    requires { Sides a.now b.now 0 0 s t n max_depth }
-    ensures { result ≡ first_difference a.now b.now s t n }
+// The first unequal row, or the count where all are equal.
+pub fn first_difference(a: &[u8], b: &[u8], rows: Rows) -> usize
+    requires { Sides a.now b.now 0 0 rows.left rows.right rows.count max_depth }
+    ensures { result ≡ first_difference a.now b.now rows.left rows.right rows.count }
 {
+    let n = rows.count;
     let mut k: usize = 0;
     while k < n {
-        let m = block(k, n - k);
-        if !equal_range(a, 0, b, 0, s + k, t + k, m, MAX_DEPTH) {
-            return k + first_unequal_row(a, b, s + k, t + k, m);
+        let part = rows.part(k, block(k, n - k));
+        if !rows_equal(a, b, part) {
+            return k + first_unequal_row(a, b, part);
         }
-        k += m;
+        k += part.count;
     }
     n
 }

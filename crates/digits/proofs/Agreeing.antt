@@ -10,7 +10,8 @@ use native.Mathlib.Nat.{add-mul}
 use lib.ListN.{length}
 use lib.Dec.{eqb, ltb}
 use borrow.Author.Tests.{eqb-true, ne_eqb, ltb-false, lt-ltb, le-ltb}
-use Rattle.image.specs.declared.element.Mask.{Mask}
+use Rattle.image.specs.declared.element.Bitmap.{Bitmap}
+use Rattle.std.specs.Prelude.{Option}
 use Rattle.image.specs.declared.type_code.Layout.TheVariants.{FixedWidth}
 use Rattle.image.specs.Ranges.{every}
 use Rattle.image.specs.Bytes.{byte_at, number_at, bytes_at}
@@ -24,7 +25,7 @@ use Rattle.image.specs.Equality.{row_equal}
 use Rattle.image.specs.Digits.{same_whole, stored_at, kept_at, kept_agree, digits_equal, not_digits}
 use Rattle.image.proofs.Bools.{and_left, and_right}
 use Rattle.laws.proofs.Rounding.{same_whole_lem}
-use Rattle.values.specs.declared.primitive.Columns.{Columns}
+use Rattle.values.specs.declared.leaf.Columns.{Columns}
 use Rattle.values.specs.Pairs.{all, same_row, same_mask, range_equal, masked_row}
 use Rattle.values.specs.Parts.{Sides, ColumnsAt}
 use Rattle.values.proofs.Steps.{all_by, by_rows}
@@ -117,7 +118,7 @@ module _ {a b : List ℕ} {i j n : ℕ} (r : Numbers a b i j n) where
   wide y ne = ⊎_elim (λ (h : element_width a 0 ≡ 4). absurd (ne (y.width ∙ h))) (λ (h : element_width a 0 ≡ 8). y.width ∙ h) r.width
 
 -- One row of each, as its number is read.
-module _ {a b : List ℕ} {i j w : ℕ} {v : Columns} {m : Mask} (r : Numbers a b i j 1) (y : Columned a b v w m) where
+module _ {a b : List ℕ} {i j w : ℕ} {v : Columns} {m : Option Bitmap} (r : Numbers a b i j 1) (y : Columned a b v w m) where
   left_width : w ≡ element_width a 0
   left_width = y.width ∙ y.places.width
 
@@ -127,18 +128,18 @@ module _ {a b : List ℕ} {i j w : ℕ} {v : Columns} {m : Mask} (r : Numbers a 
   width : (w ≡ 4) ⊎ (w ≡ 8)
   width = rw left_width r.width
 
-  packed : (end place row : ℕ) → place + row * v.width + 1 * v.width ≤ end → Packed end place w (row + 1)
-  unfolding is_width
-  packed end place row inside =
-      let e : (row + 1) * w ≡ row * w + 1 * w = add-mul row 1 w in
-      let f : place + row * w + 1 * w ≤ end = rw y.width inside in
-      record { width = ⊎_elim (λ (h : w ≡ 4). rw h) (λ (h : w ≡ 8). rw h) width; inside = omega arith }
+  pub narrow : w ≤ 8
+  narrow = cases r.width
+    where
+      cases : (element_width a 0 ≡ 4) ⊎ (element_width a 0 ≡ 8) → w ≤ 8
+      cases (inl e) = omega (arith, y.width, y.places.width, e)
+      cases (inr e) = omega (arith, y.width, y.places.width, e)
 
-  pub left_packed : Packed (length a) v.left w (i + 1)
-  left_packed = packed (length a) v.left i (left_inside r.rows y.places)
+  pub left_room : v.left + i * w + w ≤ length a
+  left_room = rw y.width (omega (arith, left_inside r.rows y.places))
 
-  pub right_packed : Packed (length b) v.right w (j + 1)
-  right_packed = packed (length b) v.right j (right_inside r.rows y.places)
+  pub right_room : v.right + j * w + w ≤ length b
+  right_room = rw y.width (omega (arith, right_inside r.rows y.places))
 
   one_mask : valid a 0 i ≡ valid b 0 j
   one_mask =

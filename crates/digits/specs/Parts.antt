@@ -1,10 +1,10 @@
 -- What the comparison at fewer digits asks of its callers.
-use Rattle.std.specs.Prelude.{◌≡◌, List, ◌⊎◌, ℕ, ◌*◌, ◌≤◌, ◌<◌, ◌^◌}
-use Rattle.image.specs.declared.element.Mask.{Mask}
+use Rattle.std.specs.Prelude.{◌≡◌, Option, List, ◌⊎◌, ℕ, ◌*◌, ◌≤◌, ◌<◌, ◌^◌}
+use Rattle.image.specs.declared.element.Bitmap.{Bitmap}
 use Rattle.image.specs.declared.type_code.Layout.TheVariants.{FixedWidth}
 use Rattle.image.specs.Element.{element_width}
-use Rattle.image.specs.Reads.{MaskRead}
-use Rattle.values.specs.declared.primitive.Columns.{Columns}
+use Rattle.image.specs.Reads.{BitmapOf}
+use Rattle.values.specs.declared.leaf.Columns.{Columns}
 use Rattle.values.specs.Parts.{Masked, ColumnsAt}
 
 -- a number that others are divided by: 1 to 10 to the 9
@@ -25,7 +25,7 @@ pub record Numbers (a b : List ℕ) (i j n : ℕ) : Type 0 where
   pub width : (element_width a 0 ≡ 4) ⊎ (element_width a 0 ≡ 8)
 
 -- what is read once of two columns: where their numbers start, how wide these are, and the left null mask
-pub record Columned (a b : List ℕ) (v : Columns) (w : ℕ) (m : Mask) : Type 0 where
+pub record Columned (a b : List ℕ) (v : Columns) (w : ℕ) (m : Option Bitmap) : Type 0 where
   pub places : ColumnsAt a b 0 0 v
   pub width : w ≡ v.width
-  pub mask : MaskRead a 0 m.some m.place m.first
+  pub mask : BitmapOf a 0 m

@@ -11,11 +11,13 @@ ghost use Rattle.values.specs.Parts.{Sides};
 ghost use Rattle.digits.specs.Parts.{Power, Numbers, Columned};
 
 use crate::round::{numbers_agree, power_of};
-use image::bytes::nth_inside;
-use image::element::{Mask, is_kept, mask_of};
-use image::record::code;
+use image::bytes::load;
+use image::element::Bitmap;
+use image::record::Node;
 use image::type_code::TypeCode;
-use values::primitive::{Columns, chunk_equal, columns_of};
+use values::leaf::Columns;
+use values::pair::{Pair, Rows};
+use values::primitive::{chunk_equal, columns_of};
 use values::utils::equal_nulls;
 
 // So many rows are first compared as they are.
@@ -31,7 +33,11 @@ pub fn not_digits(image: &[u8], digits: usize) -> bool
     if MOST_DIGITS < digits {
         return true;
     }
-    let root = code(image, 0);
+    let table = Node {
+        image: image,
+        number: 0,
+    };
+    let root = table.code();
     if root == TypeCode::DECIMAL32 {
         return false;
     }
@@ -40,89 +46,88 @@ pub fn not_digits(image: &[u8], digits: usize) -> bool
 
 // Row i of the left column and row j of the right agree once they are divided by p. Both are null or neither is, so that
 // numbers that are the same agree without a look at the mask or a division.
-fn row_agrees(
+fn row_agrees<const W: usize>(
     a: &[u8],
     b: &[u8],
     columns: Columns,
-    width: usize,
-    mask: Mask,
+    bitmap: Option<Bitmap>,
     i: usize,
     j: usize,
     p: usize,
 ) -> bool
     requires numbers { Numbers a.now b.now i j 1 × Power p }
-    requires columned { Columned a.now b.now columns width mask }
+    requires columned { Columned a.now b.now columns W bitmap }
     ensures { result ≡ kept_agree p a.now b.now i j }
 {
-    let x = nth_inside(a, columns.left, width, i);
-    let y = nth_inside(b, columns.right, width, j);
+    let x = load::<W>(a, columns.left + i * W);
+    let y = load::<W>(b, columns.right + j * W);
     if x == y {
         return true;
     }
-    if !is_kept(a, 0, mask, i) {
+    let left = Node {
+        image: a,
+        number: 0,
+    };
+    if !left.is_kept(bitmap, i) {
         return true;
     }
-    numbers_agree(x, y, width, p)
+    numbers_agree(x, y, W, p)
 }
 
-// n rows, one by one.
-fn rows_agree(
+// Rows, one by one.
+fn rows_agree<const W: usize>(
     a: &[u8],
     b: &[u8],
     columns: Columns,
-    width: usize,
-    mask: Mask,
-    s: usize,
-    t: usize,
-    n: usize,
+    bitmap: Option<Bitmap>,
+    rows: Rows,
     p: usize,
 ) -> bool
-    requires numbers { Numbers a.now b.now s t n × Power p }
-    requires columned { Columned a.now b.now columns width mask }
-    ensures { result ≡ all (kept_agree p a.now b.now) s t n }
+    requires numbers { Numbers a.now b.now rows.left rows.right rows.count × Power p }
+    requires columned { Columned a.now b.now columns W bitmap }
+    ensures { result ≡ all (kept_agree p a.now b.now) rows.left rows.right rows.count }
 {
-    let mut k: usize = 0;
-    while k < n {
-        if !row_agrees(a, b, columns, width, mask, s + k, t + k, p) {
+    for k in 0..rows.count {
+        if !row_agrees::<W>(a, b, columns, bitmap, rows.left + k, rows.right + k, p) {
             return false;
         }
-        k += 1;
     }
     true
 }
 
 // A chunk of rows: where they are not the same, number by number, in a loop of its own for each width.
-fn chunk_agrees(a: &[u8], b: &[u8], s: usize, t: usize, n: usize, p: usize) -> bool
-    requires { Numbers a.now b.now s t n × Power p }
-    ensures { result ≡ all (kept_agree p a.now b.now) s t n }
+fn chunk_agrees(a: &[u8], b: &[u8], rows: Rows, p: usize) -> bool
+    requires { Numbers a.now b.now rows.left rows.right rows.count × Power p }
+    ensures { result ≡ all (kept_agree p a.now b.now) rows.left rows.right rows.count }
 {
-    if chunk_equal(a, 0, b, 0, s, t, n) {
+    let pair = Pair::roots(a, b);
+    if chunk_equal(pair, rows) {
         return true;
     }
-    let columns = columns_of(a, 0, b, 0, s, t, n);
-    let mask = mask_of(a, 0);
+    let columns = columns_of(pair, rows);
+    let bitmap = pair.left.bitmap();
     if columns.width == 4 {
-        return rows_agree(a, b, columns, 4, mask, s, t, n, p);
+        return rows_agree::<4>(a, b, columns, bitmap, rows, p);
     }
-    rows_agree(a, b, columns, 8, mask, s, t, n, p)
+    rows_agree::<8>(a, b, columns, bitmap, rows, p)
 }
 
-// The n rows of two tables from s and from t on agree in turn, once so many digits are dropped.
-pub fn digits_equal(a: &[u8], b: &[u8], s: usize, t: usize, n: usize, digits: usize) -> bool
-    requires sides { Sides a.now b.now 0 0 s t n max_depth }
+// Two ranges of rows of two tables agree in turn, once so many digits are dropped.
+pub fn digits_equal(a: &[u8], b: &[u8], rows: Rows, digits: usize) -> bool
+    requires sides { Sides a.now b.now 0 0 rows.left rows.right rows.count max_depth }
     requires digits_value { not_digits a.now digits ≡ false }
-    ensures { result ≡ digits_equal digits a.now b.now s t n }
+    ensures { result ≡ digits_equal digits a.now b.now rows.left rows.right rows.count }
 {
-    if !equal_nulls(a, 0, b, 0, s, t, n) {
+    if !equal_nulls(Pair::roots(a, b), rows) {
         return false;
     }
     let p = power_of(digits);
-    let mut k: usize = 0;
-    while CHUNK <= n - k {
-        if !chunk_agrees(a, b, s + k, t + k, CHUNK, p) {
+    let n = rows.count;
+    for h in 0..n / CHUNK {
+        if !chunk_agrees(a, b, rows.part(2048 * h, CHUNK), p) {
             return false;
         }
-        k += CHUNK;
     }
-    chunk_agrees(a, b, s + k, t + k, n - k, p)
+    let k = 2048 * (n / CHUNK);
+    chunk_agrees(a, b, rows.part(k, n - k), p)
 }

@@ -33,20 +33,20 @@ module _ {a b : List ℕ} {k l i j n d : ℕ} (r : Parts a b k l i j n d) (keys 
   key_narrow = (part_node r.left).widths.keys keys
 
   -- the values children, as they are read
-  pub key_nodes : {ca cb : ℕ} → Read (first_child a k) 16 ca → Read (first_child b l) 16 cb → Side a ca 0 0 × Side b cb 0 0
+  pub key_nodes : {ca cb : ℕ} → ca ≡ first_child a k → cb ≡ first_child b l → Side a ca 0 0 × Side b cb 0 0
   key_nodes fa fb =
       let one : child_count a k ≡ 1 = count_left r 1 (rw keys) in
       let sides : Sides a b (first_child a k) (first_child b l) 0 0 0 d = first_sides r 0 0 0 (omega arith) (omega arith) (omega arith) in
-      rw (fa.value, fb.value) (sides.left, sides.right)
+      rw (fa, fb) (sides.left, sides.right)
 
   -- element h of the range, as its keys are read
-  module _ (h : ℕ) (lt : h < n) {ca cb x y : ℕ} (fa : Read (first_child a k) 16 ca) (fb : Read (first_child b l) 16 cb) (ex : x ≡ element_at a k (i + h)) (ey : y ≡ element_at b l (j + h)) where
+  module _ (h : ℕ) (lt : h < n) {ca cb x y : ℕ} (fa : ca ≡ first_child a k) (fb : cb ≡ first_child b l) (ex : x ≡ element_at a k (i + h)) (ey : y ≡ element_at b l (j + h)) where
     pub key_requires : Sides a b ca cb x y 1 d
     key_requires =
         let one : child_count a k ≡ 1 = count_left r 1 (rw keys) in
         let left : element_at a k (i + h) < length_of a (first_child a k) = key_below (part_at_lem r.left h lt) keys in
         let right : element_at b l (j + h) < length_of b (first_child b l) = key_below (part_at_lem r.right h lt) (layout_right r keys) in
-        rw (fa.value, fb.value, ex, ey) (first_sides r _ _ 1 (omega arith) (omega arith) (omega arith))
+        rw (fa, fb, ex, ey) (first_sides r _ _ 1 (omega arith) (omega arith) (omega arith))
 
     pub key_small : (x < 1073741824) × (y < 1073741824)
     key_small = (
@@ -55,7 +55,7 @@ module _ {a b : List ℕ} {k l i j n d : ℕ} (r : Parts a b k l i j n d) (keys 
     )
 
     pub key_answer : range_equal (row_at d a ca) (row_at d b cb) x y 1 ≡ same_row (dictionary_row (row_at d a) a k) (dictionary_row (row_at d b) b l) (i + h) (j + h)
-    key_answer = rw (fa.value, fb.value, ex, ey) (key_row (row_at d a) (row_at d b) a b k l (i + h) (j + h))
+    key_answer = rw (fa, fb, ex, ey) (key_row (row_at d a) (row_at d b) a b k l (i + h) (j + h))
 
     -- the rows that the keys name
     pub key_same : same_row (row_at d a ca) (row_at d b cb) x y ≡ same_row (dictionary_row (row_at d a) a k) (dictionary_row (row_at d b) b l) (i + h) (j + h)

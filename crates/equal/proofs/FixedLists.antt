@@ -44,12 +44,12 @@ module _ {a b : List ℕ} {k l i j n d : ℕ} (r : Parts a b k l i j n d) (lists
   pub fixed_list_right : j * w + n * w ≤ 1073741824
   fixed_list_right = rw (ew.value, r.alike.0.p1) (fixed_list_small r.right (layout_right r lists))
 
-  module _ {ca cb : ℕ} (fa : Read (first_child a k) 16 ca) (fb : Read (first_child b l) 16 cb) where
+  module _ {ca cb : ℕ} (fa : ca ≡ first_child a k) (fb : cb ≡ first_child b l) where
     pub fixed_list_requires : Sides a b ca cb (i * w) (j * w) (n * w) d
     fixed_list_requires =
         let one : child_count a k ≡ 1 = count_left r 1 (rw lists) in
         let right : j * p1_of a k + n * p1_of a k ≤ length_of b (first_child b l) = rw r.alike.0.p1 (fixed_list_within r.right (layout_right r lists)) in
-        rw (fa.value, fb.value, ew.value) (first_sides r _ _ _ (omega arith) (fixed_list_within r.left lists) right)
+        rw (fa, fb, ew.value) (first_sides r _ _ _ (omega arith) (fixed_list_within r.left lists) right)
 
     pub fixed_list_answer : range_equal (row_at d a ca) (row_at d b cb) (i * w) (j * w) (n * w) ≡ range_equal (fixed_list_row (row_at d a) a k) (fixed_list_row (row_at d b) b l) i j n
-    fixed_list_answer = rw (fa.value, fb.value, ew.value) (fixed_list_block (row_at d a) (row_at d b) a b k l r.alike.0.p1 i j n)
+    fixed_list_answer = rw (fa, fb, ew.value) (fixed_list_block (row_at d a) (row_at d b) a b k l r.alike.0.p1 i j n)

@@ -45,9 +45,9 @@ module _ {a b : List ℕ} {k l i j n d : ℕ} (r : Parts a b k l i j n d) (views
     pub view_differs : {z u : ℕ} → z ≡ size_at a k (i + h) → u ≡ size_at b l (j + h) → (z ≡ u → ⊥) → same_row (list_view_row (row_at d a) a k) (list_view_row (row_at d b) b l) (i + h) (j + h) ≡ false
     view_differs ez eu ne = sizes_differ (row_at d a) (row_at d b) a b k l (i + h) (j + h) (λ e. ne (ez ∙ e ∙ sym eu))
 
-    module _ {ca cb x y z u : ℕ} (fa : Read (first_child a k) 16 ca) (fb : Read (first_child b l) 16 cb) (ez : z ≡ size_at a k (i + h)) (eu : u ≡ size_at b l (j + h)) (same : z ≡ u) (ex : x ≡ element_at a k (i + h)) (ey : y ≡ element_at b l (j + h)) where
+    module _ {ca cb x y z u : ℕ} (fa : ca ≡ first_child a k) (fb : cb ≡ first_child b l) (ez : z ≡ size_at a k (i + h)) (eu : u ≡ size_at b l (j + h)) (same : z ≡ u) (ex : x ≡ element_at a k (i + h)) (ey : y ≡ element_at b l (j + h)) where
       pub view_requires : Sides a b ca cb x y z d
-      view_requires = rw (fa.value, fb.value, ex, ey, ez) (view_sides (sym ez ∙ same ∙ eu))
+      view_requires = rw (fa, fb, ex, ey, ez) (view_sides (sym ez ∙ same ∙ eu))
 
       pub view_answer : range_equal (row_at d a ca) (row_at d b cb) x y z ≡ same_row (list_view_row (row_at d a) a k) (list_view_row (row_at d b) b l) (i + h) (j + h)
-      view_answer = rw (fa.value, fb.value, ex, ey, ez) (view_row_lem (row_at d a) (row_at d b) a b k l (i + h) (j + h) (sym ez ∙ same ∙ eu))
+      view_answer = rw (fa, fb, ex, ey, ez) (view_row_lem (row_at d a) (row_at d b) a b k l (i + h) (j + h) (sym ez ∙ same ∙ eu))

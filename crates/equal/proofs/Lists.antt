@@ -134,12 +134,12 @@ module _ {a b : List ℕ} {k l i j n d : ℕ} (r : Parts a b k l i j n d) (lists
         first_sides r (element_at a k i) (element_at b l j) (element_at a k (i + n) - element_at a k i) (omega arith) (omega arith) (omega arith)
 
     -- the same of what was read
-    module _ {ca cb from to start : ℕ} (fa : Read (first_child a k) 16 ca) (fb : Read (first_child b l) 16 cb) (ef : from ≡ element_at a k i) (et : to ≡ element_at a k (i + n)) (es : start ≡ element_at b l j) where
+    module _ {ca cb from to start : ℕ} (fa : ca ≡ first_child a k) (fb : cb ≡ first_child b l) (ef : from ≡ element_at a k i) (et : to ≡ element_at a k (i + n)) (es : start ≡ element_at b l j) where
       pub list_order : from ≤ to
       list_order = omega (arith, list_rises)
 
       pub list_requires : Sides a b ca cb from start (to - from) d
-      list_requires = rw (fa.value, fb.value, ef, et, es) list_sides
+      list_requires = rw (fa, fb, ef, et, es) list_sides
 
       pub list_answer : range_equal (row_at d a ca) (row_at d b cb) from start (to - from) ≡ range_equal (list_row (row_at d a) a k) (list_row (row_at d b) b l) i j n
-      list_answer = rw (fa.value, fb.value, ef, et, es) (list_block (row_at d a) (row_at d b))
+      list_answer = rw (fa, fb, ef, et, es) (list_block (row_at d a) (row_at d b))

@@ -63,11 +63,11 @@ module _ {s : List ℕ} {k j n : ℕ} (r : Part s k j n) (runs : layout_of (code
           ap₂ (next_run (j + (g - 1))) same (ee ∙ ap (run_end_at s k) same) ∙ sym (run_next (j + (g - 1)) (rw more (run_part g l))) ∙ ap (run_at s k) more
 
 -- the values children of two run nodes, as they are read
-pub run_nodes : {a b : List ℕ} {k l s t n d ca cb : ℕ} → Parts a b k l s t n d → layout_of (code_of a k) ≡ Runs → Read (first_child a k) 16 ca → Read (first_child b l) 16 cb → Side a (ca + 1) 0 0 × Side b (cb + 1) 0 0
+pub run_nodes : {a b : List ℕ} {k l s t n d ca cb : ℕ} → Parts a b k l s t n d → layout_of (code_of a k) ≡ Runs → ca ≡ first_child a k → cb ≡ first_child b l → Side a (ca + 1) 0 0 × Side b (cb + 1) 0 0
 run_nodes {a} {b} {k} {l} {s} {t} {n} {d} r runs fa fb =
     let two : child_count a k ≡ 2 = count_left r 2 (rw runs) in
     let sides : Sides a b (first_child a k + 1) (first_child b l + 1) 0 0 0 d = child_sides r 1 0 0 0 (omega arith) (omega arith) (omega arith) in
-    rw (fa.value, fb.value) (sides.left, sides.right)
+    rw (fa, fb) (sides.left, sides.right)
 
 -- rows of two run nodes are those of the values of their runs
 pub run_row_lem : (A B : ℕ → ℕ → Row) (a b : List ℕ) (k l x y : ℕ)
@@ -88,16 +88,16 @@ stepping_start a b k l s t n ei ej =
 
 module _ {a b : List ℕ} {k l s t n d h i j : ℕ} (r : Parts a b k l s t n d) (runs : layout_of (code_of a k) ≡ Runs) (at : Stepping a b k l s t n h i j) (lt : h < n) where
   -- the values of the two runs
-  module _ {ca cb : ℕ} (fa : Read (first_child a k) 16 ca) (fb : Read (first_child b l) 16 cb) where
+  module _ {ca cb : ℕ} (fa : ca ≡ first_child a k) (fb : cb ≡ first_child b l) where
     pub step_requires : Sides a b (ca + 1) (cb + 1) i j 1 d
     step_requires =
         let two : child_count a k ≡ 2 = count_left r 2 (rw runs) in
         let left : i < length_of a (first_child a k + 1) = run_value r.left runs lt (at.left lt) in
         let right : j < length_of b (first_child b l + 1) = run_value r.right (layout_right r runs) lt (at.right lt) in
-        rw (fa.value, fb.value) (child_sides r 1 i j 1 (omega arith) (omega arith) (omega arith))
+        rw (fa, fb) (child_sides r 1 i j 1 (omega arith) (omega arith) (omega arith))
 
     step_answer : (x y : ℕ) → i ≡ run_at a k x → j ≡ run_at b l y → range_equal (row_at d a (ca + 1)) (row_at d b (cb + 1)) i j 1 ≡ same_row (run_row (row_at d a) a k) (run_row (row_at d b) b l) x y
-    step_answer x y ei ej = rw (fa.value, fb.value, ei, ej) (run_row_lem (row_at d a) (row_at d b) a b k l x y)
+    step_answer x y ei ej = rw (fa, fb, ei, ej) (run_row_lem (row_at d a) (row_at d b) a b k l x y)
 
     pub step_fail : RowsLeft (run_row (row_at d a) a k) (run_row (row_at d b) b l) s t n h → range_equal (row_at d a (ca + 1)) (row_at d b (cb + 1)) i j 1 ≡ false
         → false ≡ range_equal (run_row (row_at d a) a k) (run_row (row_at d b) b l) s t n
@@ -109,7 +109,7 @@ module _ {a b : List ℕ} {k l s t n d h i j : ℕ} (r : Parts a b k l s t n d) 
     step_some = omega (arith, run_above r.left runs lt (at.left lt) ee, run_above r.right (layout_right r runs) lt (at.right lt) ef)
 
     -- their rows are equal
-    step_more : {ca cb : ℕ} → Read (first_child a k) 16 ca → Read (first_child b l) 16 cb → RowsLeft (run_row (row_at d a) a k) (run_row (row_at d b) b l) s t n h → range_equal (row_at d a (ca + 1)) (row_at d b (cb + 1)) i j 1 ≡ true
+    step_more : {ca cb : ℕ} → ca ≡ first_child a k → cb ≡ first_child b l → RowsLeft (run_row (row_at d a) a k) (run_row (row_at d b) b l) s t n h → range_equal (row_at d a (ca + 1)) (row_at d b (cb + 1)) i j 1 ≡ true
         → RowsLeft (run_row (row_at d a) a k) (run_row (row_at d b) b l) s t n (h + m)
     step_more fa fb kept is =
         rows_jump kept m (omega arith)
@@ -123,7 +123,7 @@ module _ {a b : List ℕ} {k l s t n d h i j : ℕ} (r : Parts a b k l s t n d) 
         (run_kept r.right (layout_right r runs) lt (at.right lt) ef (h + g) (omega arith) (omega arith) (omega arith))) ∙ is)))
 
     -- the runs of the next element
-    pub step_again : {ca cb inext jnext : ℕ} → Read (first_child a k) 16 ca → Read (first_child b l) 16 cb → RowsLeft (run_row (row_at d a) a k) (run_row (row_at d b) b l) s t n h → range_equal (row_at d a (ca + 1)) (row_at d b (cb + 1)) i j 1 ≡ true
+    pub step_again : {ca cb inext jnext : ℕ} → ca ≡ first_child a k → cb ≡ first_child b l → RowsLeft (run_row (row_at d a) a k) (run_row (row_at d b) b l) s t n h → range_equal (row_at d a (ca + 1)) (row_at d b (cb + 1)) i j 1 ≡ true
         → inext ≡ next_run (s + (h + m - 1)) i e → jnext ≡ next_run (t + (h + m - 1)) j f
         → Stepping a b k l s t n (h + m) inext jnext × RowsLeft (run_row (row_at d a) a k) (run_row (row_at d b) b l) s t n (h + m)
     step_again fa fb kept is ei ej =
@@ -208,13 +208,13 @@ module _ {a b : List ℕ} {k l s t n d : ℕ} (r : Parts a b k l s t n d) (runs 
       ∙ ap₂ ◌&&◌ (one_value i j ∙ one_run (run_end_at a k i - (s + h)) h i j (omega arith) (omega arith) ei ej (omega arith) (omega arith)) (rw (← x, ← y) rest)
       ∙ sym (ap (all elements (s + h) (t + h)) cut ∙ all_split elements (s + h) (t + h) (run_end_at a k i - (s + h)) (n - (h + (run_end_at a k i - (s + h)))))
 
-  module _ {i j m : ℕ} (ei : i ≡ run_at a k s) (ej : j ≡ run_at b l t) (lt : 0 < n) (some : 0 < m) (e : Together a b k l s t n i j (m - 1)) {ca cb : ℕ} (fa : Read (first_child a k) 16 ca) (fb : Read (first_child b l) 16 cb) where
+  module _ {i j m : ℕ} (ei : i ≡ run_at a k s) (ej : j ≡ run_at b l t) (lt : 0 < n) (some : 0 < m) (e : Together a b k l s t n i j (m - 1)) {ca cb : ℕ} (fa : ca ≡ first_child a k) (fb : cb ≡ first_child b l) where
     pub together_requires : Sides a b (ca + 1) (cb + 1) i j m d
     together_requires =
         let two : child_count a k ≡ 2 = count_left r 2 (rw runs) in
         let left : i + (m - 1) < length_of a (first_child a k + 1) = run_value r.left runs {h = n - 1} (omega arith) e.left_last in
         let right : j + (m - 1) < length_of b (first_child b l + 1) = run_value r.right (layout_right r runs) {h = n - 1} (omega arith) e.right_last in
-        rw (fa.value, fb.value) (child_sides r 1 i j m (omega arith) (omega arith) (omega arith))
+        rw (fa, fb) (child_sides r 1 i j m (omega arith) (omega arith) (omega arith))
 
     pub together_answer : range_equal (row_at d a (ca + 1)) (row_at d b (cb + 1)) i j m ≡ range_equal (run_row (row_at d a) a k) (run_row (row_at d b) b l) s t n
     together_answer =
@@ -223,5 +223,5 @@ module _ {a b : List ℕ} {k l s t n d : ℕ} (r : Parts a b k l s t n d) (runs 
         let w : n - 0 ≡ n = omega arith in
         let x : m - 1 + 1 ≡ m = omega arith in
         let block : all values i j m ≡ all elements s t n = rw (u, v, w, x) at (runs_block (m - 1) 0 i j lt (rw u ei) (rw v ej) e.left_last e.right_last e.ends) in
-        rw (fa.value, fb.value)
+        rw (fa, fb)
         (sym (by_rows (row_at d a (first_child a k + 1)) (row_at d b (first_child b l + 1)) i j m) ∙ block ∙ by_rows (run_row (row_at d a) a k) (run_row (row_at d b) b l) s t n)

@@ -75,13 +75,13 @@ module _ {a b : List ℕ} {k l i j n d : ℕ} (r : Parts a b k l i j n d) (kind 
   whole fa fb fm = rw (fa, fb, fm) (by_columns (row_at d a) (row_at d b) a b k l i j n r.alike.0.count)
 
   -- child c, as the counts and the first children are read
-  module _ {ca cb m c : ℕ} (fa : Read (first_child a k) 16 ca) (fb : Read (first_child b l) 16 cb) (fm : Read (child_count a k) 16 m) where
+  module _ {ca cb m c : ℕ} (fa : ca ≡ first_child a k) (fb : cb ≡ first_child b l) (fm : Read (child_count a k) 16 m) where
     pub struct_requires : c < m → Sides a b (ca + c) (cb + c) i j n d
     unfolding child_end
     struct_requires lt =
         let below : c < child_count a k = omega (arith, fm.value) in
         let other : c < child_count b l = omega (arith, r.alike.0.count) in
-        rw (fa.value, fb.value) (child_sides r c i j n below
+        rw (fa, fb) (child_sides r c i j n below
         (omega (arith, r.left.high, long_child r.left kind (first_child a k + c) (omega arith) (omega arith)))
         (omega (arith, r.right.high, long_child r.right (right_kind r kind) (first_child b l + c) (omega arith) (omega arith))))
 
@@ -92,7 +92,7 @@ module _ {a b : List ℕ} {k l i j n d : ℕ} (r : Parts a b k l i j n d) (kind 
 
       pub columns_fail : c < m → range_equal (row_at d a (ca + c)) (row_at d b (cb + c)) i j n ≡ false → false ≡ range_equal (struct_row (row_at d a) a k) (struct_row (row_at d b) b l) i j n
       unfolding same_column
-      columns_fail lt e = left_fails (same_column (row_at d a) (row_at d b) i j n) ca cb m c lt kept.pairs e ∙ whole fa.value fb.value fm.value
+      columns_fail lt e = left_fails (same_column (row_at d a) (row_at d b) i j n) ca cb m c lt kept.pairs e ∙ whole fa fb fm.value
 
       pub columns_done : m ≤ c → true ≡ range_equal (struct_row (row_at d a) a k) (struct_row (row_at d b) b l) i j n
-      columns_done le = left_done (same_column (row_at d a) (row_at d b) i j n) ca cb m c le kept.pairs ∙ whole fa.value fb.value fm.value
+      columns_done le = left_done (same_column (row_at d a) (row_at d b) i j n) ca cb m c le kept.pairs ∙ whole fa fb fm.value

@@ -1,7 +1,7 @@
 -- Unions: elements with unequal type ids differ, and elements with one type id are equal exactly where the rows of the
 -- child that it names are; that child has the same number among the children on both sides.
 -- The ids of the children are the same in turn, so that the search for an id stops at the same child.
-use mathlib.Core.Path.{◌≡◌, sym, ap, ◌∙◌}
+use mathlib.Core.Path.{◌≡◌, sym, ap, ◌∙◌, refl}
 use mathlib.Core.Bool.{Bool, true, false, cond}
 use mathlib.Core.List.{List}
 use Prim.Native.Nat.{ℕ, zero, suc, ◌+◌, ◌-◌, ◌<◌, ◌≤◌}
@@ -68,6 +68,10 @@ unfolding child_with_id has_id
 same_child a b k l id count ids =
     rw (← count) (first_moved (has_id a id) (has_id b id) (first_child a k) (first_child b l) (child_count a k) (λ c lt. ap (λ (x : ℕ). eqb x id) (ids c lt)))
 
+pub named_above : (s : List ℕ) (k id : ℕ) → first_child s k ≤ child_with_id s k id
+unfolding child_with_id
+named_above s k id = first_from (has_id s id) (first_child s k) (child_count s k)
+
 -- two unions whose ids at elements x and y name children
 record Named (a b : List ℕ) (k l x y : ℕ) : Type 0 where
   union : is_union (code_of a k) ≡ true
@@ -80,30 +84,30 @@ module _ {a b : List ℕ} {k l i j n d x y : ℕ} (r : Parts a b k l i j n d) (m
   named_differs u v ne = ids_differ (row_at d a) (row_at d b) a b k l (type_id_at a k x) (type_id_at b l y) u v m.left.high m.right.high (λ e. ne (ei ∙ e ∙ sym ee))
 
   -- the children that one id names
-  module _ {child ca cb : ℕ} (same : id ≡ ie) (fa : Read (first_child a k) 16 ca) (fb : Read (first_child b l) 16 cb) (fc : Read (child_with_id a k id) 17 child) where
+  module _ {child ca cb : ℕ} (same : id ≡ ie) (fa : ca ≡ first_child a k) (fb : cb ≡ first_child b l) (fc : child ≡ child_with_id a k id) where
     named_left : child ≡ child_with_id a k (type_id_at a k x)
-    named_left = fc.value ∙ ap (child_with_id a k) ei
+    named_left = fc ∙ ap (child_with_id a k) ei
 
     named_right : cb + (child - ca) ≡ child_with_id b l (type_id_at b l y)
     named_right =
-        rw (fa.value, fb.value, fc.value)
+        rw (fa, fb, fc)
         (sym (same_child a b k l id r.alike.0.count (r.alike.0.ids m.union)) ∙ ap (child_with_id b l) (same ∙ ee))
 
     named_low : ca ≤ child
-    named_low = rw (fa.value, named_left) m.left.low
+    named_low = rw (fa, named_left) m.left.low
 
     named_sides : (u v : ℕ) → u < length_of a (child_with_id a k (type_id_at a k x)) → v < length_of b (child_with_id b l (type_id_at b l y)) → Sides a b child (cb + (child - ca)) u v 1 d
     unfolding child_end
     named_sides u v lu lv =
         let low : first_child a k ≤ child_with_id a k (type_id_at a k x) = m.left.low in
         let high : child_with_id a k (type_id_at a k x) < first_child a k + child_count a k = m.left.high in
-        let nl : first_child a k + (child - ca) ≡ child_with_id a k (type_id_at a k x) = omega (arith, fa.value, named_left) in
-        let nr : first_child b l + (child - ca) ≡ child_with_id b l (type_id_at b l y) = rw (← fb.value) named_right in
+        let nl : first_child a k + (child - ca) ≡ child_with_id a k (type_id_at a k x) = omega (arith, fa, named_left) in
+        let nr : first_child b l + (child - ca) ≡ child_with_id b l (type_id_at b l y) = rw (← fb) named_right in
         let ul : u + 1 ≤ length_of a (first_child a k + (child - ca)) = rw nl (omega arith) in
         let vl : v + 1 ≤ length_of b (first_child b l + (child - ca)) = rw nr (omega arith) in
-        let sides : Sides a b (first_child a k + (child - ca)) (first_child b l + (child - ca)) u v 1 d = child_sides r (child - ca) u v 1 (omega (arith, fa.value, named_left)) ul vl in
+        let sides : Sides a b (first_child a k + (child - ca)) (first_child b l + (child - ca)) u v 1 d = child_sides r (child - ca) u v 1 (omega (arith, fa, named_left)) ul vl in
         let el : first_child a k + (child - ca) ≡ child = nl ∙ sym named_left in
-        rw (el, ← fb.value) at sides
+        rw (el, ← fb) at sides
 
     named_answer : (u v : ℕ) → range_equal (row_at d a child) (row_at d b (cb + (child - ca))) u v 1 ≡ row_equal (union_row (row_at d a) a k (type_id_at a k x) u) (union_row (row_at d b) b l (type_id_at b l y) v)
     named_answer u v =
@@ -124,7 +128,7 @@ module _ {a b : List ℕ} {k l i j n d : ℕ} (r : Parts a b k l i j n d) (dense
     unfolding same_row dense_row
     dense_differs ne = named_differs r dense_named ei ee _ _ ne
 
-    module _ {child ca cb : ℕ} (same : id ≡ ie) (fa : Read (first_child a k) 16 ca) (fb : Read (first_child b l) 16 cb) (fc : Read (child_with_id a k id) 17 child) where
+    module _ {child ca cb : ℕ} (same : id ≡ ie) (fa : ca ≡ first_child a k) (fb : cb ≡ first_child b l) (fc : child ≡ child_with_id a k id) where
       pub dense_low : ca ≤ child
       dense_low = named_low r dense_named ei ee same fa fb fc
 
@@ -150,7 +154,7 @@ module _ {a b : List ℕ} {k l i j n d : ℕ} (r : Parts a b k l i j n d) (spars
     unfolding same_row sparse_row
     sparse_differs ne = named_differs r sparse_named ei ee _ _ ne
 
-    module _ {child ca cb : ℕ} (same : id ≡ ie) (fa : Read (first_child a k) 16 ca) (fb : Read (first_child b l) 16 cb) (fc : Read (child_with_id a k id) 17 child) where
+    module _ {child ca cb : ℕ} (same : id ≡ ie) (fa : ca ≡ first_child a k) (fb : cb ≡ first_child b l) (fc : child ≡ child_with_id a k id) where
       pub sparse_low : ca ≤ child
       sparse_low = named_low r sparse_named ei ee same fa fb fc
 
@@ -203,3 +207,35 @@ module _ {a b : List ℕ} {k l i j n d : ℕ} (r : Parts a b k l i j n d) (spars
 
   pub whole_children : {p q : ℕ} → p ≡ buffer_place a k 0 → q ≡ buffer_place b l 0 → same_bytes (bytes_at a (p + i) n) (bytes_at b (q + j) n) ≡ true → true ≡ range_equal (sparse_row (row_at d a) a k) (sparse_row (row_at d b) b l) i j n
   whole_children ep eq e = sym (all_by (same_row (sparse_row (row_at d a) a k) (sparse_row (row_at d b) b l)) i j n (λ h lt. whole_row h lt (ids_at a b k l i j n ep eq e h lt))) ∙ by_rows _ _ i j n
+
+-- the same, with the children as they are found
+module _ {a b : List ℕ} {k l i j n d : ℕ} (r : Parts a b k l i j n d) (dense : layout_of (code_of a k) ≡ DenseUnion) (h : ℕ) (lt : h < n) {id ie : ℕ} (ei : id ≡ type_id_at a k (i + h)) (ee : ie ≡ type_id_at b l (j + h)) where
+  pub dense_never : child_with_id a k id ≡ child_end a k → ⊥
+  dense_never e = omega (arith, e, ap (child_with_id a k) ei, (dense_named r dense h lt).left.high)
+
+  module _ (same : id ≡ ie) where
+    dense_place : first_child a k + (child_with_id a k id - first_child a k) ≡ child_with_id a k id
+    dense_place = omega (arith, dense_low r dense h lt ei ee same refl refl refl)
+
+    pub dense_child : {u v : ℕ} → u ≡ dense_offset_at a k (i + h) → v ≡ dense_offset_at b l (j + h) → Sides a b (first_child a k + (child_with_id a k id - first_child a k)) (first_child b l + (child_with_id a k id - first_child a k)) u v 1 d
+    dense_child eu ev = rw dense_place (dense_requires r dense h lt ei ee same refl refl refl eu ev)
+
+    pub dense_row_lem : {u v : ℕ} → u ≡ dense_offset_at a k (i + h) → v ≡ dense_offset_at b l (j + h) → range_equal (row_at d a (first_child a k + (child_with_id a k id - first_child a k))) (row_at d b (first_child b l + (child_with_id a k id - first_child a k))) u v 1
+        ≡ same_row (dense_row (row_at d a) a k) (dense_row (row_at d b) b l) (i + h) (j + h)
+    dense_row_lem eu ev = rw dense_place (dense_answer r dense h lt ei ee same refl refl refl eu ev)
+
+-- the same, with the children as they are found
+module _ {a b : List ℕ} {k l i j n d : ℕ} (r : Parts a b k l i j n d) (sparse : layout_of (code_of a k) ≡ SparseUnion) (h : ℕ) (lt : h < n) {id ie : ℕ} (ei : id ≡ type_id_at a k (i + h)) (ee : ie ≡ type_id_at b l (j + h)) where
+  pub sparse_never : child_with_id a k id ≡ child_end a k → ⊥
+  sparse_never e = omega (arith, e, ap (child_with_id a k) ei, (sparse_named r sparse h lt).left.high)
+
+  module _ (same : id ≡ ie) where
+    sparse_place : first_child a k + (child_with_id a k id - first_child a k) ≡ child_with_id a k id
+    sparse_place = omega (arith, sparse_low r sparse h lt ei ee same refl refl refl)
+
+    pub sparse_child : Sides a b (first_child a k + (child_with_id a k id - first_child a k)) (first_child b l + (child_with_id a k id - first_child a k)) (i + h) (j + h) 1 d
+    sparse_child = rw sparse_place (sparse_requires r sparse h lt ei ee same refl refl refl)
+
+    pub sparse_row_lem : range_equal (row_at d a (first_child a k + (child_with_id a k id - first_child a k))) (row_at d b (first_child b l + (child_with_id a k id - first_child a k))) (i + h) (j + h) 1
+        ≡ same_row (sparse_row (row_at d a) a k) (sparse_row (row_at d b) b l) (i + h) (j + h)
+    sparse_row_lem = rw sparse_place (sparse_answer r sparse h lt ei ee same refl refl refl)

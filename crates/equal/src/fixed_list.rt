@@ -1,40 +1,23 @@
 // Fixed-size lists. Translated from src/equal/fixed_list.rs of arrow-data 60.1.0 (Apache-2.0).
 ghost use Rattle.std.specs.Prelude.{◌≡◌};
 ghost use Rattle.image.specs.declared.type_code.Layout.TheVariants.{FixedList};
-ghost use Rattle.image.specs.Record.{code_of};
-ghost use Rattle.image.specs.TypeCode.{layout_of};
-ghost use Rattle.image.specs.Row.{fixed_list_row, row_at};
-ghost use Rattle.values.specs.Pairs.{range_equal};
-ghost use Rattle.values.specs.Parts.{Parts};
+ghost use Rattle.image.specs.Row.{fixed_list_row};
+ghost use Rattle.values.specs.Pair.{equal_rows, nested, PartsIn};
 
 use crate::equal_range;
-use image::record::{first_child, p1};
+use values::pair::{Pair, Rows};
 
 // Fixed-size lists without nulls: all their child rows as one range.
-#[cycle(equal_long_equal_equal_range_equal_row_equal_valid_equal_values_equal_equal_equal_equal_equal_block_dense_sparse)]
-pub fn equal(
-    a: &[u8],
-    an: u32,
-    b: &[u8],
-    bn: u32,
-    s: usize,
-    t: usize,
-    n: usize,
-    depth: usize,
-) -> bool
-    requires parts { Parts a.now b.now an bn s t n depth }
-    requires an_value { layout_of (code_of a.now an) ≡ FixedList }
-    ensures { result ≡ range_equal (fixed_list_row (row_at depth a.now) a.now an) (fixed_list_row (row_at depth b.now) b.now bn) s t n }
+#[cycle(rows)]
+pub fn equal(pair: Pair, rows: Rows, depth: usize) -> bool
+    requires { PartsIn FixedList pair rows depth }
+    ensures { result ≡ equal_rows (nested fixed_list_row depth) pair.entry rows }
 {
-    let size = p1(a, an);
-    equal_range(
-        a,
-        first_child(a, an),
-        b,
-        first_child(b, bn),
-        s * size,
-        t * size,
-        n * size,
-        depth,
-    )
+    let size = pair.left.p1();
+    let items = Rows {
+        left: rows.left * size,
+        right: rows.right * size,
+        count: rows.count * size,
+    };
+    equal_range(pair.child(0), items, depth)
 }

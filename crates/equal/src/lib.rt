@@ -11,89 +11,78 @@ pub mod structure;
 pub mod union;
 
 ghost use Rattle.std.specs.Prelude.{◌≡◌, true, suc};
-ghost use Rattle.image.specs.Record.{code_of};
-ghost use Rattle.image.specs.TypeCode.{layout_of};
-ghost use Rattle.image.specs.Row.{row_at, value_at};
-ghost use Rattle.values.specs.Pairs.{all, range_equal, same_mask};
-ghost use Rattle.values.specs.Parts.{Sides, Parts, LeavesAt};
+ghost use Rattle.image.specs.Record.{max_depth};
+ghost use Rattle.image.specs.Row.{row_at};
+ghost use Rattle.values.specs.Pairs.{range_equal};
+ghost use Rattle.values.specs.Parts.{Sides};
+ghost use Rattle.values.specs.Pair.{equal_rows, values_at, one_row, same_masks, SidesOf, PartsOf, LeavesOf};
 
-use image::record::{code, offset};
+use image::record::MAX_DEPTH;
 use image::type_code::{Layout, TypeCode};
 use values::boolean::boolean_equal;
 use values::byte_view::{byte_view_equal, masked_views_equal};
 use values::data::{contains_nulls, valid_rows};
 use values::leaf::{Leaves, leaf_equal};
 use values::null::null_equal;
+use values::pair::{Pair, Rows};
 use values::primitive::{masked_equal, primitive_equal};
 use values::utils::equal_nulls;
 use values::variable_size::variable_sized_equal;
 
-// The elements of two nodes from s and from t on are equal, n of them, none of them null: the rule of their layout.
-#[cycle(equal_long_equal_equal_range_equal_row_equal_valid_equal_values_equal_equal_equal_equal_equal_block_dense_sparse)]
-fn equal_values(
-    a: &[u8],
-    an: u32,
-    b: &[u8],
-    bn: u32,
-    s: usize,
-    t: usize,
-    n: usize,
-    depth: usize,
-) -> bool
-    requires { Parts a.now b.now an bn s t n depth }
-    ensures { result ≡ range_equal (value_at (layout_of (code_of a.now an)) (row_at depth a.now) a.now an) (value_at (layout_of (code_of b.now bn)) (row_at depth b.now) b.now bn) s t n }
+// The elements of two ranges are equal, none of them null: the rule of their layout.
+#[cycle(rows)]
+fn equal_values(pair: Pair, rows: Rows, depth: usize) -> bool
+    requires { PartsOf pair rows depth }
+    ensures { result ≡ equal_rows (values_at depth) pair.entry rows }
 {
-    let layout = TypeCode::layout(code(a, an));
+    let layout = TypeCode::layout(pair.left.code());
     match layout {
         Layout::Null => null_equal(),
-        Layout::Boolean => boolean_equal(a, an, b, bn, s, t, n),
-        Layout::FixedWidth => primitive_equal(a, an, b, bn, s, t, n),
-        Layout::VariableSize => variable_sized_equal(a, an, b, bn, s, t, n),
-        Layout::View => byte_view_equal(a, an, b, bn, s, t, n),
-        Layout::List => list::equal(a, an, b, bn, s, t, n, depth),
-        Layout::ListView => list_view::equal(a, an, b, bn, s, t, n, depth),
-        Layout::FixedList => fixed_list::equal(a, an, b, bn, s, t, n, depth),
-        Layout::Struct => structure::equal(a, an, b, bn, s, t, n, depth),
-        Layout::DenseUnion => union::dense(a, an, b, bn, s, t, n, depth),
-        Layout::SparseUnion => union::sparse(a, an, b, bn, s, t, n, depth),
-        Layout::Dictionary => dictionary::equal(a, an, b, bn, s, t, n, depth),
-        Layout::Runs => run::equal(a, an, b, bn, s, t, n, depth),
+        Layout::Boolean => boolean_equal(pair, rows),
+        Layout::FixedWidth => primitive_equal(pair, rows),
+        Layout::VariableSize => variable_sized_equal(pair, rows),
+        Layout::View => byte_view_equal(pair, rows),
+        Layout::List => list::equal(pair, rows, depth),
+        Layout::ListView => list_view::equal(pair, rows, depth),
+        Layout::FixedList => fixed_list::equal(pair, rows, depth),
+        Layout::Struct => structure::equal(pair, rows, depth),
+        Layout::DenseUnion => union::dense(pair, rows, depth),
+        Layout::SparseUnion => union::sparse(pair, rows, depth),
+        Layout::Dictionary => dictionary::equal(pair, rows, depth),
+        Layout::Runs => run::equal(pair, rows, depth),
     }
 }
 
-// The rows of two nodes from s and from t on are equal, n of them, some of them null, where the null masks agree: rows
-// that are not null are compared as far as they follow each other, and null rows are passed over.
-#[cycle(equal_long_equal_equal_range_equal_row_equal_valid_equal_values_equal_equal_equal_equal_equal_block_dense_sparse)]
-fn equal_valid(
-    a: &[u8],
-    an: u32,
-    b: &[u8],
-    bn: u32,
-    s: usize,
-    t: usize,
-    n: usize,
-    depth: usize,
-) -> bool
-    requires sides { Sides a.now b.now an bn s t n (suc depth) }
-    requires n_value { all (same_mask a.now an b.now bn) s t n ≡ true }
-    ensures { result ≡ range_equal (row_at (suc depth) a.now an) (row_at (suc depth) b.now bn) s t n }
+// Two ranges of rows are equal, some of them null, where the null masks agree: rows that are not null are compared as far
+// as they follow each other, and null rows are passed over.
+#[cycle(rows)]
+fn equal_valid(pair: Pair, rows: Rows, depth: usize) -> bool
+    requires sides { SidesOf pair rows (suc depth) }
+    requires masks { same_masks pair rows ≡ true }
+    ensures { result ≡ equal_rows (row_at (suc depth)) pair.entry rows }
 {
-    let layout = TypeCode::layout(code(a, an));
+    let n = rows.count;
+    let layout = TypeCode::layout(pair.left.code());
     if let Layout::FixedWidth = layout {
-        return masked_equal(a, an, b, bn, s, t, n);
+        return masked_equal(pair, rows);
     }
     if let Layout::View = layout {
-        return masked_views_equal(a, an, b, bn, s, t, n);
+        return masked_views_equal(pair, rows);
     }
-    let oa = offset(a, an);
-    let ob = offset(b, bn);
+    let oa = pair.left.offset();
+    let ob = pair.right.offset();
     let mut k: usize = 0;
     while k < n {
-        let run = valid_rows(a, an, s + k, n - k);
+        let run = valid_rows(pair.left, rows.left + k, n - k);
         if run == 0 {
             k += 1;
         } else {
-            if !equal_values(a, an, b, bn, oa + (s + k), ob + (t + k), run, depth) {
+            let elements = Rows {
+                left: oa + (rows.left + k),
+                right: ob + (rows.right + k),
+                count: run,
+            };
+            if !equal_values(pair, elements, depth) {
                 return false;
             }
             k += run;
@@ -102,62 +91,53 @@ fn equal_valid(
     true
 }
 
-// Row s of one node and row t of another are equal, where l is what was read of the nodes.
-#[cycle(equal_long_equal_equal_range_equal_row_equal_valid_equal_values_equal_equal_equal_equal_equal_block_dense_sparse)]
-fn equal_row(
-    a: &[u8],
-    an: u32,
-    b: &[u8],
-    bn: u32,
-    l: Leaves,
-    s: usize,
-    t: usize,
-    depth: usize,
-) -> bool
-    requires sides { Sides a.now b.now an bn s t 1 depth }
-    requires leaves_at { LeavesAt a.now b.now an bn l }
-    ensures { result ≡ range_equal (row_at depth a.now an) (row_at depth b.now bn) s t 1 }
+// Row s of one node and row t of another are equal, by what was read of the nodes if there is such.
+#[cycle(rows)]
+fn equal_row(pair: Pair, leaves: Option<Leaves>, s: usize, t: usize, depth: usize) -> bool
+    requires sides { SidesOf pair (one_row s t) depth }
+    requires leaves { LeavesOf pair leaves }
+    ensures { result ≡ equal_rows (row_at depth) pair.entry (one_row s t) }
 {
     if 0 < depth {
-        if l.fixed | l.texts {
-            return leaf_equal(a, an, b, bn, l, s, t, depth - 1);
+        if let Some(read) = leaves {
+            return leaf_equal(pair, read, s, t, depth - 1);
         }
     }
-    equal_range(a, an, b, bn, s, t, 1, depth)
+    let row = Rows {
+        left: s,
+        right: t,
+        count: 1,
+    };
+    equal_range(pair, row, depth)
 }
 
-// The rows of two nodes from s and from t on are equal, n of them.
-#[cycle(equal_long_equal_equal_range_equal_row_equal_valid_equal_values_equal_equal_equal_equal_equal_block_dense_sparse)]
-pub fn equal_range(
-    a: &[u8],
-    an: u32,
-    b: &[u8],
-    bn: u32,
-    s: usize,
-    t: usize,
-    n: usize,
-    depth: usize,
-) -> bool
-    requires { Sides a.now b.now an bn s t n depth }
-    ensures { result ≡ range_equal (row_at depth a.now an) (row_at depth b.now bn) s t n }
+// Two ranges of rows are equal.
+#[cycle(rows)]
+pub fn equal_range(pair: Pair, rows: Rows, depth: usize) -> bool
+    requires { SidesOf pair rows depth }
+    ensures { result ≡ equal_rows (row_at depth) pair.entry rows }
 {
     if depth == 0 {
         return true;
     }
-    if !equal_nulls(a, an, b, bn, s, t, n) {
+    if !equal_nulls(pair, rows) {
         return false;
     }
-    if contains_nulls(a, an, s, n) {
-        return equal_valid(a, an, b, bn, s, t, n, depth - 1);
+    if contains_nulls(pair.left, rows.left, rows.count) {
+        return equal_valid(pair, rows, depth - 1);
     }
-    equal_values(
-        a,
-        an,
-        b,
-        bn,
-        offset(a, an) + s,
-        offset(b, bn) + t,
-        n,
-        depth - 1,
-    )
+    let elements = Rows {
+        left: pair.left.offset() + rows.left,
+        right: pair.right.offset() + rows.right,
+        count: rows.count,
+    };
+    equal_values(pair, elements, depth - 1)
+}
+
+// Two ranges of rows of two tables are equal.
+pub fn rows_equal(a: &[u8], b: &[u8], rows: Rows) -> bool
+    requires { Sides a.now b.now 0 0 rows.left rows.right rows.count max_depth }
+    ensures { result ≡ range_equal (row_at max_depth a.now 0) (row_at max_depth b.now 0) rows.left rows.right rows.count }
+{
+    equal_range(Pair::roots(a, b), rows, MAX_DEPTH)
 }

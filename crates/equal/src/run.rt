@@ -1,60 +1,50 @@
 // Run-end encoded rows. Translated from src/equal/run.rs of arrow-data 60.1.0 (Apache-2.0).
-ghost use Rattle.std.specs.Prelude.{◌≡◌, min};
+ghost use Rattle.std.specs.Prelude.{◌≡◌};
 ghost use Rattle.image.specs.declared.type_code.Layout.TheVariants.{Runs};
-ghost use Rattle.image.specs.Record.{code_of};
-ghost use Rattle.image.specs.TypeCode.{layout_of};
-ghost use Rattle.image.specs.Row.{run_row, row_at};
-ghost use Rattle.values.specs.Pairs.{range_equal};
-ghost use Rattle.values.specs.Parts.{Parts};
+ghost use Rattle.image.specs.Row.{run_row};
+ghost use Rattle.values.specs.Pair.{equal_rows, nested, PartsIn};
 
 use crate::{equal_range, equal_row};
-use accepted::runs::{least, next_run, run_of};
-use image::element::{ends_of, run_end};
-use image::record::first_child;
+use accepted::runs::{next_run, run_of};
 use values::leaf::leaves_of;
+use values::pair::{Pair, Rows};
 use values::runs::same_runs;
 
 // Runs: where the runs of both sides end together, their values as one range; else the values of overlapping runs, stepping
 // over the shorter of the two; the stepping ends as soon as one pair differs.
-#[cycle(equal_long_equal_equal_range_equal_row_equal_valid_equal_values_equal_equal_equal_equal_equal_block_dense_sparse)]
-pub fn equal(
-    a: &[u8],
-    an: u32,
-    b: &[u8],
-    bn: u32,
-    s: usize,
-    t: usize,
-    n: usize,
-    depth: usize,
-) -> bool
-    requires parts { Parts a.now b.now an bn s t n depth }
-    requires an_value { layout_of (code_of a.now an) ≡ Runs }
-    ensures { result ≡ range_equal (run_row (row_at depth a.now) a.now an) (run_row (row_at depth b.now) b.now bn) s t n }
+#[cycle(rows)]
+pub fn equal(pair: Pair, rows: Rows, depth: usize) -> bool
+    requires { PartsIn Runs pair rows depth }
+    ensures { result ≡ equal_rows (nested run_row depth) pair.entry rows }
 {
-    let va = first_child(a, an) + 1;
-    let vb = first_child(b, bn) + 1;
+    let (s, t, n) = (rows.left, rows.right, rows.count);
+    let values = pair.child(1);
     let mut equal = true;
     let mut k: usize = 0;
     if n == 0 {
         return true;
     }
-    let mut i = run_of(a, an, s);
-    let mut j = run_of(b, bn, t);
-    let runs = same_runs(a, an, b, bn, s, t, n, i, j);
-    if runs > 0 {
-        return equal_range(a, va, b, vb, i, j, runs, depth);
+    let mut i = run_of(pair.left, s);
+    let mut j = run_of(pair.right, t);
+    if let Some(runs) = same_runs(pair, rows, i, j) {
+        let whole = Rows {
+            left: i,
+            right: j,
+            count: runs,
+        };
+        return equal_range(values, whole, depth);
     }
-    let leaves = leaves_of(a, va, b, vb);
-    let ea = ends_of(a, an);
-    let eb = ends_of(b, bn);
+    let leaves = leaves_of(values);
+    let left = pair.left.ends();
+    let right = pair.right.ends();
     'runs: while k < n {
-        if !equal_row(a, va, b, vb, leaves, i, j, depth) {
+        if !equal_row(values, leaves, i, j, depth) {
             equal = false;
             break 'runs;
         }
-        let x = run_end(a, an, ea, i);
-        let y = run_end(b, bn, eb, j);
-        let step = least(least(x - (s + k), y - (t + k)), n - k);
+        let x = left.at(i);
+        let y = right.at(j);
+        let step = (x - (s + k)).min(y - (t + k)).min(n - k);
         k += step;
         let last = k - 1;
         i = next_run(s + last, i, x);

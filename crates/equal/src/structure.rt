@@ -1,40 +1,25 @@
 // Structs. Translated from src/equal/structure.rs of arrow-data 60.1.0 (Apache-2.0).
-ghost use Rattle.std.specs.Prelude.{◌≡◌, ◌⊎◌, ◌+◌, ◌<◌};
+ghost use Rattle.std.specs.Prelude.{◌≡◌, ◌⊎◌};
 ghost use Rattle.image.specs.declared.type_code.Layout.TheVariants.{Struct, SparseUnion};
 ghost use Rattle.image.specs.Record.{code_of};
 ghost use Rattle.image.specs.TypeCode.{layout_of};
-ghost use Rattle.image.specs.Row.{struct_row, row_at};
-ghost use Rattle.values.specs.Pairs.{range_equal};
-ghost use Rattle.values.specs.Parts.{Parts};
+ghost use Rattle.image.specs.Row.{struct_row};
+ghost use Rattle.values.specs.Pair.{equal_rows, nested, PartsOf};
 
 use crate::equal_range;
-use image::record::{child_count, first_child};
+use values::pair::{Pair, Rows};
 
 // Structs without nulls: child by child over the whole range.
-#[cycle(equal_long_equal_equal_range_equal_row_equal_valid_equal_values_equal_equal_equal_equal_equal_block_dense_sparse)]
-pub fn equal(
-    a: &[u8],
-    an: u32,
-    b: &[u8],
-    bn: u32,
-    s: usize,
-    t: usize,
-    n: usize,
-    depth: usize,
-) -> bool
-    requires parts { Parts a.now b.now an bn s t n depth }
-    requires fact { (layout_of (code_of a.now an) ≡ Struct) ⊎ (layout_of (code_of a.now an) ≡ SparseUnion) }
-    ensures { result ≡ range_equal (struct_row (row_at depth a.now) a.now an) (struct_row (row_at depth b.now) b.now bn) s t n }
+#[cycle(rows)]
+pub fn equal(pair: Pair, rows: Rows, depth: usize) -> bool
+    requires parts { PartsOf pair rows depth }
+    requires fact { (layout_of (code_of pair.left.image.now pair.left.number) ≡ Struct) ⊎ (layout_of (code_of pair.left.image.now pair.left.number) ≡ SparseUnion) }
+    ensures { result ≡ equal_rows (nested struct_row depth) pair.entry rows }
 {
-    let count = child_count(a, an);
-    let ca = first_child(a, an);
-    let cb = first_child(b, bn);
-    let mut k: u32 = 0;
-    while k < count {
-        if !equal_range(a, ca + k, b, cb + k, s, t, n, depth) {
+    for c in 0..pair.left.child_count() {
+        if !equal_range(pair.child(c), rows, depth) {
             return false;
         }
-        k += 1;
     }
     true
 }

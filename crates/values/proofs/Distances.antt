@@ -13,12 +13,11 @@ use borrow.Author.Tests.{eqb-true, eq-eqb}
 use Rattle.image.specs.Bytes.{number_at}
 use Rattle.image.specs.Record.{buffer_place}
 use Rattle.image.specs.Element.{element_width, element_place, element_at}
-use Rattle.image.specs.Reads.{Read, is_width, Packed}
+use Rattle.image.specs.Reads.{Read}
 use Rattle.image.proofs.Bools.{tests_same}
 use Rattle.values.specs.Pairs.{all, same_span, span_at, same_distance}
 use Rattle.values.specs.Parts.{Spans, Above}
 use Rattle.values.proofs.Steps.{all_by, all_snoc}
-use Rattle.values.proofs.Spans.{read_element}
 use Rattle.values.proofs.Blocks.{Rise, rise_far, equal_spans, all_at}
 
 -- some of them
@@ -30,16 +29,19 @@ above_part s p w x i n h m le r =
 pub above_ahead : {s : List ℕ} {p w x i n h m : ℕ} → Above s p w x i n → h ≤ n → m ≤ n - h → Above s p w x (i + h) m
 above_ahead r le rest = above_part _ _ _ _ _ _ _ _ (omega arith) r
 
-is_width_lem : (w : ℕ) → (w ≡ 4) ⊎ (w ≡ 8) → is_width w ≡ true
-unfolding is_width
-is_width_lem w (inl e) = rw e
-is_width_lem w (inr e) = rw e
+pub above_narrow : {s : List ℕ} {p w x i n : ℕ} → Above s p w x i n → w ≤ 8
+above_narrow {w = w} r = cases r.whole
+  where
+    cases : (w ≡ 4) ⊎ (w ≡ 8) → w ≤ 8
+    cases (inl e) = omega arith
+    cases (inr e) = omega arith
 
--- number i + h of them, as it is read
-pub above_packed : {s : List ℕ} {p w x i n : ℕ} (h : ℕ) → Above s p w x i n → h < n → Packed (length s) p w (i + h + 1)
-above_packed {s} {p} {w} {x} {i} {n} h r lt =
+-- number i + h of them lies inside
+pub above_room : {s : List ℕ} {p w x i n : ℕ} (h : ℕ) → Above s p w x i n → h < n → p + (i + h) * w + w ≤ length s
+above_room {s} {p} {w} {x} {i} {n} h r lt =
     let more : (i + h + 1) * w ≤ (i + n) * w = mul-le-mul_right w (omega arith) in
-    record { width = is_width_lem w r.whole; inside = omega (arith, r.inside) }
+    let next : (i + h + 1) * w ≡ (i + h) * w + 1 * w = add-mul (i + h) 1 w in
+    omega (arith, r.inside)
 
 pub above_read : {s : List ℕ} {p w x i n bits u : ℕ} (h : ℕ) → Above s p w x i n → h < n → Read (number_at w s (p + (i + h) * w)) bits u → x ≤ u
 above_read {s} {p} {w} {x} {i} {n} h r lt e = omega (arith, e.value, r.above (i + h) (omega arith) (omega arith))
@@ -90,15 +92,10 @@ pub record Firsts (a b : List ℕ) (k l i j w p q x y : ℕ) : Type 0 where
   pub left_first : x ≡ element_at a k i
   pub right_first : y ≡ element_at b l j
 
-pub firsts_read : {a b : List ℕ} {k l i j n : ℕ} → Spans a b k l i j n → {w p q x y m h : ℕ} → w ≡ element_width a k → Read (buffer_place a k 0) m p → Read (buffer_place b l 0) h q
-    → Read (number_at w a (p + i * w)) (8 * w) x → Read (number_at w b (q + j * w)) (8 * w) y → Firsts a b k l i j w p q x y
-firsts_read r ew ep eq ex ey = record {
-  width = ew;
-  left = ep.value;
-  right = eq.value;
-  left_first = read_element _ _ _ _ _ ex ew ep.value;
-  right_first = read_element _ _ _ _ _ ey (ew ∙ r.same) eq.value;
-}
+-- offsets that have not 4 bytes have 8
+pub else_wide : {v w : ℕ} → (w ≡ 4) ⊎ (w ≡ 8) → v ≡ w → (v ≡ 4 → ⊥) → 8 ≡ w
+else_wide (inl e) f ne = absurd (ne (f ∙ e))
+else_wide (inr e) f ne = sym e
 
 module _ {a b : List ℕ} {k l i j n : ℕ} (r : Spans a b k l i j n) {w p q x y : ℕ} (f : Firsts a b k l i j w p q x y) where
   left_number : (h : ℕ) → number_at w a (p + h * w) ≡ element_at a k h

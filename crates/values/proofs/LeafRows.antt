@@ -1,7 +1,7 @@
 -- Rows of two nodes without bitmaps, one pair at a time: where their elements and texts stand, and when they are equal.
 -- A row of such a node is its value, and acceptance has it inside the image.
 use mathlib.Core.Path.{◌≡◌, refl, sym, ap, ap₂, ◌∙◌}
-use mathlib.Core.Bool.{true, false, ◌||◌, false≢true}
+use mathlib.Core.Bool.{true, false}
 use mathlib.Core.List.{List}
 use Prim.Native.Nat.{ℕ, suc, ◌+◌, ◌*◌, ◌-◌, ◌≤◌}
 use native.Mathlib.Omega.{arith}
@@ -17,10 +17,10 @@ use Rattle.image.specs.Types.{same_bytes}
 use Rattle.image.specs.Row.{fixed, sized, range, row_at, value_at, fixed_row, variable_row}
 use Rattle.image.specs.Equality.{row_equal}
 use Rattle.image.specs.Reads.{Read, Nth}
-use Rattle.values.specs.declared.leaf.Leaves.{Leaves}
+use Rattle.values.specs.declared.leaf.Columns.{Columns}
 use Rattle.values.specs.Pairs.{range_equal}
 use Rattle.accepted.specs.Parts.{Side, Part, Elements}
-use Rattle.values.specs.Parts.{Sides, Leaf, LeavesAt}
+use Rattle.values.specs.Parts.{Sides, Leaf, LeafPair, TextPair}
 use Rattle.accepted.proofs.Fixed.{spanned}
 use Rattle.accepted.proofs.Nodes.{side_small}
 use Rattle.image.proofs.NameBytes.{other_length}
@@ -61,42 +61,6 @@ module _ {s : List ℕ} {k : ℕ} (r : Side s k 0 0) where
 pub first_read : (s : List ℕ) (k : ℕ) {w p o : ℕ} → w ≡ element_width s k → Read (buffer_place s k 0) 32 p → Read (offset_of s k) 32 o → p + o * w ≡ element_place s k (offset_of s k)
 unfolding element_place
 first_read s k ew ep eo = rw (ew, ep.value, eo.value)
-
--- no layout is said
-pub no_leaves : (a b : List ℕ) (k l : ℕ) (v : Leaves) → v.fixed ≡ false → v.texts ≡ false → LeavesAt a b k l v
-no_leaves a b k l v f t = record {
-  fixed = λ e. absurd (false≢true (sym f ∙ e));
-  texts = λ e. absurd (false≢true (sym t ∙ e));
-  left = λ e. absurd (false≢true (sym neither ∙ e));
-  right = λ e. absurd (false≢true (sym neither ∙ e));
-  left_text = λ e. absurd (false≢true (sym t ∙ e));
-  right_text = λ e. absurd (false≢true (sym t ∙ e));
-}
-  where
-    neither : v.fixed || v.texts ≡ false
-    neither = rw (f, t)
-
--- the layout of two nodes is said
-module _ {a b : List ℕ} {k l : ℕ} {v : Leaves} (left : Leaf a k v.width v.left) (right : Leaf b l v.width v.right) where
-  pub fixed_leaves : v.texts ≡ false → layout_of (code_of a k) ≡ FixedWidth → LeavesAt a b k l v
-  fixed_leaves other e = record {
-    fixed = λ is. e;
-    texts = λ is. absurd (false≢true (sym other ∙ is));
-    left = λ is. left;
-    right = λ is. right;
-    left_text = λ is. absurd (false≢true (sym other ∙ is));
-    right_text = λ is. absurd (false≢true (sym other ∙ is));
-  }
-
-  pub text_leaves : v.fixed ≡ false → layout_of (code_of a k) ≡ VariableSize → v.left_text ≡ buffer_place a k 1 → v.right_text ≡ buffer_place b l 1 → LeavesAt a b k l v
-  text_leaves other e t u = record {
-    fixed = λ is. absurd (false≢true (sym other ∙ is));
-    texts = λ is. e;
-    left = λ is. left;
-    right = λ is. right;
-    left_text = λ is. t;
-    right_text = λ is. u;
-  }
 
 -- nodes of one code, as it is read, have one layout
 pub other_layout : {x y c d : ℕ} {z : Layout} → Read x 8 c → Read y 8 d → c ≡ d → layout_of x ≡ z → layout_of y ≡ z
@@ -171,61 +135,50 @@ module _ {s : List ℕ} {k i w p : ℕ} (r : Side s k i 1) (f : Leaf s k w p) wh
           inside = omega (arith, rw v at (text_inside _ _ _ _ part text));
         }
 
--- two rows of which it was read that their layout is fixed-width, or variable-size
-module _ {a b : List ℕ} {k l i j d : ℕ} {v : Leaves} (r : Sides a b k l i j 1 (suc d)) (y : LeavesAt a b k l v) where
-  right_layout : {x : Layout} → layout_of (code_of a k) ≡ x → layout_of (code_of b l) ≡ x
-  right_layout e = sym (ap layout_of r.alike.0.code) ∙ e
+-- two rows of nodes taken apart: one pair of rows is one pair of values
+module _ {x : Layout} {a b : List ℕ} {k l i j d : ℕ} {v : Columns} (r : Sides a b k l i j 1 (suc d)) (y : LeafPair x a b k l v) where
+  right_layout : layout_of (code_of b l) ≡ x
+  right_layout = sym (ap layout_of r.alike.0.code) ∙ y.layout
 
-  -- one pair of rows is one pair of values
-  values : {x : Layout} → v.fixed || v.texts ≡ true → layout_of (code_of a k) ≡ x
-      → row_equal (value_at x (row_at d a) a k (offset_of a k + i)) (value_at x (row_at d b) b l (offset_of b l + j)) ≡ range_equal (row_at (suc d) a k) (row_at (suc d) b l) i j 1
+  values : row_equal (value_at x (row_at d a) a k (offset_of a k + i)) (value_at x (row_at d b) b l (offset_of b l + j)) ≡ range_equal (row_at (suc d) a k) (row_at (suc d) b l) i j 1
   unfolding range row_equal
-  values either e = rw (← leaf_row (y.left either) d i e, ← leaf_row (y.right either) d j (right_layout e)) (sym (and_true _))
+  values = rw (← leaf_row y.left d i y.layout, ← leaf_row y.right d j right_layout) (sym (and_true _))
 
-  -- fixed-width: the bytes of both rows lie inside, and they are the rows
-  module _ (e : v.fixed ≡ true) where
-    one_layout : v.fixed || v.texts ≡ true
-    one_layout = rw e
+-- fixed-width: the bytes of both rows lie inside, and they are the rows
+module _ {a b : List ℕ} {k l i j d : ℕ} {v : Columns} (r : Sides a b k l i j 1 (suc d)) (y : LeafPair FixedWidth a b k l v) where
+  pub fixed_left : v.left + i * v.width + v.width ≤ length a
+  fixed_left = fixed_inside r.left y.left y.layout
 
-    pub fixed_left : v.left + i * v.width + v.width ≤ length a
-    fixed_left = fixed_inside r.left (y.left one_layout) (y.fixed e)
+  pub fixed_right : v.right + j * v.width + v.width ≤ length b
+  fixed_right = fixed_inside r.right y.right (right_layout r y)
 
-    pub fixed_right : v.right + j * v.width + v.width ≤ length b
-    fixed_right = fixed_inside r.right (y.right one_layout) (right_layout (y.fixed e))
+  pub fixed_rows : same_bytes (bytes_at a (v.left + i * v.width) v.width) (bytes_at b (v.right + j * v.width) v.width) ≡ range_equal (row_at (suc d) a k) (row_at (suc d) b l) i j 1
+  unfolding row_equal
+  fixed_rows = ap₂ row_equal (sym (leaf_fixed y.left i)) (sym (leaf_fixed y.right j)) ∙ values r y
 
-    pub fixed_rows : same_bytes (bytes_at a (v.left + i * v.width) v.width) (bytes_at b (v.right + j * v.width) v.width)
-        ≡ range_equal (row_at (suc d) a k) (row_at (suc d) b l) i j 1
+-- variable-size: the offsets of both rows, and the texts between them
+module _ {a b : List ℕ} {k l i j d t u : ℕ} {v : Columns} (r : Sides a b k l i j 1 (suc d)) (y : TextPair a b k l v t u) where
+  pub left_nth : (h : ℕ) → h ≤ i + 1 → Nth v.left v.width h
+  left_nth = text_nth r.left y.offsets.left y.offsets.layout
+
+  pub right_nth : (h : ℕ) → h ≤ j + 1 → Nth v.right v.width h
+  right_nth = text_nth r.right y.offsets.right (right_layout r y.offsets)
+
+  pub left_read : {m n x z : ℕ} → Read (number_at v.width a (v.left + i * v.width)) m x → Read (number_at v.width a (v.left + (i + 1) * v.width)) n z → TextRead a k (offset_of a k + i) t x z
+  left_read = text_read r.left y.offsets.left y.offsets.layout y.left
+
+  pub right_read : {m n x z : ℕ} → Read (number_at v.width b (v.right + j * v.width)) m x → Read (number_at v.width b (v.right + (j + 1) * v.width)) n z → TextRead b l (offset_of b l + j) u x z
+  right_read = text_read r.right y.offsets.right (right_layout r y.offsets) y.right
+
+  module _ {x z p q : ℕ} (f : TextRead a k (offset_of a k + i) t x z) (g : TextRead b l (offset_of b l + j) u p q) where
+    pub text_rows_lem : same_bytes (bytes_at a (t + x) (z - x)) (bytes_at b (u + p) (q - p)) ≡ range_equal (row_at (suc d) a k) (row_at (suc d) b l) i j 1
     unfolding row_equal
-    fixed_rows = ap₂ row_equal (sym (leaf_fixed (y.left one_layout) i)) (sym (leaf_fixed (y.right one_layout) j)) ∙ values one_layout (y.fixed e)
+    text_rows_lem = ap₂ row_equal (sym (text_value_lem f)) (sym (text_value_lem g)) ∙ values r y.offsets
 
-  -- variable-size: the offsets of both rows, and the texts between them
-  module _ (either : v.fixed || v.texts ≡ true) (other : v.fixed ≡ false) where
-    texts : v.texts ≡ true
-    texts = rw other at either
+    -- texts of two lengths
+    pub text_differs : (q - p ≡ z - x → ⊥) → false ≡ range_equal (row_at (suc d) a k) (row_at (suc d) b l) i j 1
+    text_differs ne = sym (other_length a b _ _ _ _ (λ e. ne (sym e))) ∙ text_rows_lem
 
-    pub left_nth : (h : ℕ) → h ≤ i + 1 → Nth v.left v.width h
-    left_nth = text_nth r.left (y.left either) (y.texts texts)
-
-    pub right_nth : (h : ℕ) → h ≤ j + 1 → Nth v.right v.width h
-    right_nth = text_nth r.right (y.right either) (right_layout (y.texts texts))
-
-    pub left_read : {m n x z : ℕ} → Read (number_at v.width a (v.left + i * v.width)) m x → Read (number_at v.width a (v.left + (i + 1) * v.width)) n z
-        → TextRead a k (offset_of a k + i) v.left_text x z
-    left_read = text_read r.left (y.left either) (y.texts texts) (y.left_text texts)
-
-    pub right_read : {m n x z : ℕ} → Read (number_at v.width b (v.right + j * v.width)) m x → Read (number_at v.width b (v.right + (j + 1) * v.width)) n z
-        → TextRead b l (offset_of b l + j) v.right_text x z
-    right_read = text_read r.right (y.right either) (right_layout (y.texts texts)) (y.right_text texts)
-
-    module _ {x z p q : ℕ} (f : TextRead a k (offset_of a k + i) v.left_text x z) (g : TextRead b l (offset_of b l + j) v.right_text p q) where
-      text_rows_lem : same_bytes (bytes_at a (v.left_text + x) (z - x)) (bytes_at b (v.right_text + p) (q - p)) ≡ range_equal (row_at (suc d) a k) (row_at (suc d) b l) i j 1
-      unfolding row_equal
-      text_rows_lem = ap₂ row_equal (sym (text_value_lem f)) (sym (text_value_lem g)) ∙ values either (y.texts texts)
-
-      -- texts of two lengths
-      pub text_differs : (z - x ≡ q - p → ⊥) → false ≡ range_equal (row_at (suc d) a k) (row_at (suc d) b l) i j 1
-      text_differs ne = sym (other_length a b _ _ _ _ ne) ∙ text_rows_lem
-
-      -- texts of one length
-      pub text_same : z - x ≡ q - p → same_bytes (bytes_at a (v.left_text + x) (z - x)) (bytes_at b (v.right_text + p) (z - x)) ≡ range_equal (row_at (suc d) a k) (row_at (suc d) b l) i j 1
-      text_same e = ap (λ (n : ℕ). same_bytes (bytes_at a (v.left_text + x) (z - x)) (bytes_at b (v.right_text + p) n)) e ∙ text_rows_lem
+    -- texts of one length
+    pub text_same : q - p ≡ z - x → same_bytes (bytes_at a (t + x) (z - x)) (bytes_at b (u + p) (z - x)) ≡ range_equal (row_at (suc d) a k) (row_at (suc d) b l) i j 1
+    text_same e = ap (λ (n : ℕ). same_bytes (bytes_at a (t + x) (z - x)) (bytes_at b (u + p) n)) (sym e) ∙ text_rows_lem

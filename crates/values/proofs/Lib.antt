@@ -9,6 +9,7 @@ pub mod MaskedRows
 pub mod Masks
 pub mod Octets
 pub mod SameRuns
+pub mod Slices
 pub mod Spans
 pub mod Steps
 pub mod Texts

@@ -7,15 +7,18 @@ use Prim.Native.Nat.{ℕ, ◌+◌, ◌^◌, ◌<◌, ◌≤◌}
 use native.Mathlib.Omega.{arith}
 use lib.Dec.{eqb}
 use Rattle.image.specs.Bytes.{bit_at}
-use Rattle.image.specs.Reads.{Read}
 use Rattle.image.specs.Record.{has_bitmap, bitmap_place, first_bit, buffer_place, elements_of}
 use Rattle.image.specs.Element.{valid}
 use Rattle.image.specs.Types.{same_bytes}
 use Rattle.image.specs.Row.{boolean_row}
 use Rattle.image.specs.Equality.{row_equal}
-use Rattle.values.specs.Bits.{Leading}
+use Rattle.image.specs.declared.record.Node.{Node}
+use Rattle.values.specs.declared.bits.Bits.{Bits}
+use Rattle.values.specs.declared.pair.Pair.{Pair}
+use Rattle.values.specs.declared.pair.Rows.{Rows}
+use Rattle.values.specs.Bits.{bits_at, Leading}
 use Rattle.values.specs.Pairs.{first_unequal, same_row, same_bit, same_mask}
-use Rattle.values.specs.Parts.{Parts}
+use Rattle.values.specs.Pair.{BitsOf, MaskWord, first_null, first_unequal_in, PartsOf}
 use Rattle.values.proofs.Steps.{all_by}
 use Rattle.values.proofs.FirstUnequal.{unequal_none, unequal_moved, leading_first}
 use Rattle.values.proofs.Leads.{leading_moved, leading_every}
@@ -31,16 +34,22 @@ valid_bit_lem s k e i h =
     let x : first_bit s k + (i + h) ≡ first_bit s k + i + h = omega arith in
     rw (e, x)
 
--- How many rows are not null up to the first that is.
-module _ (s : List ℕ) (k i n : ℕ) {has : Bool} (e : has ≡ has_bitmap s k) where
-  pub rows_none : has ≡ false → Leading (valid s k) i n n
-  rows_none f = leading_every (valid s k) i n (valid_none s k (sym e ∙ f))
+-- row i + h reads bit h of the bits from row i on
+read_bit : (v : Node) (i h : ℕ) {x : Bits} → BitsOf v i x → bit_at x.bytes.now x.place (x.first + h) ≡ valid v.image.now v.number (i + h)
+read_bit v i h b = rw (b.bytes, b.start, b.row) (sym (valid_bit_lem v.image.now v.number b.is_there i h))
 
-  pub rows_bits : has ≡ true → {place first r : ℕ} → Read (bitmap_place s k) 32 place → Read (first_bit s k) 32 first
-      → Leading (bit_at s place) (first + i) n r → Leading (valid s k) i n r
-  rows_bits f {place} {first} {r} p q l =
-      leading_moved (bit_at s place) (first + i) n r (valid s k) i
-      (λ h. sym (valid_bit_lem s k (sym e ∙ f) i h ∙ ap₂ (λ (x y : ℕ). bit_at s x (y + i + h)) (sym p.value) (sym q.value))) l
+-- 64 of them from bit k on
+pub mask_word : (v : Node) (i k : ℕ) {x : Bits} {w : ℕ} → BitsOf v i x → w ≡ bits_at x.bytes.now x.place (x.first + k) 64 → MaskWord v (i + k) w
+mask_word v i k {x} b e =
+    let at : first_bit v.image.now v.number + (i + k) ≡ x.first + k = omega (arith, b.row) in
+    record { is_there = b.is_there; word = e ∙ rw (b.bytes, b.start, at) }
+
+-- How many rows are not null up to the first that is.
+pub rows_none : (v : Node) (i n : ℕ) → has_bitmap v.image.now v.number ≡ false → Leading (valid v.image.now v.number) i n n
+rows_none v i n e = leading_every (valid v.image.now v.number) i n (valid_none v.image.now v.number e)
+
+pub rows_bits : (v : Node) (i n : ℕ) {x : Bits} {r : ℕ} → BitsOf v i x → Leading (bit_at x.bytes.now x.place) x.first n r → Leading (valid v.image.now v.number) i n r
+rows_bits v i n {x} {r} b l = leading_moved (bit_at x.bytes.now x.place) x.first n r (valid v.image.now v.number) i (λ h. read_bit v i h b) l
 
 true_beq : (x : Bool) → x ≡ beq true x
 true_beq true = refl
@@ -51,48 +60,47 @@ beq_true true = refl
 beq_true false = refl
 
 -- The first row of two ranges that is null on one side alone.
-module _ (a : List ℕ) (k : ℕ) (b : List ℕ) (l i j n : ℕ) {has hbs : Bool} (ea : has ≡ has_bitmap a k) (eb : hbs ≡ has_bitmap b l) where
-  mask : (h m : ℕ) {x y : Bool} → valid a k h ≡ x → valid b l m ≡ y → beq x y ≡ same_mask a k b l h m
+module _ (p : Pair) (r : Rows) where
+  mask : (h m : ℕ) {x y : Bool} → valid p.left.image.now p.left.number h ≡ x → valid p.right.image.now p.right.number m ≡ y
+      → beq x y ≡ same_mask p.left.image.now p.left.number p.right.image.now p.right.number h m
   unfolding same_mask
   mask h m e f = sym (ap₂ beq e f)
 
-  pub masks_none : has ≡ false → hbs ≡ false → n ≡ first_unequal (same_mask a k b l) i j n
-  masks_none e f =
-      unequal_none (same_mask a k b l) i j n
-      (all_by (same_mask a k b l) i j n (λ h lt. sym (mask (i + h) (j + h) (valid_none a k (sym ea ∙ e) (i + h)) (valid_none b l (sym eb ∙ f) (j + h)))))
+  left_none : has_bitmap p.left.image.now p.left.number ≡ false → (h : ℕ) → valid p.left.image.now p.left.number h ≡ true
+  left_none e = valid_none _ _ e
 
-  pub masks_right : has ≡ false → hbs ≡ true → {place first r : ℕ} → Read (bitmap_place b l) 32 place → Read (first_bit b l) 32 first
-      → Leading (bit_at b place) (first + j) n r → r ≡ first_unequal (same_mask a k b l) i j n
-  masks_right e f p q g =
-      leading_first (same_mask a k b l) (valid b l) i j j n
-      (λ h. true_beq _ ∙ mask (i + h) (j + h) (valid_none a k (sym ea ∙ e) (i + h)) refl) (rows_bits b l j n eb f p q g)
+  right_none : has_bitmap p.right.image.now p.right.number ≡ false → (h : ℕ) → valid p.right.image.now p.right.number h ≡ true
+  right_none e = valid_none _ _ e
 
-  pub masks_left : has ≡ true → hbs ≡ false → {place first r : ℕ} → Read (bitmap_place a k) 32 place → Read (first_bit a k) 32 first
-      → Leading (bit_at a place) (first + i) n r → r ≡ first_unequal (same_mask a k b l) i j n
-  masks_left e f p q g =
-      leading_first (same_mask a k b l) (valid a k) i j i n
-      (λ h. beq_true _ ∙ mask (i + h) (j + h) refl (valid_none b l (sym eb ∙ f) (j + h))) (rows_bits a k i n ea e p q g)
+  pub masks_none : has_bitmap p.left.image.now p.left.number ≡ false → has_bitmap p.right.image.now p.right.number ≡ false → r.count ≡ first_null p r
+  masks_none e f = unequal_none _ r.left r.right r.count (all_by _ r.left r.right r.count (λ h lt. sym (mask (r.left + h) (r.right + h) (left_none e (r.left + h)) (right_none f (r.right + h)))))
 
-  bits : (p q h m : ℕ) → same_bit a p b q h m ≡ beq (bit_at a p h) (bit_at b q m)
+  pub masks_right : {y : Bits} {m : ℕ} → has_bitmap p.left.image.now p.left.number ≡ false → BitsOf p.right r.right y → Leading (bit_at y.bytes.now y.place) y.first r.count m → m ≡ first_null p r
+  masks_right e b l =
+      leading_first _ (valid p.right.image.now p.right.number) r.left r.right r.right r.count
+      (λ h. true_beq _ ∙ mask (r.left + h) (r.right + h) (left_none e (r.left + h)) refl) (rows_bits p.right r.right r.count b l)
+
+  pub masks_left : {x : Bits} {m : ℕ} → BitsOf p.left r.left x → has_bitmap p.right.image.now p.right.number ≡ false → Leading (bit_at x.bytes.now x.place) x.first r.count m → m ≡ first_null p r
+  masks_left b f l =
+      leading_first _ (valid p.left.image.now p.left.number) r.left r.right r.left r.count
+      (λ h. beq_true _ ∙ mask (r.left + h) (r.right + h) refl (right_none f (r.right + h))) (rows_bits p.left r.left r.count b l)
+
+  bits : (x y : Bits) (h m : ℕ) → same_bit x.bytes.now x.place y.bytes.now y.place h m ≡ beq (bit_at x.bytes.now x.place h) (bit_at y.bytes.now y.place m)
   unfolding same_bit
-  bits p q h m = refl
+  bits x y h m = refl
 
-  pub masks_both : has ≡ true → hbs ≡ true → {pa fa pb fb : ℕ} → Read (bitmap_place a k) 32 pa → Read (first_bit a k) 32 fa
-      → Read (bitmap_place b l) 32 pb → Read (first_bit b l) 32 fb
-      → {r : ℕ} → r ≡ first_unequal (same_bit a pa b pb) (fa + i) (fb + j) n → r ≡ first_unequal (same_mask a k b l) i j n
-  masks_both e f {pa} {fa} {pb} {fb} ra sa rb sb g =
-      g ∙ ap₂ (λ (x y : ℕ). first_unequal (same_bit a x b pb) (y + i) (fb + j) n) ra.value sa.value
-      ∙ ap₂ (λ (x y : ℕ). first_unequal (same_bit a (bitmap_place a k) b x) (first_bit a k + i) (y + j) n) rb.value sb.value
-      ∙ unequal_moved (same_bit a (bitmap_place a k) b (bitmap_place b l)) (same_mask a k b l) (first_bit a k + i) (first_bit b l + j) i j n
-      (λ h lt. bits _ _ _ _ ∙ mask (i + h) (j + h) (valid_bit_lem a k (sym ea ∙ e) i h) (valid_bit_lem b l (sym eb ∙ f) j h))
+  pub masks_both : {x y : Bits} {m : ℕ} → BitsOf p.left r.left x → BitsOf p.right r.right y → m ≡ first_unequal_in x y r.count → m ≡ first_null p r
+  masks_both {x} {y} b d e =
+      e
+      ∙ unequal_moved (same_bit x.bytes.now x.place y.bytes.now y.place) (same_mask p.left.image.now p.left.number p.right.image.now p.right.number) x.first y.first r.left r.right r.count
+      (λ h lt. bits x y _ _ ∙ mask (r.left + h) (r.right + h) (sym (read_bit p.left r.left h b)) (sym (read_bit p.right r.right h d)))
 
 -- the bits of two ranges of elements are counted without overflow
-pub few_bits : {a b : List ℕ} {k l i j n depth : ℕ} → Parts a b k l i j n depth → {x y p q : ℕ} → Read x 32 p → Read y 32 q
-    → (p < 2 ^ 32) × (q < 2 ^ 32) × (i + n < 2 ^ 35) × (j + n < 2 ^ 35)
-few_bits {k} {l} parts rp rq =
-    let few : elements_of _ k ≤ 1073741824 = (parts.left.image.node k parts.left.node).buffers.small in
-    let few' : elements_of _ l ≤ 1073741824 = (parts.right.image.node l parts.right.node).buffers.small in
-    (rp.small, rq.small, omega (arith, parts.left.high), omega (arith, parts.right.high))
+pub few_bits : (p : Pair) {r : Rows} {depth : ℕ} → PartsOf p r depth → (r.left + r.count < 2 ^ 35) × (r.right + r.count < 2 ^ 35)
+few_bits p parts =
+    let few : elements_of _ p.left.number ≤ 1073741824 = (parts.left.image.node p.left.number parts.left.node).buffers.small in
+    let few' : elements_of _ p.right.number ≤ 1073741824 = (parts.right.image.node p.right.number parts.right.node).buffers.small in
+    (omega (arith, parts.left.high), omega (arith, parts.right.high))
 
 -- Boolean rows are the same where their bits are.
 boolean_bytes : (x y : Bool) → beq x y ≡ (eqb (cond x 1 0) (cond y 1 0) && true)

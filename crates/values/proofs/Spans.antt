@@ -3,9 +3,10 @@
 use mathlib.Core.Path.{◌≡◌, refl, ap, ap₂, ◌∙◌}
 use mathlib.Core.Bool.{true}
 use mathlib.Core.List.{List}
+use mathlib.Core.Logic.{◌⊎◌, inl, inr}
 use Prim.Native.Nat.{ℕ, zero, suc, ◌+◌, ◌*◌, ◌-◌, ◌<◌, ◌≤◌}
 use native.Mathlib.Omega.{arith}
-use native.Mathlib.Nat.{add-mul, mul-le-mul_right}
+use native.Mathlib.Nat.{add-mul, mul-le-mul_left, mul-le-mul_right}
 use lib.ListN.{length}
 use borrow.Author.Tests.{eqb-true, eq-eqb}
 use Rattle.image.specs.Bytes.{number_at, bytes_at}
@@ -32,6 +33,13 @@ module _ {a b : List ℕ} {k l i j n : ℕ} (r : Spans a b k l i j n) {w p q : �
   pub right_block : q + j * w + (n + 1) * w ≤ length b
   unfolding element_place
   right_block = rw (ew, eq, r.same) r.right_inside
+
+  pub few_bytes : (x : ℕ) → x * w ≤ x * 8
+  few_bytes x = mul-le-mul_left x (cases r.whole)
+    where
+      cases : (element_width a k ≡ 4) ⊎ (element_width a k ≡ 8) → w ≤ 8
+      cases (inl e) = omega (arith, ew, e)
+      cases (inr e) = omega (arith, ew, e)
 
   pub block_read : same_bytes (bytes_at a (p + i * w) ((n + 1) * w)) (bytes_at b (q + j * w) ((n + 1) * w))
       ≡ same_bytes (bytes_at a (element_place a k i) ((n + 1) * element_width a k)) (bytes_at b (element_place b l j) ((n + 1) * element_width a k))

@@ -7,21 +7,24 @@ use mathlib.Core.List.{List}
 use Prim.Native.Nat.{ℕ, suc, ◌+◌, ◌*◌, ◌-◌, ◌/◌, ◌%◌, ◌^◌, ◌<◌, ◌≤◌}
 use native.Mathlib.Omega.{arith}
 use native.Mathlib.Nat.{zero-add, add-mul, suc-mul, mul-le-mul_right}
-use lib.ListN.{length}
+use lib.ListN.{length, take, drop}
+use lib.Pointwise.{pointwise}
 use lib.Dec.{eqb}
 use Rattle.image.specs.declared.type_code.Layout.TheVariants.{FixedWidth}
-use Rattle.image.specs.Bytes.{byte_at}
+use Rattle.image.specs.Bytes.{byte_at, bytes_at}
 use Rattle.image.specs.Record.{code_of, offset_of, has_bitmap, bitmap_place, first_bit, buffer_place}
 use Rattle.image.specs.TypeCode.{layout_of}
 use Rattle.image.specs.Element.{valid, element_width, element_place}
 use Rattle.image.specs.Row.{masked, fixed_row}
 use Rattle.image.specs.Equality.{row_equal}
-use Rattle.values.specs.declared.primitive.Columns.{Columns}
+use borrow.Author.Tests.{eq-eqb, ne_eqb}
+use Rattle.values.specs.declared.leaf.Columns.{Columns}
 use Rattle.values.specs.Bits.{bits_at}
 use Rattle.values.specs.Pairs.{all, same_row, range_equal, same_byte, bit_of, valid_same, masked_row}
 use Rattle.accepted.specs.Parts.{Side, Elements}
 use Rattle.values.specs.Parts.{Masked, ColumnsAt}
-use Rattle.values.proofs.Steps.{by_rows, all_snoc, all_moved, and_true, passed_tail, front_fails}
+use Rattle.values.proofs.Steps.{by_rows, by_bytes, all_snoc, all_moved, and_true, passed_tail, front_fails}
+use Rattle.values.proofs.Slices.{part_pairs, parts_same}
 use Rattle.values.proofs.WordBits.{bit_of_bits}
 use Rattle.values.proofs.MaskedRows.{mask_at}
 use Rattle.accepted.proofs.Fixed.{spanned}
@@ -35,11 +38,6 @@ two_ends p i j w v {x} {y} le most e f = cases x e
     cases : (z : Bool) → z ≡ all p i j v → z && y ≡ all p i j w
     cases true h = f ∙ passed_tail p i j w v v le (omega arith) (record { within = le; passes = sym h })
     cases false h = front_fails p i j v w le (sym h)
-
--- an element of one byte
-pub one_byte : (a b : List ℕ) (i j : ℕ) → eqb (byte_at a i) (byte_at b j) ≡ all (same_byte a b) i j 1
-unfolding all same_byte
-one_byte a b i j = sym (and_true _)
 
 -- element h of n lies inside
 pub element_room : (x n w h m : ℕ) → h < n → x + n * w ≤ m → x + h * w + w ≤ m
@@ -55,10 +53,25 @@ more_pairs p h e f =
     ap₂ (λ (x y : Bool). x && y) e f ∙ sym (rw z at (all_snoc p 0 0 h))
 
 -- what a turn tests: the digit is not 1, or the bytes are the same
-pub valid_test : (bits : ℕ) (a b : List ℕ) (w x y h : ℕ) {v : Bool} → v ≡ all (same_byte a b) (x + h * w) (y + h * w) w
-    → not (eqb (bits / 2 ^ h % 2) 1) || v ≡ valid_same bits a b w x y h h
+pub valid_test : (bits : ℕ) (a b : List ℕ) (w h : ℕ) {v : Bool} → v ≡ all (same_byte a b) (h * w) (h * w) w
+    → not (eqb (bits / 2 ^ h % 2) 1) || v ≡ valid_same bits a b w h h
 unfolding valid_same bit_of
-valid_test bits a b w x y h e = rw e
+valid_test bits a b w h e = rw e
+
+-- its bit is not set, or it is and the bytes decide
+pub passed_over : (bits : ℕ) (a b : List ℕ) (w h : ℕ) → (bits / 2 ^ h % 2 ≡ 1 → ⊥) → valid_same bits a b w h h ≡ true
+unfolding valid_same bit_of
+passed_over bits a b w h e = rw (ne_eqb _ _ e)
+
+pub by_its_bytes : (bits : ℕ) (a b : List ℕ) (w h : ℕ) {v : Bool} → bits / 2 ^ h % 2 ≡ 1 → v ≡ all (same_byte a b) (h * w) (h * w) w → valid_same bits a b w h h ≡ v
+unfolding valid_same bit_of
+by_its_bytes bits a b w h e f = rw (eq-eqb _ _ e, f)
+
+-- what `==` says of one element of each of two slices
+pub part_test : (x y : List ℕ) (n w h : ℕ) → h < n → n * w ≤ length x → n * w ≤ length y
+    → pointwise eqb (take (h * w + w - h * w) (drop (h * w) x)) (take (h * w + w - h * w) (drop (h * w) y)) ≡ all (same_byte x y) (h * w) (h * w) w
+part_test x y n w h lt lx ly =
+    parts_same x y (h * w) (h * w) w w (omega (arith, element_room 0 n w h (length x) lt (omega (arith, lx)))) (omega (arith, element_room 0 n w h (length y) lt (omega (arith, ly)))) ∙ sym (by_bytes x y (h * w) (h * w) w)
 
 -- where the element of row i starts, from that of row 0
 pub place_of : (s : List ℕ) (k i : ℕ) {p w : ℕ} → p ≡ element_place s k (offset_of s k) → w ≡ element_width s k → p + i * w ≡ element_place s k (offset_of s k + i)
@@ -85,12 +98,12 @@ module _ {a b : List ℕ} {k l i j n : ℕ} {v : Columns} (r : Masked FixedWidth
   right_inside = rows_inside _ _ _ _ _ _ (masked_fixed r).right y.right right_width
 
   -- bit h of the word is that of row i + h
-  module _ {bits : ℕ} (some : has_bitmap a k ≡ true) (word : bits ≡ bits_at a v.place (v.first + i) 64) where
+  module _ {bits : ℕ} (some : has_bitmap a k ≡ true) (word : bits ≡ bits_at a (bitmap_place a k) (first_bit a k + i) 64) where
     bit_valid : (h : ℕ) → h < 64 → bit_of bits h ≡ valid a k (i + h)
     unfolding valid
     bit_valid h lt =
         let e : first_bit a k + i + h ≡ first_bit a k + (i + h) = omega arith in
-        rw (word, y.place.value, y.first.value, bit_of_bits a (bitmap_place a k) (first_bit a k + i) 64 h lt, e, some)
+        rw (word, bit_of_bits a (bitmap_place a k) (first_bit a k + i) 64 h lt, e, some)
 
     moved : (s : List ℕ) (c u h p w : ℕ) → p ≡ element_place s c (offset_of s c) → w ≡ element_width s c → p + u * w + h * w ≡ element_place s c (offset_of s c + (u + h))
     moved s c u h p w ep ew =
@@ -98,24 +111,30 @@ module _ {a b : List ℕ} {k l i j n : ℕ} {v : Columns} (r : Masked FixedWidth
         let f : p + u * w + h * w ≡ p + (u + h) * w = omega arith in
         f ∙ place_of s c (u + h) ep ew
 
-    full : (h : ℕ) → all (same_byte a b) (v.left + i * v.width + h * v.width) (v.right + j * v.width + h * v.width) v.width
-        ≡ row_equal (fixed_row a k (offset_of a k + (i + h))) (fixed_row b l (offset_of b l + (j + h)))
+    -- the parts of the two images that the rows' elements are
+    abbrev pub lefts : List ℕ
+    lefts = bytes_at a (v.left + i * v.width) (n * v.width)
+
+    abbrev pub rights : List ℕ
+    rights = bytes_at b (v.right + j * v.width) (n * v.width)
+
+    full : (h : ℕ) → h < n → all (same_byte lefts rights) (h * v.width) (h * v.width) v.width ≡ row_equal (fixed_row a k (offset_of a k + (i + h))) (fixed_row b l (offset_of b l + (j + h)))
     unfolding same_row element_place
-    full h =
-        ap₂ (λ (p q : ℕ). all (same_byte a b) p q v.width) (moved a k i h _ _ y.left y.width) (moved b l j h _ _ y.right right_width)
+    full h lt =
+        part_pairs a b (v.left + i * v.width) (v.right + j * v.width) (n * v.width) (h * v.width) v.width (omega (arith, element_room 0 n v.width h (n * v.width) lt (omega arith)))
+        ∙ ap₂ (λ (p q : ℕ). all (same_byte a b) p q v.width) (moved a k i h _ _ y.left y.width) (moved b l j h _ _ y.right right_width)
         ∙ rw (← (masked_fixed r).width, y.width) (sym (row a b k l (masked_fixed r).width (offset_of a k + (i + h)) (offset_of b l + (j + h))))
 
-    pair_same : (h : ℕ) → h < n → n ≤ 64
-        → valid_same bits a b v.width (v.left + i * v.width) (v.right + j * v.width) h h ≡ same_row (masked_row fixed_row a k) (masked_row fixed_row b l) (i + h) (j + h)
+    pair_same : (h : ℕ) → h < n → n ≤ 64 → valid_same bits lefts rights v.width h h ≡ same_row (masked_row fixed_row a k) (masked_row fixed_row b l) (i + h) (j + h)
     unfolding valid_same same_row masked_row row_equal
     pair_same h lt le = rw (bit_valid h (omega arith), ← mask_at r h lt) (cases (valid a k (i + h)))
       where
-        cases : (z : Bool) → not z || all (same_byte a b) (v.left + i * v.width + h * v.width) (v.right + j * v.width + h * v.width) v.width
+        cases : (z : Bool) → not z || all (same_byte lefts rights) (h * v.width) (h * v.width) v.width
             ≡ row_equal (masked z (fixed_row a k (offset_of a k + (i + h)))) (masked z (fixed_row b l (offset_of b l + (j + h))))
-        cases true = full h
+        cases true = full h lt
         cases false = refl
 
-    pub word_rows : n ≤ 64 → all (valid_same bits a b v.width (v.left + i * v.width) (v.right + j * v.width)) 0 0 n ≡ range_equal (masked_row fixed_row a k) (masked_row fixed_row b l) i j n
+    pub word_rows : n ≤ 64 → all (valid_same bits lefts rights v.width) 0 0 n ≡ range_equal (masked_row fixed_row a k) (masked_row fixed_row b l) i j n
     word_rows le =
         all_moved _ (same_row (masked_row fixed_row a k) (masked_row fixed_row b l)) 0 0 i j n
         (λ h lt. let z : 0 + h ≡ h = zero-add h in rw z (pair_same h lt le))

@@ -4,19 +4,26 @@
 use mathlib.Core.Path.{◌≡◌, refl, sym, ap, ap₂, ◌∙◌}
 use mathlib.Core.Bool.{Bool, true, false, cond, beq}
 use mathlib.Core.List.{List}
-use Prim.Native.Nat.{ℕ, zero, suc, ◌+◌, ◌*◌, ◌-◌, ◌/◌, ◌%◌, ◌^◌, ◌<◌, ◌≤◌}
+use mathlib.Core.Logic.{◌⊎◌, inl, inr}
+use Prim.Native.Nat.{ℕ, zero, suc, ◌+◌, ◌*◌, ◌-◌, ◌/◌, ◌%◌, ◌^◌, ◌<◌, ◌≤◌, min}
 use native.Mathlib.Omega.{arith}
-use native.Mathlib.Nat.{zero-add, mod-one, mod-eq_of_lt, div-div-eq-div-mul, pow-succ'}
-use lib.Dec.{eqb}
+use Rattle.std.specs.Int.{bit_at as digit_at, trailing_ones}
+use Rattle.std.specs.Int.Bits.{bit_xor, xor_assoc, xor_self, xor_zero_l, xor_zero_r}
+use Rattle.std.specs.Int.Count.{count_trailing_zeros, trailing_of_zero}
+use Rattle.std.proofs.lemmas.Nat.{xor_lt}
+use Rattle.std.proofs.lemmas.Nat.Bits.{bit_at-lt, bit_at_xor, bit_at-trailing_zeros, bit_at-trailing_ones}
+use mir.Syntax.{w64}
+use native.Mathlib.Nat.{eq-or-lt_of_le, zero-add, mod-one, mod-eq_of_lt, div-div-eq-div-mul, pow-succ'}
+use lib.Dec.{eqb, ltb}
 use lib.Pow.{pow_pos, pow-lt}
-use borrow.Author.Tests.{eq-eqb, ne_eqb}
+use borrow.Author.Tests.{eq-eqb, ne_eqb, ltb-true, ltb-false}
 use Rattle.image.specs.Bytes.{bit_at}
 use Rattle.image.specs.Ranges.{every}
 use Rattle.values.specs.Bits.{bits_at, Leading}
 use Rattle.values.specs.Pairs.{first_unequal, same_bit, same_bit_of, bit_of}
 use Rattle.values.proofs.Words.{cut_off, halved, words_same, words_differ, full_result}
-use Rattle.values.proofs.Steps.{Passed, passed_more}
-use Rattle.values.proofs.FirstUnequal.{unequal_moved, unequal_some, unequal_among}
+use Rattle.values.proofs.Steps.{Passed, passed_more, all_by}
+use Rattle.values.proofs.FirstUnequal.{unequal_is, unequal_moved, unequal_some, unequal_among}
 use Rattle.values.proofs.Leads.{every_jump, leading_stops, leading_all}
 
 -- the lowest digit, and what it leaves
@@ -71,28 +78,8 @@ word_front s p i n lt e =
 pub one_positive : (n : ℕ) → n < 64 → 0 < 1 * 2 ^ n % 2 ^ 64
 one_positive n lt = rw (one_shifted n lt) (pow_pos n)
 
-pub whole_number_lem : (x : ℕ) → x ≡ x / 2 ^ 0
-whole_number_lem x = omega arith
-
--- one bit more
-pub half_of : (x r : ℕ) {y : ℕ} → y ≡ x / 2 ^ r → y / 2 ≡ x / 2 ^ (r + 1)
-half_of x r e =
-    let h : r + 1 ≡ suc r = omega arith in
-    rw (e, h) (halved x r)
-
--- bit r is the lowest of what is left
-lowest_bit : (x r : ℕ) {y : ℕ} → y ≡ x / 2 ^ r → bit_of x (0 + r) ≡ eqb (y % 2) 1
-unfolding bit_of
-lowest_bit x r e = let z : 0 + r ≡ r = zero-add r in rw (z, e)
-
-pub bit_set : (x r : ℕ) {y : ℕ} → y ≡ x / 2 ^ r → y % 2 ≡ 1 → bit_of x (0 + r) ≡ true
-bit_set x r e f = lowest_bit x r e ∙ eq-eqb _ _ f
-
-pub bit_unset : (x r : ℕ) {y : ℕ} → y ≡ x / 2 ^ r → (y % 2 ≡ 1 → ⊥) → bit_of x (0 + r) ≡ false
-bit_unset x r e f = lowest_bit x r e ∙ ne_eqb _ _ f
-
--- a pair of bits of two numbers, by what is left of these
-digits : (u v : ℕ) → u < 2 → v < 2 → beq (eqb u 1) (eqb v 1) ≡ eqb u v
+-- bits of two numbers, by the bit of their exclusive or
+digits : (u v : ℕ) → u < 2 → v < 2 → beq (eqb u 1) (eqb v 1) ≡ eqb ((u + v) % 2) 0
 digits zero zero l m = refl
 digits zero (suc zero) l m = refl
 digits (suc zero) zero l m = refl
@@ -101,22 +88,39 @@ digits zero (suc (suc v)) l m = absurd (omega arith)
 digits (suc zero) (suc (suc v)) l m = absurd (omega arith)
 digits (suc (suc u)) v l m = absurd (omega arith)
 
-module _ (x y r : ℕ) {u v : ℕ} (e : u ≡ x / 2 ^ r) (f : v ≡ y / 2 ^ r) where
-  pair : same_bit_of x y (0 + r) (0 + r) ≡ eqb (u % 2) (v % 2)
-  unfolding same_bit_of
-  pair = ap₂ beq (lowest_bit x r e) (lowest_bit y r f) ∙ digits (u % 2) (v % 2) (omega arith) (omega arith)
+same_digit : (x y i : ℕ) → same_bit_of x y i i ≡ eqb (digit_at (bit_xor x y) i) 0
+unfolding same_bit_of bit_of
+same_digit x y i = digits (digit_at x i) (digit_at y i) (bit_at-lt x i) (bit_at-lt y i) ∙ ap (λ (z : ℕ). eqb z 0) (sym (bit_at_xor x y i))
 
-  pub pair_same : u % 2 ≡ v % 2 → same_bit_of x y (0 + r) (0 + r) ≡ true
-  pair_same h = pair ∙ eq-eqb _ _ h
+-- two numbers differ first at the lowest digit of their exclusive or
+pub first_differs : (x y n : ℕ) → (x ≡ y → ⊥) → x < 2 ^ 64 → y < 2 ^ 64 → min (count_trailing_zeros 64 (bit_xor x y)) n ≡ first_unequal (same_bit_of x y) 0 0 n
+first_differs x y n ne lx ly = differs (bit_xor x y) refl
+  where
+    t : ℕ
+    t = count_trailing_zeros 64 (bit_xor x y)
 
-  pub pair_differs_lem : (u % 2 ≡ v % 2 → ⊥) → same_bit_of x y (0 + r) (0 + r) ≡ false
-  pair_differs_lem h = pair ∙ ne_eqb _ _ h
+    differs : (z : ℕ) → bit_xor x y ≡ z → min t n ≡ first_unequal (same_bit_of x y) 0 0 n
+    differs zero e =
+        absurd (ne (sym (xor_zero_r x) ∙ ap (bit_xor x) (sym e) ∙ sym (xor_assoc x x y) ∙ ap (λ (v : ℕ). bit_xor v y) (xor_self x) ∙ xor_zero_l y))
+    differs (suc z) e =
+        let low = bit_at-trailing_zeros w64 (bit_xor x y) (omega (arith, e)) (xor_lt 64 x y lx ly) in
+        unequal_is (same_bit_of x y) 0 0 n (min t n) (omega arith)
+        (all_by (same_bit_of x y) 0 0 (min t n) (λ h lt.
+        let w : 0 + h ≡ h = zero-add h in
+        rw w (same_digit x y h ∙ eq-eqb _ _ (low.2 h (omega arith)))))
+        (λ lt.
+        let w : 0 + min t n ≡ t = omega arith in
+        rw w (same_digit x y t ∙ ne_eqb _ _ (λ none. omega (arith, low.1, none))))
 
 -- the bits of a number that was read
 read_bit : (s : List ℕ) (p i n k : ℕ) {x : ℕ} → x ≡ bits_at s p i n → k < n → bit_of x (0 + k) ≡ bit_at s p (i + k)
 read_bit s p i n k e lt =
     let z : 0 + k ≡ k = zero-add k in
     rw z (ap (λ (y : ℕ). bit_of y k) e ∙ bit_of_bits s p i n k lt)
+
+read_digit : (s : List ℕ) (p i n k : ℕ) {x : ℕ} → x ≡ bits_at s p i n → k < n → eqb (digit_at x k) 1 ≡ bit_at s p (i + k)
+unfolding bit_of
+read_digit s p i n k e lt = ap (λ (y : ℕ). bit_of y k) e ∙ bit_of_bits s p i n k lt
 
 -- two numbers that were read differ first where the bits do, and inside where they are not the same
 module _ (a : List ℕ) (p : ℕ) (b : List ℕ) (q i j n : ℕ) {x y r : ℕ} (e : x ≡ bits_at a p i n) (f : y ≡ bits_at b q j n) (g : r ≡ first_unequal (same_bit_of x y) 0 0 n) where
@@ -142,17 +146,25 @@ module _ (a : List ℕ) (p : ℕ) (b : List ℕ) (q i j n k : ℕ) {x y : ℕ} (
       (apart_inside a p b q (i + k) (j + k) 64 e f g h)
 
 -- the set bits of a word that was read
-module _ (s : List ℕ) (p i : ℕ) {x : ℕ} (e : x ≡ bits_at s p i 64) where
-  pub leading_ones : {r : ℕ} → Leading (bit_of x) 0 64 r → Leading (bit_at s p) i 64 r
-  leading_ones {r} l =
-      record {
-        within = l.within;
-        holds = λ k lt. sym (read_bit s p i 64 k e (omega (arith, l.within))) ∙ l.holds k lt;
-        stops = λ lt. sym (read_bit s p i 64 r e lt) ∙ l.stops lt;
-      }
+pub leading_read : (s : List ℕ) (p i : ℕ) {x r : ℕ} → x ≡ bits_at s p i 64 → x < 2 ^ 64 → r ≡ trailing_ones w64 x → Leading (bit_at s p) i 64 r
+leading_read s p i {x} {r} e lt er = cases (eq-or-lt_of_le most)
+  where
+    most : x ≤ 18446744073709551615
+    most = omega arith
 
-  pub leading_full : x ≡ 18446744073709551615 → Leading (bit_at s p) i 64 64
-  leading_full f = leading_all (bit_at s p) i 64 64 (omega arith) (omega arith) (full_result s p i x e f)
+    cases : (x ≡ 18446744073709551615) ⊎ (x < 18446744073709551615) → Leading (bit_at s p) i 64 r
+    cases (inl full) =
+        let all_set : r ≡ 64 = er ∙ ap (trailing_ones w64) full ∙ trailing_of_zero 64 in
+        rw all_set (leading_all (bit_at s p) i 64 64 (omega arith) (omega arith) (full_result s p i x e full))
+    cases (inr less) =
+        let low = bit_at-trailing_ones w64 x (omega arith) in
+        let at : (k : ℕ) → k < 64 → bit_at s p (i + k) ≡ eqb (digit_at x k) 1 = λ k few. sym (read_digit s p i 64 k e few) in
+        rw er
+        (record {
+          within = omega (arith, low.0);
+          holds = λ k below. at k (omega (arith, low.0)) ∙ eq-eqb _ _ (low.2 k below);
+          stops = λ below. at (trailing_ones w64 x) (omega (arith, low.0)) ∙ ne_eqb _ _ (λ one. omega (arith, low.1, one));
+        })
 
 -- a word after k bits that are set
 module _ (t : ℕ → Bool) (i n k : ℕ) {r : ℕ} (set : every t i k ≡ true) (l : Leading t (i + k) 64 r) where
@@ -170,5 +182,16 @@ module _ (t : ℕ → Bool) (i n k : ℕ) {r : ℕ} (set : every t i k ≡ true)
   pub word_more : 64 ≤ r → every t i (k + 64) ≡ true
   word_more le = set_more 64 le
 
-  pub word_ends : k ≤ n → n - k ≤ r → Leading t i n n
+  pub word_next : (h : ℕ) → k ≡ 64 * h → 64 ≤ r → every t i (64 * (h + 1)) ≡ true
+  word_next h e le = let z : k + 64 ≡ 64 * (h + 1) = omega arith in rw z at (set_more 64 le)
+
+  word_ends : k ≤ n → n - k ≤ r → Leading t i n n
   word_ends le most = let z : k + (n - k) ≡ n = omega arith in leading_all t i n n (omega arith) (omega arith) (rw z at (set_more (n - k) most))
+
+  -- the last one, of which fewer bits count
+  pub word_last : k ≤ n → n - k < 64 → Leading t i n (k + min r (n - k))
+  word_last le few = cases (ltb r (n - k)) refl
+    where
+      cases : (b : Bool) → ltb r (n - k) ≡ b → Leading t i n (k + min r (n - k))
+      cases true e = let lt = ltb-true r (n - k) e in let least : min r (n - k) ≡ r = omega arith in rw least (word_stops (omega arith) (omega arith))
+      cases false e = let ge = ltb-false r (n - k) e in let all_of : k + min r (n - k) ≡ n = omega arith in rw all_of (word_ends le ge)

@@ -1,3 +1,4 @@
 pub mod Bits
+pub mod Pair
 pub mod Pairs
 pub mod Parts

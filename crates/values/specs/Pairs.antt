@@ -41,9 +41,9 @@ bit_of v i = eqb (v / 2 ^ i % 2) 1
 unfoldable pub same_bit_of : ℕ → ℕ → ℕ → ℕ → Bool
 same_bit_of v w i j = beq (bit_of v i) (bit_of w j)
 
--- elements i and j of those of w bytes that stand side by side from two places on are the same, or bit i of a number is 0
-unfoldable pub valid_same : ℕ → List ℕ → List ℕ → ℕ → ℕ → ℕ → ℕ → ℕ → Bool
-valid_same bits a b w x y i j = not (bit_of bits i) || all (same_byte a b) (x + i * w) (y + j * w) w
+-- elements i and j of those of w bytes that stand side by side are the same, or bit i of a number is 0
+unfoldable pub valid_same : ℕ → List ℕ → List ℕ → ℕ → ℕ → ℕ → Bool
+valid_same bits a b w i j = not (bit_of bits i) || all (same_byte a b) (i * w) (j * w) w
 
 -- bits i and j of the bits that start at two places
 unfoldable pub same_bit : List ℕ → ℕ → List ℕ → ℕ → ℕ → ℕ → Bool

@@ -10,8 +10,7 @@ use Rattle.laws.specs.Accepted.{AcceptedImage}
 use Rattle.laws.specs.Alike.{Alike}
 use Rattle.image.specs.Reads.{Read}
 use Rattle.accepted.specs.Parts.{Side, Part, RunPart, Elements}
-use Rattle.values.specs.declared.leaf.Leaves.{Leaves}
-use Rattle.values.specs.declared.primitive.Columns.{Columns}
+use Rattle.values.specs.declared.leaf.Columns.{Columns}
 use Rattle.values.specs.Pairs.{all, same_mask}
 
 -- n rows of each of two nodes that are alike down to the depth
@@ -83,14 +82,11 @@ pub record Fixed (a b : List ℕ) (k l i j n : ℕ) : Type 0 where
   pub right : Elements b l j n
   pub width : element_width a k ≡ element_width b l
 
--- what is read once of two fixed-width nodes: the width, where the elements of row 0 start, the left bitmap and its bit
--- of row 0
+-- what is read once of two nodes: how wide their elements are, and where those of row 0 start
 pub record ColumnsAt (a b : List ℕ) (k l : ℕ) (r : Columns) : Type 0 where
   pub width : r.width ≡ element_width a k
   pub left : r.left ≡ element_place a k (offset_of a k)
   pub right : r.right ≡ element_place b l (offset_of b l)
-  pub place : Read (bitmap_place a k) 32 r.place
-  pub first : Read (first_bit a k) 32 r.first
 
 -- a node without a bitmap whose elements have w bytes, and the element of row 0 starts at p
 pub record Leaf (s : List ℕ) (k w p : ℕ) : Type 0 where
@@ -98,12 +94,14 @@ pub record Leaf (s : List ℕ) (k w p : ℕ) : Type 0 where
   pub width : w ≡ element_width s k
   pub place : p ≡ element_place s k (offset_of s k)
 
--- what is read once of two nodes whose rows are compared one pair at a time: their layout is fixed-width, or
--- variable-size, or neither is said; where the elements of row 0 start, and where the texts do
-pub record LeavesAt (a b : List ℕ) (k l : ℕ) (r : Leaves) : Type 0 where
-  pub fixed : r.fixed ≡ true → layout_of (code_of a k) ≡ FixedWidth
-  pub texts : r.texts ≡ true → layout_of (code_of a k) ≡ VariableSize
-  pub left : r.fixed || r.texts ≡ true → Leaf a k r.width r.left
-  pub right : r.fixed || r.texts ≡ true → Leaf b l r.width r.right
-  pub left_text : r.texts ≡ true → r.left_text ≡ buffer_place a k 1
-  pub right_text : r.texts ≡ true → r.right_text ≡ buffer_place b l 1
+-- two of them, of a layout
+pub record LeafPair (x : Layout) (a b : List ℕ) (k l : ℕ) (v : Columns) : Type 0 where
+  pub layout : layout_of (code_of a k) ≡ x
+  pub left : Leaf a k v.width v.left
+  pub right : Leaf b l v.width v.right
+
+-- two of texts, and where their texts start
+pub record TextPair (a b : List ℕ) (k l : ℕ) (v : Columns) (x y : ℕ) : Type 0 where
+  pub offsets : LeafPair VariableSize a b k l v
+  pub left : x ≡ buffer_place a k 1
+  pub right : y ≡ buffer_place b l 1

@@ -1,12 +1,14 @@
 // Bits of a slice, 64 at a time: what the Rust has in its bit iterators.
-ghost use Rattle.std.specs.Prelude.{◌≡◌, ◌+◌, ◌*◌, ◌/◌, ◌<◌, ◌≤◌, ◌^◌, length};
+ghost use Rattle.std.specs.Prelude.{◌≡◌, ◌≢◌, true, ◌+◌, ◌*◌, ◌/◌, ◌<◌, ◌≤◌, ◌^◌, length};
 ghost use Rattle.image.specs.Bytes.{bit_at};
 ghost use Rattle.values.specs.Bits.{bits_at, Leading};
-ghost use Rattle.values.specs.Pairs.{first_unequal, same_bit, same_bit_of, bit_of};
+ghost use Rattle.values.specs.Pairs.{first_unequal, same_bit_of};
+ghost use Rattle.values.specs.Pair.{Near, Inside, first_unequal_in, from_bit};
 
-use image::bytes::{byte, le64, octet, wide};
+use image::bytes::{byte, le, load};
 
-const ALL_SET: usize = 18446744073709551615;
+// So many bits make a word.
+const WORD: usize = 64;
 
 // The 64 bits from bit i on, of the bits that start at a place, as a number, the first bit lowest, where their bytes and
 // one more lie inside.
@@ -15,16 +17,16 @@ fn word_inside(s: &[u8], place: usize, i: usize) -> usize
     ensures { result ≡ bits_at s.now place i 64 }
 {
     let at = place + i / 8;
-    let low = octet(s, at);
+    let low = load::<8>(s, at);
     let shift = i % 8;
     if shift == 0 {
         return low;
     }
-    (low >> shift) + (wide(s[at + 8]) << (64 - shift))
+    (low >> shift) + (usize::from(s[at + 8]) << (64 - shift))
 }
 
 // The same wherever they lie.
-pub fn word(s: &[u8], place: usize, i: usize) -> usize
+fn word(s: &[u8], place: usize, i: usize) -> usize
     requires { (place < 2 ^ 32) × (i < 2 ^ 35) }
     ensures { result ≡ bits_at s.now place i 64 }
 {
@@ -32,154 +34,130 @@ pub fn word(s: &[u8], place: usize, i: usize) -> usize
     if at + 9 <= s.len() {
         return word_inside(s, place, i);
     }
-    let low = le64(s, at);
+    let low = le::<8>(s, at);
     let shift = i % 8;
     if shift == 0 {
         return low;
     }
-    let high = wide(byte(s, at + 8));
-    (low >> shift) + (high << (64 - shift))
+    (low >> shift) + (usize::from(byte(s, at + 8)) << (64 - shift))
 }
 
-// The number of the first of the n lowest bits in which two numbers differ, or n where they differ in none.
+// The bits that start at a place of a slice, from one of them on.
+#[derive(Clone, Copy)]
+pub struct Bits<'a> {
+    pub bytes: &'a [u8],
+    pub place: usize,
+    pub first: usize,
+}
+
+impl Bits<'_> {
+    // The 64 bits from bit k on as a number. INSIDE says that their bytes and one more lie inside.
+    fn word_of<const INSIDE: bool>(self, k: usize) -> usize
+        requires near { Near self k }
+        requires inside { INSIDE ≡ true → Inside self k 9 }
+        ensures { result ≡ bits_at self.entry.bytes.now self.entry.place (self.entry.first + k) 64 }
+    {
+        if INSIDE {
+            return word_inside(self.bytes, self.place, self.first + k);
+        }
+        word(self.bytes, self.place, self.first + k)
+    }
+
+    // The same wherever they lie.
+    pub fn word(self, k: usize) -> usize
+        requires { Near self k }
+        ensures { result ≡ bits_at self.entry.bytes.now self.entry.place (self.entry.first + k) 64 }
+    {
+        self.word_of::<false>(k)
+    }
+
+    // How many of 64 bits from bit k on are set, up to the first that is not.
+    fn leading_word(self, k: usize) -> usize
+        requires { Near self k }
+        ensures { Leading (bit_at self.entry.bytes.now self.entry.place) (self.entry.first + k) 64 result }
+    {
+        self.word(k).trailing_ones() as usize
+    }
+
+    // How many of n bits are set, up to the first that is not.
+    pub fn leading_set(self, n: usize) -> usize
+        requires { Near self n }
+        ensures { Leading (bit_at self.entry.bytes.now self.entry.place) self.entry.first n result }
+    {
+        for h in 0..n / WORD {
+            let r = self.leading_word(64 * h);
+            if r < WORD {
+                return 64 * h + r;
+            }
+        }
+        let k = 64 * (n / WORD);
+        k + self.leading_word(k).min(n - k)
+    }
+}
+
+// The number of the first of the n lowest bits in which two numbers differ that are not the same, or n where it is not
+// among these.
 fn first_apart(x: usize, y: usize, n: usize) -> usize
+    requires { x ≢ y }
     ensures { result ≡ first_unequal (same_bit_of x y) 0 0 n }
 {
-    let mut left = x;
-    let mut right = y;
-    let mut bit: usize = 0;
-    while bit < n {
-        if left % 2 != right % 2 {
-            return bit;
-        }
-        left = left / 2;
-        right = right / 2;
-        bit += 1;
-    }
-    n
+    ((x ^ y).trailing_zeros() as usize).min(n)
 }
 
-// Of the pairs of bits i and j, i + 1 and j + 1, .. at two places, m times 64 of them, the number of the first that are
-// not the same, or their count, where all lie inside.
-fn first_unequal_inside(
-    a: &[u8],
-    p: usize,
-    i: usize,
-    b: &[u8],
-    q: usize,
-    j: usize,
-    m: usize,
-) -> usize
-    requires { (p + i / 8 + 8 * m + 1 ≤ length a.now) × (q + j / 8 + 8 * m + 1 ≤ length b.now) × (i + 64 * m < 2 ^ 35) × (j + 64 * m < 2 ^ 35) }
-    ensures { result ≡ first_unequal (same_bit a.now p b.now q) i j (64 * m) }
+// Of m times 64 pairs of bits the number of the first that are not the same, or their count. INSIDE says that all lie
+// inside, and then no word is tested for it.
+fn first_unequal_word<const INSIDE: bool>(x: Bits, y: Bits, m: usize) -> usize
+    requires near { Near x (64 * m) × Near y (64 * m) }
+    requires inside { INSIDE ≡ true → Inside x 0 (8 * m + 1) × Inside y 0 (8 * m + 1) }
+    ensures { result ≡ first_unequal_in x.entry y.entry (64 * m) }
 {
-    let mut h: usize = 0;
-    while h < m {
-        let x = word_inside(a, p, i + 64 * h);
-        let y = word_inside(b, q, j + 64 * h);
-        if x != y {
-            return 64 * h + first_apart(x, y, 64);
+    for h in 0..m {
+        let u = x.word_of::<INSIDE>(64 * h);
+        let v = y.word_of::<INSIDE>(64 * h);
+        if u != v {
+            return 64 * h + first_apart(u, v, 64);
         }
-        h += 1;
     }
     64 * m
 }
 
-// The same of n pairs, fewer than a word, wherever they lie: two words that are cut off after n bits are compared first.
-fn first_unequal_tail(a: &[u8], p: usize, i: usize, b: &[u8], q: usize, j: usize, n: usize) -> usize
-    requires { (n < 64) × (p < 2 ^ 32) × (q < 2 ^ 32) × (i < 2 ^ 35) × (j < 2 ^ 35) }
-    ensures { result ≡ first_unequal (same_bit a.now p b.now q) i j n }
+// The same, wherever they lie.
+fn first_unequal_whole(x: Bits, y: Bits, m: usize) -> usize
+    requires { Near x (64 * m) × Near y (64 * m) }
+    ensures { result ≡ first_unequal_in x.entry y.entry (64 * m) }
+{
+    if x.place + x.first / 8 + 8 * m + 1 <= x.bytes.len() {
+        if y.place + y.first / 8 + 8 * m + 1 <= y.bytes.len() {
+            return first_unequal_word::<true>(x, y, m);
+        }
+    }
+    first_unequal_word::<false>(x, y, m)
+}
+
+// The same of n pairs from pair k on, fewer than a word: two words that are cut off after n bits are compared first.
+fn first_unequal_tail(x: Bits, y: Bits, k: usize, n: usize) -> usize
+    requires { (n < 64) × Near x k × Near y k }
+    ensures { result ≡ first_unequal_in (from_bit x.entry k) (from_bit y.entry k) n }
 {
     let size: usize = 1 << n;
-    let x = word(a, p, i) % size;
-    let y = word(b, q, j) % size;
-    if x == y {
+    let u = x.word(k) % size;
+    let v = y.word(k) % size;
+    if u == v {
         return n;
     }
-    first_apart(x, y, n)
+    first_apart(u, v, n)
 }
 
-// Of the n pairs of bits i and j, i + 1 and j + 1, .. at two places, the number of the first that are not the same, or n
-// where all are: 64 at a time, and the rest.
-pub fn first_unequal_bit(
-    a: &[u8],
-    p: usize,
-    i: usize,
-    b: &[u8],
-    q: usize,
-    j: usize,
-    n: usize,
-) -> usize
-    requires { (p < 2 ^ 32) × (q < 2 ^ 32) × (i + n < 2 ^ 35) × (j + n < 2 ^ 35) }
-    ensures { result ≡ first_unequal (same_bit a.now p b.now q) i j n }
+// Of n pairs of bits the number of the first that are not the same, or n where all are: 64 at a time, and the rest.
+pub fn first_unequal_bit(x: Bits, y: Bits, n: usize) -> usize
+    requires { Near x n × Near y n }
+    ensures { result ≡ first_unequal_in x.entry y.entry n }
 {
-    let m = n / 64;
+    let m = n / WORD;
     let whole = 64 * m;
-    if p + i / 8 + 8 * m + 1 <= a.len() {
-        if q + j / 8 + 8 * m + 1 <= b.len() {
-            let r = first_unequal_inside(a, p, i, b, q, j, m);
-            if r < whole {
-                return r;
-            }
-            return whole + first_unequal_tail(a, p, i + whole, b, q, j + whole, n - whole);
-        }
+    let r = first_unequal_whole(x, y, m);
+    if r < whole {
+        return r;
     }
-    let mut k: usize = 0;
-    while 64 <= n - k {
-        let x = word(a, p, i + k);
-        let y = word(b, q, j + k);
-        if x != y {
-            return k + first_apart(x, y, 64);
-        }
-        k += 64;
-    }
-    k + first_unequal_tail(a, p, i + k, b, q, j + k, n - k)
-}
-
-// How many of the 64 lowest bits of a number are set, up to the first that is not.
-fn ones(bits: usize) -> usize
-    ensures { Leading (bit_of bits) 0 64 result }
-{
-    let mut rest = bits;
-    let mut r: usize = 0;
-    while r < 64 {
-        if rest % 2 != 1 {
-            return r;
-        }
-        rest = rest / 2;
-        r += 1;
-    }
-    r
-}
-
-// How many of 64 bits from bit i on are set, up to the first that is not.
-fn leading_word(s: &[u8], place: usize, i: usize) -> usize
-    requires { (place < 2 ^ 32) × (i < 2 ^ 35) }
-    ensures { Leading (bit_at s.now place) i 64 result }
-{
-    let bits = word(s, place, i);
-    if bits == ALL_SET {
-        return 64;
-    }
-    ones(bits)
-}
-
-// How many of n bits from bit i on are set, up to the first that is not.
-pub fn leading_set(s: &[u8], place: usize, i: usize, n: usize) -> usize
-    requires { (place < 2 ^ 32) × (i + n < 2 ^ 35) }
-    ensures { Leading (bit_at s.now place) i n result }
-{
-    let mut k: usize = 0;
-    while 64 <= n - k {
-        let r = leading_word(s, place, i + k);
-        if r < 64 {
-            return k + r;
-        }
-        k += 64;
-    }
-    let r = leading_word(s, place, i + k);
-    if r < n - k {
-        return k + r;
-    }
-    n
+    whole + first_unequal_tail(x, y, whole, n - whole)
 }

@@ -1,118 +1,122 @@
 // Rows of two nodes without bitmaps and without children, one pair at a time: what the nodes' records say is read once.
-ghost use Rattle.std.specs.Prelude.{◌≡◌, true, ◌||◌, suc, ◌≤◌, length};
+ghost use Rattle.std.specs.Prelude.{◌≡◌, suc, ◌≤◌, length};
 ghost use Rattle.image.specs.Element.{element_width, element_place};
 ghost use Rattle.image.specs.Record.{offset_of};
 ghost use Rattle.image.specs.Row.{row_at};
-ghost use Rattle.values.specs.Pairs.{range_equal};
 ghost use Rattle.accepted.specs.Parts.{Side};
-ghost use Rattle.values.specs.Parts.{Sides, LeavesAt};
+ghost use Rattle.values.specs.Pair.{equal_rows, one_row, SidesOf, LeavesOf, LeavesRead};
 
-use crate::utils::equal_len;
-use image::bytes::nth;
-use image::element::element_width;
-use image::record::{buffer_place, code, has_bitmap, offset};
+use crate::pair::Pair;
+use image::bytes::Numbers;
+use image::record::Node;
 use image::type_code::{Layout, TypeCode};
 
-// Where the elements of row 0 of two nodes stand, and the texts' bytes. Nodes of other layouts, or with bitmaps, are
-// neither fixed nor texts.
+// How wide the elements of two nodes are, and where those of row 0 stand.
 #[derive(Clone, Copy)]
-pub struct Leaves {
-    pub fixed: bool,
-    pub texts: bool,
+pub struct Columns {
     pub width: usize,
     pub left: usize,
     pub right: usize,
-    pub left_text: usize,
-    pub right_text: usize,
+}
+
+// What is read once of two nodes: of fixed-width values where they stand, of texts where their offsets and their bytes do.
+#[derive(Clone, Copy)]
+pub enum Leaves {
+    Fixed(Columns),
+    Texts {
+        offsets: Columns,
+        left: usize,
+        right: usize,
+    },
 }
 
 // Where the element of a node's row 0 starts, where elements have so many bytes.
-pub fn first_place(s: &[u8], node: u32, width: usize) -> usize
-    requires { (width ≡ element_width s.now node) × (element_place s.now node (offset_of s.now node) ≤ length s.now) }
-    ensures { result ≡ element_place s.now node (offset_of s.now node) }
+pub fn first_place(node: Node, width: usize) -> usize
+    requires { (width ≡ element_width node.image.now node.number) × (element_place node.image.now node.number (offset_of node.image.now node.number) ≤ length node.image.now) }
+    ensures { result ≡ element_place node.entry.image.now node.entry.number (offset_of node.entry.image.now node.entry.number) }
 {
-    buffer_place(s, node, 0) + offset(s, node) * width
+    node.buffer_place(0) + node.offset() * width
 }
 
-// Two nodes taken apart.
-pub fn leaves_of(a: &[u8], an: u32, b: &[u8], bn: u32) -> Leaves
-    requires { Side a.now an 0 0 × Side b.now bn 0 0 }
-    ensures { LeavesAt a.now b.now an bn result }
+// Two nodes taken apart; none where they have bitmaps or their layout is another.
+pub fn leaves_of(pair: Pair) -> Option<Leaves>
+    requires { Side pair.left.image.now pair.left.number 0 0 × Side pair.right.image.now pair.right.number 0 0 }
+    ensures { LeavesOf pair.entry result }
 {
-    let none = Leaves {
-        fixed: false,
-        texts: false,
-        width: 0,
-        left: 0,
-        right: 0,
-        left_text: 0,
-        right_text: 0,
-    };
-    if code(a, an) != code(b, bn) {
-        return none;
+    let left = pair.left;
+    let right = pair.right;
+    if left.code() != right.code() {
+        return None;
     }
-    if has_bitmap(a, an) {
-        return none;
+    if left.has_bitmap() {
+        return None;
     }
-    if has_bitmap(b, bn) {
-        return none;
+    if right.has_bitmap() {
+        return None;
     }
-    let width = element_width(a, an);
-    if element_width(b, bn) != width {
-        return none;
+    let width = left.element_width();
+    if right.element_width() != width {
+        return None;
     }
-    let layout = TypeCode::layout(code(a, an));
+    let layout = TypeCode::layout(left.code());
     match layout {
-        Layout::FixedWidth => Leaves {
-            fixed: true,
-            texts: false,
+        Layout::FixedWidth => Some(Leaves::Fixed(Columns {
             width: width,
-            left: first_place(a, an, width),
-            right: first_place(b, bn, width),
-            left_text: 0,
-            right_text: 0,
-        },
-        Layout::VariableSize => Leaves {
-            fixed: false,
-            texts: true,
-            width: width,
-            left: first_place(a, an, width),
-            right: first_place(b, bn, width),
-            left_text: buffer_place(a, an, 1),
-            right_text: buffer_place(b, bn, 1),
-        },
-        _ => none,
+            left: first_place(left, width),
+            right: first_place(right, width),
+        })),
+        Layout::VariableSize => Some(Leaves::Texts {
+            offsets: Columns {
+                width: width,
+                left: first_place(left, width),
+                right: first_place(right, width),
+            },
+            left: left.buffer_place(1),
+            right: right.buffer_place(1),
+        }),
+        _ => None,
     }
 }
 
 // Row s of one node and row t of another are equal: fixed-width values by their bytes, texts by length and bytes.
-pub fn leaf_equal(
-    a: &[u8],
-    an: u32,
-    b: &[u8],
-    bn: u32,
-    l: Leaves,
-    s: usize,
-    t: usize,
-    depth: usize,
-) -> bool
-    requires sides { Sides a.now b.now an bn s t 1 (suc depth) }
-    requires leaves_at { LeavesAt a.now b.now an bn l }
-    requires texts_value { (l.fixed || l.texts) ≡ true }
-    ensures { result ≡ range_equal (row_at (suc depth) a.now an) (row_at (suc depth) b.now bn) s t 1 }
+pub fn leaf_equal(pair: Pair, leaves: Leaves, s: usize, t: usize, depth: usize) -> bool
+    requires sides { SidesOf pair (one_row s t) (suc depth) }
+    requires leaves { LeavesRead pair leaves }
+    ensures { result ≡ equal_rows (row_at (suc depth)) pair.entry (one_row s t) }
 {
-    let width = l.width;
-    let left = l.left;
-    let right = l.right;
-    if l.fixed {
-        return equal_len(a, b, left + s * width, right + t * width, width);
+    let a = pair.left.image;
+    let b = pair.right.image;
+    match leaves {
+        Leaves::Fixed(columns) => {
+            let width = columns.width;
+            let x = columns.left + s * width;
+            let y = columns.right + t * width;
+            a[x..x + width] == b[y..y + width]
+        }
+        Leaves::Texts {
+            offsets,
+            left,
+            right,
+        } => {
+            let lefts = Numbers {
+                bytes: a,
+                place: offsets.left,
+                width: offsets.width,
+            };
+            let rights = Numbers {
+                bytes: b,
+                place: offsets.right,
+                width: offsets.width,
+            };
+            let from = lefts.at(s);
+            let len = lefts.at(s + 1) - from;
+            let start = rights.at(t);
+            if rights.at(t + 1) - start != len {
+                return false;
+            }
+            let x = left + from;
+            let y = right + start;
+            a[x..x + len] == b[y..y + len]
+        }
     }
-    let from = nth(a, left, width, s);
-    let to = nth(a, left, width, s + 1);
-    let start = nth(b, right, width, t);
-    let end = nth(b, right, width, t + 1);
-    if to - from != end - start {
-        return false;
-    }
-    equal_len(a, b, l.left_text + from, l.right_text + start, to - from)
 }

@@ -3,95 +3,87 @@ ghost use Rattle.std.specs.Prelude.{◌≡◌, ◌+◌, ◌*◌};
 ghost use Rattle.image.specs.Bytes.{bytes_at};
 ghost use Rattle.image.specs.Element.{element_width, element_place};
 ghost use Rattle.image.specs.Types.{same_bytes};
-ghost use Rattle.values.specs.Pairs.{all, same_span, same_distance};
-ghost use Rattle.values.specs.Parts.{Spans, Above};
+ghost use Rattle.values.specs.Pair.{same_spans, same_offsets, same_distances, SpansOf, AboveOf};
 
-use crate::utils::equal_len;
-use image::bytes::{nth, nth_inside};
-use image::element::element_width;
-use image::record::buffer_place;
+use crate::pair::{Pair, Rows};
+use image::bytes::load;
 
 // Offsets are compared so many at a time.
 const BLOCK: usize = 64;
 
-// The n + 1 offsets from s and from t on are the same, as one block of bytes.
-fn offsets_same(a: &[u8], an: u32, b: &[u8], bn: u32, s: usize, t: usize, n: usize) -> bool
-    requires { Spans a.now b.now an bn s t n }
-    ensures { result ≡ same_bytes (bytes_at a.now (element_place a.now an s) ((n + 1) * element_width a.now an)) (bytes_at b.now (element_place b.now bn t) ((n + 1) * element_width a.now an)) }
-{
-    let width = element_width(a, an);
-    let la = buffer_place(a, an, 0);
-    let lb = buffer_place(b, bn, 0);
-    equal_len(a, b, la + s * width, lb + t * width, (n + 1) * width)
+// The offsets of a node: where they start, the number of the first that is looked at, and that offset itself.
+#[derive(Clone, Copy)]
+pub struct Offsets<'a> {
+    pub bytes: &'a [u8],
+    pub place: usize,
+    pub first: usize,
+    pub base: usize,
 }
 
-// The numbers of w bytes at n elements from s and from t on stand in turn equally far above x and y. There is no way out of
-// the loop.
-fn distance_block(
-    a: &[u8],
-    la: usize,
-    b: &[u8],
-    lb: usize,
-    w: usize,
-    x: usize,
-    y: usize,
-    s: usize,
-    t: usize,
-    n: usize,
-) -> bool
-    requires { Above a.now la w x s n × Above b.now lb w y t n }
-    ensures { result ≡ all (same_distance a.now la b.now lb w x y) s t n }
+// The offsets from the first element of two ranges on, and one more, are the same, as one block of bytes.
+fn offsets_same(pair: Pair, rows: Rows) -> bool
+    requires { SpansOf pair rows }
+    ensures { result ≡ same_offsets pair.entry rows }
+{
+    let width = pair.left.element_width();
+    let x = pair.left.buffer_place(0) + rows.left * width;
+    let y = pair.right.buffer_place(0) + rows.right * width;
+    let size = (rows.count + 1) * width;
+    pair.left.image[x..x + size] == pair.right.image[y..y + size]
+}
+
+// n offsets of W bytes, from the one numbered k on, stand in turn equally far above the first. There is no way out of the
+// loop.
+fn distance_block<const W: usize>(left: Offsets, right: Offsets, k: usize, n: usize) -> bool
+    requires { AboveOf W left k n × AboveOf W right k n }
+    ensures { result ≡ same_distances W left.entry right.entry k n }
 {
     let mut same = true;
-    let mut h: usize = 0;
-    while h < n {
-        let u = nth_inside(a, la, w, s + h);
-        let v = nth_inside(b, lb, w, t + h);
-        same = same & (u - x == v - y);
-        h += 1;
+    for h in 0..n {
+        let u = load::<W>(left.bytes, left.place + (left.first + k + h) * W);
+        let v = load::<W>(right.bytes, right.place + (right.first + k + h) * W);
+        same = same & (u - left.base == v - right.base);
     }
     same
 }
 
 // The same of any n, block by block.
-fn distances_equal(
-    a: &[u8],
-    la: usize,
-    b: &[u8],
-    lb: usize,
-    w: usize,
-    x: usize,
-    y: usize,
-    s: usize,
-    t: usize,
-    n: usize,
-) -> bool
-    requires { Above a.now la w x s n × Above b.now lb w y t n }
-    ensures { result ≡ all (same_distance a.now la b.now lb w x y) s t n }
+fn distances_equal<const W: usize>(left: Offsets, right: Offsets, n: usize) -> bool
+    requires { AboveOf W left 0 n × AboveOf W right 0 n }
+    ensures { result ≡ same_distances W left.entry right.entry 0 n }
 {
-    let mut k: usize = 0;
-    while BLOCK <= n - k {
-        if !distance_block(a, la, b, lb, w, x, y, s + k, t + k, BLOCK) {
+    for h in 0..n / BLOCK {
+        if !distance_block::<W>(left, right, 64 * h, BLOCK) {
             return false;
         }
-        k += BLOCK;
     }
-    distance_block(a, la, b, lb, w, x, y, s + k, t + k, n - k)
+    let k = 64 * (n / BLOCK);
+    distance_block::<W>(left, right, k, n - k)
 }
 
-// The texts or lists at n elements from s and from t on are equally long, in turn. Where the offsets are the same, so are
-// the lengths; else each offset stands as far above the first on both sides.
-pub fn lengths_equal(a: &[u8], an: u32, b: &[u8], bn: u32, s: usize, t: usize, n: usize) -> bool
-    requires { Spans a.now b.now an bn s t n }
-    ensures { result ≡ all (same_span a.now an b.now bn) s t n }
+// The texts or lists at the elements of two ranges are equally long, in turn. Where the offsets are the same, so are the
+// lengths; else each offset stands as far above the first on both sides.
+pub fn lengths_equal(pair: Pair, rows: Rows) -> bool
+    requires { SpansOf pair rows }
+    ensures { result ≡ same_spans pair.entry rows }
 {
-    if offsets_same(a, an, b, bn, s, t, n) {
+    if offsets_same(pair, rows) {
         return true;
     }
-    let width = element_width(a, an);
-    let la = buffer_place(a, an, 0);
-    let lb = buffer_place(b, bn, 0);
-    let x = nth(a, la, width, s);
-    let y = nth(b, lb, width, t);
-    distances_equal(a, la, b, lb, width, x, y, s, t, n + 1)
+    let left = Offsets {
+        bytes: pair.left.image,
+        place: pair.left.buffer_place(0),
+        first: rows.left,
+        base: pair.left.offset_at(rows.left),
+    };
+    let right = Offsets {
+        bytes: pair.right.image,
+        place: pair.right.buffer_place(0),
+        first: rows.right,
+        base: pair.right.offset_at(rows.right),
+    };
+    if pair.left.element_width() == 4 {
+        return distances_equal::<4>(left, right, rows.count + 1);
+    }
+    distances_equal::<8>(left, right, rows.count + 1)
 }

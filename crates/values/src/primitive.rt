@@ -2,19 +2,19 @@
 // for the generic type.
 ghost use Rattle.std.specs.Prelude.{◌≡◌, true, ◌+◌, ◌*◌, ◌≤◌, length};
 ghost use Rattle.image.specs.declared.type_code.Layout.TheVariants.{FixedWidth};
-ghost use Rattle.image.specs.Record.{code_of, offset_of, has_bitmap};
-ghost use Rattle.image.specs.TypeCode.{layout_of};
+ghost use Rattle.image.specs.Bytes.{bytes_at};
+ghost use Rattle.image.specs.Element.{element_width, element_place};
 ghost use Rattle.image.specs.Row.{fixed_row};
-ghost use Rattle.values.specs.Pairs.{all, same_byte, valid_same, range_equal, masked_row};
-ghost use Rattle.values.specs.Parts.{Parts, Masked, Fixed, ColumnsAt};
-ghost use Rattle.accepted.specs.Parts.{Elements, Spanned};
+ghost use Rattle.values.specs.Pairs.{all, same_byte, valid_same, masked_row};
+ghost use Rattle.values.specs.Pair.{equal_rows, from_offset, PartsIn, MaskedOf, FixedOf, ColumnsOf, MaskWord, BitsOf};
+ghost use Rattle.accepted.specs.Parts.{Elements};
 
-use crate::bits::word;
-use crate::leaf::first_place;
-use crate::utils::{equal_len, octets_same, quads_same};
-use image::bytes::pair;
-use image::element::element_width;
-use image::record::{bitmap_place, buffer_place, first_bit, has_bitmap, offset};
+use crate::bits::Bits;
+use crate::data::validity;
+use crate::leaf::{Columns, first_place};
+use crate::pair::{Pair, Rows};
+use image::bytes::load;
+use image::record::Node;
 
 // Rows with nulls are compared so many at a time, as one block of bytes, and where the blocks differ so many as a word of
 // the null mask has bits.
@@ -22,210 +22,177 @@ const CHUNK: usize = 1024;
 
 const WORD: usize = 64;
 
-// Where some elements of a node stand: the place of the first, and the length of all.
-#[derive(Clone, Copy)]
-pub struct Span {
-    pub at: usize,
-    pub len: usize,
+// The bytes of n elements of a node from element j on.
+fn elements<'a>(node: Node<'a>, j: usize, n: usize) -> &'a [u8]
+    requires { Elements node.image.now node.number j n }
+    ensures { result.now ≡ bytes_at node.entry.image.now (element_place node.entry.image.now node.entry.number j) (n * element_width node.entry.image.now node.entry.number) }
+{
+    let width = node.element_width();
+    let at = node.buffer_place(0) + j * width;
+    &node.image[at..at + n * width]
 }
 
-// The n elements of a node from element j on.
-fn span_of(s: &[u8], node: u32, j: usize, n: usize) -> Span
-    requires { Elements s.now node j n }
-    ensures { Spanned s.now node j n result.at result.len }
+// The bytes of two ranges of elements are the same, as one block.
+pub fn elements_equal(pair: Pair, rows: Rows) -> bool
+    requires { FixedOf pair rows }
+    ensures { result ≡ equal_rows fixed_row pair.entry rows }
 {
-    let width = element_width(s, node);
-    Span {
-        at: buffer_place(s, node, 0) + j * width,
-        len: n * width,
-    }
-}
-
-// The bytes of n elements from s and from t on are the same, as one block.
-pub fn elements_equal(a: &[u8], an: u32, b: &[u8], bn: u32, s: usize, t: usize, n: usize) -> bool
-    requires { Fixed a.now b.now an bn s t n }
-    ensures { result ≡ range_equal (fixed_row a.now an) (fixed_row b.now bn) s t n }
-{
-    let x = span_of(a, an, s, n);
-    let y = span_of(b, bn, t, n);
-    let at = x.at;
-    let bt = y.at;
-    equal_len(a, b, at, bt, x.len)
+    elements(pair.left, rows.left, rows.count) == elements(pair.right, rows.right, rows.count)
 }
 
 // Elements without nulls: their bytes.
-pub fn primitive_equal(a: &[u8], an: u32, b: &[u8], bn: u32, s: usize, t: usize, n: usize) -> bool
-    requires parts { Parts a.now b.now an bn s t n 0 }
-    requires an_value { layout_of (code_of a.now an) ≡ FixedWidth }
-    ensures { result ≡ range_equal (fixed_row a.now an) (fixed_row b.now bn) s t n }
+pub fn primitive_equal(pair: Pair, rows: Rows) -> bool
+    requires { PartsIn FixedWidth pair rows 0 }
+    ensures { result ≡ equal_rows fixed_row pair.entry rows }
 {
-    elements_equal(a, an, b, bn, s, t, n)
+    elements_equal(pair, rows)
 }
 
-// The bytes of n rows from s and from t on are the same, those under nulls too.
-fn block_equal(a: &[u8], an: u32, b: &[u8], bn: u32, s: usize, t: usize, n: usize) -> bool
-    requires { Masked FixedWidth a.now b.now an bn s t n }
-    ensures { result ≡ range_equal (fixed_row a.now an) (fixed_row b.now bn) (offset_of a.now an + s) (offset_of b.now bn + t) n }
+// The bytes of two ranges of rows are the same, those under nulls too.
+fn block_equal(pair: Pair, rows: Rows) -> bool
+    requires { MaskedOf FixedWidth pair rows }
+    ensures { result ≡ equal_rows fixed_row pair.entry (from_offset pair.entry rows) }
 {
-    elements_equal(a, an, b, bn, offset(a, an) + s, offset(b, bn) + t, n)
+    let elements = Rows {
+        left: pair.left.offset() + rows.left,
+        right: pair.right.offset() + rows.right,
+        count: rows.count,
+    };
+    elements_equal(pair, elements)
 }
 
-// The w bytes at two places are the same, as numbers: one, or the first and the last, which may share bytes.
-fn element_same(a: &[u8], b: &[u8], at: usize, bt: usize, w: usize) -> bool
-    requires { (at + w ≤ length a.now) × (bt + w ≤ length b.now) }
-    ensures { result ≡ all (same_byte a.now b.now) at bt w }
+// The W bytes at a place of two slices are the same, as numbers: one, or the first eight bytes and the last, which may
+// share some.
+fn number_same<const W: usize>(x: &[u8], y: &[u8], i: usize) -> bool
+    requires { (W ≤ 16) × (i + W ≤ length x.now) × (i + W ≤ length y.now) }
+    ensures { result ≡ all (same_byte x.now y.now) i i W }
 {
-    if w == 8 {
-        return octets_same(a, b, at, bt);
+    if W <= 8 {
+        return load::<W>(x, i) == load::<W>(y, i);
     }
-    if w == 1 {
-        return a[at] == b[bt];
-    }
-    if w == 2 {
-        return pair(a, at) == pair(b, bt);
-    }
-    if w < 4 {
-        return equal_len(a, b, at, bt, w);
-    }
-    if w < 8 {
-        let end = w - 4;
-        return quads_same(a, b, at, bt) & quads_same(a, b, at + end, bt + end);
-    }
-    if w <= 16 {
-        let end = w - 8;
-        return octets_same(a, b, at, bt) & octets_same(a, b, at + end, bt + end);
-    }
-    equal_len(a, b, at, bt, w)
+    let end = i + (W - 8);
+    (load::<8>(x, i) == load::<8>(y, i)) & (load::<8>(x, end) == load::<8>(y, end))
 }
 
-// Of n elements of w bytes at two places, at most 64, those whose bit is set are the same. There is no way out of the loop.
-fn valid_same(a: &[u8], b: &[u8], at: usize, bt: usize, w: usize, bits: usize, n: usize) -> bool
-    requires { (n ≤ 64) × (at + n * w ≤ length a.now) × (bt + n * w ≤ length b.now) }
-    ensures { result ≡ all (valid_same bits a.now b.now w at bt) 0 0 n }
+// Of n elements of W bytes, at most 64, those whose bit is set are the same. There is no way out of the loop.
+fn valid_same<const W: usize>(x: &[u8], y: &[u8], bits: usize, n: usize) -> bool
+    requires { (W ≤ 16) × (n ≤ 64) × (n * W ≤ length x.now) × (n * W ≤ length y.now) }
+    ensures { result ≡ all (valid_same bits x.now y.now W) 0 0 n }
 {
     let mut same = true;
-    let mut h: usize = 0;
-    while h < n {
+    for h in 0..n {
         let null = (bits >> h) % 2 != 1;
-        same = same & (null | element_same(a, b, at + h * w, bt + h * w, w));
-        h += 1;
+        same = same & (null | number_same::<W>(x, y, h * W));
     }
     same
 }
 
+// The same of elements of any width.
+fn valid_bytes(x: &[u8], y: &[u8], w: usize, bits: usize, n: usize) -> bool
+    requires { (n ≤ 64) × (n * w ≤ length x.now) × (n * w ≤ length y.now) }
+    ensures { result ≡ all (valid_same bits x.now y.now w) 0 0 n }
+{
+    for h in 0..n {
+        if (bits >> h) % 2 == 1 {
+            if x[h * w..h * w + w] != y[h * w..h * w + w] {
+                return false;
+            }
+        }
+    }
+    true
+}
+
 // The same, with a loop of its own for each of the widths that gain by it.
-fn valid_equal(a: &[u8], b: &[u8], at: usize, bt: usize, w: usize, bits: usize, n: usize) -> bool
-    requires { (n ≤ 64) × (at + n * w ≤ length a.now) × (bt + n * w ≤ length b.now) }
-    ensures { result ≡ all (valid_same bits a.now b.now w at bt) 0 0 n }
+fn valid_equal(x: &[u8], y: &[u8], w: usize, bits: usize, n: usize) -> bool
+    requires { (n ≤ 64) × (n * w ≤ length x.now) × (n * w ≤ length y.now) }
+    ensures { result ≡ all (valid_same bits x.now y.now w) 0 0 n }
 {
-    if w == 8 {
-        return valid_same(a, b, at, bt, 8, bits, n);
+    match w {
+        1 => valid_same::<1>(x, y, bits, n),
+        2 => valid_same::<2>(x, y, bits, n),
+        4 => valid_same::<4>(x, y, bits, n),
+        8 => valid_same::<8>(x, y, bits, n),
+        16 => valid_same::<16>(x, y, bits, n),
+        _ => valid_bytes(x, y, w, bits, n),
     }
-    if w == 4 {
-        return valid_same(a, b, at, bt, 4, bits, n);
-    }
-    if w == 2 {
-        return valid_same(a, b, at, bt, 2, bits, n);
-    }
-    if w == 1 {
-        return valid_same(a, b, at, bt, 1, bits, n);
-    }
-    valid_same(a, b, at, bt, w, bits, n)
 }
 
-// What is read once of two nodes: the width of their elements, where those of row 0 start, and the left bitmap and its bit
-// of row 0.
-#[derive(Clone, Copy)]
-pub struct Columns {
-    pub width: usize,
-    pub left: usize,
-    pub right: usize,
-    pub place: usize,
-    pub first: usize,
-}
-
-pub fn columns_of(a: &[u8], an: u32, b: &[u8], bn: u32, s: usize, t: usize, n: usize) -> Columns
-    requires { Masked FixedWidth a.now b.now an bn s t n }
-    ensures { ColumnsAt a.now b.now an bn result }
+// What is read once of two nodes: how wide their elements are, and where those of row 0 stand.
+pub fn columns_of(pair: Pair, rows: Rows) -> Columns
+    requires { MaskedOf FixedWidth pair rows }
+    ensures { ColumnsOf pair.entry result }
 {
-    let width = element_width(a, an);
+    let width = pair.left.element_width();
     Columns {
         width: width,
-        left: first_place(a, an, width),
-        right: first_place(b, bn, width),
-        place: bitmap_place(a, an),
-        first: first_bit(a, an),
+        left: first_place(pair.left, width),
+        right: first_place(pair.right, width),
     }
 }
 
-// At most 64 rows from s and from t on.
-fn word_equal(
-    a: &[u8],
-    an: u32,
-    b: &[u8],
-    bn: u32,
-    columns: Columns,
-    s: usize,
-    t: usize,
-    n: usize,
-) -> bool
-    requires { (n ≤ 64) × (has_bitmap a.now an ≡ true) × ColumnsAt a.now b.now an bn columns × Masked FixedWidth a.now b.now an bn s t n }
-    ensures { result ≡ range_equal (masked_row fixed_row a.now an) (masked_row fixed_row b.now bn) s t n }
+// At most 64 rows, of which those are not null whose bit is set.
+fn word_equal(pair: Pair, columns: Columns, bits: usize, rows: Rows) -> bool
+    requires masked { (rows.count ≤ 64) × MaskedOf FixedWidth pair rows }
+    requires columns { ColumnsOf pair columns }
+    requires bits { MaskWord pair.left rows.left bits }
+    ensures { result ≡ equal_rows (masked_row fixed_row) pair.entry rows }
 {
     let width = columns.width;
-    let bits = word(a, columns.place, columns.first + s);
+    let size = rows.count * width;
+    let x = columns.left + rows.left * width;
+    let y = columns.right + rows.right * width;
     valid_equal(
-        a,
-        b,
-        columns.left + s * width,
-        columns.right + t * width,
+        &pair.left.image[x..x + size],
+        &pair.right.image[y..y + size],
         width,
         bits,
-        n,
+        rows.count,
     )
 }
 
-// Rows of which some are null: 64 at a time.
-fn words_equal(a: &[u8], an: u32, b: &[u8], bn: u32, s: usize, t: usize, n: usize) -> bool
-    requires { (has_bitmap a.now an ≡ true) × Masked FixedWidth a.now b.now an bn s t n }
-    ensures { result ≡ range_equal (masked_row fixed_row a.now an) (masked_row fixed_row b.now bn) s t n }
+// Rows of which some are null: 64 at a time, beside the left null mask from the first row on.
+fn words_equal(pair: Pair, mask: Bits, rows: Rows) -> bool
+    requires masked { MaskedOf FixedWidth pair rows }
+    requires mask { BitsOf pair.left rows.left mask }
+    ensures { result ≡ equal_rows (masked_row fixed_row) pair.entry rows }
 {
-    let columns = columns_of(a, an, b, bn, s, t, n);
-    let mut k: usize = 0;
-    while WORD <= n - k {
-        if !word_equal(a, an, b, bn, columns, s + k, t + k, WORD) {
+    let n = rows.count;
+    let columns = columns_of(pair, rows);
+    for h in 0..n / WORD {
+        let k = 64 * h;
+        if !word_equal(pair, columns, mask.word(k), rows.part(k, WORD)) {
             return false;
         }
-        k += WORD;
     }
-    word_equal(a, an, b, bn, columns, s + k, t + k, n - k)
+    let k = 64 * (n / WORD);
+    word_equal(pair, columns, mask.word(k), rows.part(k, n - k))
 }
 
 // A chunk of rows: where not all bytes are the same, those of the rows that are not null.
-pub fn chunk_equal(a: &[u8], an: u32, b: &[u8], bn: u32, s: usize, t: usize, n: usize) -> bool
-    requires { Masked FixedWidth a.now b.now an bn s t n }
-    ensures { result ≡ range_equal (masked_row fixed_row a.now an) (masked_row fixed_row b.now bn) s t n }
+pub fn chunk_equal(pair: Pair, rows: Rows) -> bool
+    requires { MaskedOf FixedWidth pair rows }
+    ensures { result ≡ equal_rows (masked_row fixed_row) pair.entry rows }
 {
-    if block_equal(a, an, b, bn, s, t, n) {
+    if block_equal(pair, rows) {
         return true;
     }
-    if !has_bitmap(a, an) {
-        return false;
+    match validity(pair.left, rows.left) {
+        None => false,
+        Some(mask) => words_equal(pair, mask, rows),
     }
-    words_equal(a, an, b, bn, s, t, n)
 }
 
 // Rows with nulls, where the null masks agree: chunk by chunk. Only one null mask is looked at, for that reason.
-pub fn masked_equal(a: &[u8], an: u32, b: &[u8], bn: u32, s: usize, t: usize, n: usize) -> bool
-    requires { Masked FixedWidth a.now b.now an bn s t n }
-    ensures { result ≡ range_equal (masked_row fixed_row a.now an) (masked_row fixed_row b.now bn) s t n }
+pub fn masked_equal(pair: Pair, rows: Rows) -> bool
+    requires { MaskedOf FixedWidth pair rows }
+    ensures { result ≡ equal_rows (masked_row fixed_row) pair.entry rows }
 {
-    let mut k: usize = 0;
-    while CHUNK <= n - k {
-        if !chunk_equal(a, an, b, bn, s + k, t + k, CHUNK) {
+    let n = rows.count;
+    for h in 0..n / CHUNK {
+        if !chunk_equal(pair, rows.part(1024 * h, CHUNK)) {
             return false;
         }
-        k += CHUNK;
     }
-    chunk_equal(a, an, b, bn, s + k, t + k, n - k)
+    let k = 1024 * (n / CHUNK);
+    chunk_equal(pair, rows.part(k, n - k))
 }

@@ -1,52 +1,51 @@
 // Runs of two run-end encoded nodes that end together. Translated from src/equal/run.rs of arrow-data 60.1.0
 // (Apache-2.0).
-ghost use Rattle.std.specs.Prelude.{◌≡◌, true, ◌-◌, ◌<◌};
-ghost use Rattle.values.specs.Parts.{RunRange, SameEnds, RunParts, Together};
+ghost use Rattle.std.specs.Prelude.{◌≡◌, true};
+ghost use Rattle.values.specs.Parts.{RunRange};
+ghost use Rattle.values.specs.Pair.{SameEndsOf, RunPartsOf, TogetherOf};
 
+use crate::pair::{Pair, Rows};
 use crate::primitive::elements_equal;
 use accepted::runs::run_of;
-use image::element::element_width;
-use image::record::{first_child, offset};
 
-// The ends of m runs from i and from j on are the same, as one block of bytes.
-fn ends_same(a: &[u8], an: u32, b: &[u8], bn: u32, i: usize, j: usize, m: usize) -> bool
-    requires run_range { RunRange a.now an i m }
-    requires run_range_2 { RunRange b.now bn j m }
-    ensures { result ≡ true → SameEnds a.now b.now an bn i j m }
+// The ends of two ranges of runs are the same, as one block of bytes.
+fn ends_same(pair: Pair, runs: Rows) -> bool
+    requires left { RunRange pair.left.image.now pair.left.number runs.left runs.count }
+    requires right { RunRange pair.right.image.now pair.right.number runs.right runs.count }
+    ensures { result ≡ true → SameEndsOf pair.entry runs }
 {
-    let x = first_child(a, an);
-    let y = first_child(b, bn);
-    if element_width(a, x) != element_width(b, y) {
+    let ends = pair.child(0);
+    if ends.left.element_width() != ends.right.element_width() {
         return false;
     }
-    elements_equal(a, x, b, y, offset(a, x) + i, offset(b, y) + j, m)
+    let rows = Rows {
+        left: ends.left.offset() + runs.left,
+        right: ends.right.offset() + runs.right,
+        count: runs.count,
+    };
+    elements_equal(ends, rows)
 }
 
-// How many runs hold the n elements from s and from t on, i and j the first of them, where those of both sides end
-// together; 0 where they do not.
-pub fn same_runs(
-    a: &[u8],
-    an: u32,
-    b: &[u8],
-    bn: u32,
-    s: usize,
-    t: usize,
-    n: usize,
-    i: usize,
-    j: usize,
-) -> usize
-    requires { RunParts a.now b.now an bn s t n i j }
-    ensures { 0 < result → Together a.now b.now an bn s t n i j (result - 1) }
+// How many runs hold the elements of two ranges, i and j the first of them, where those of both sides end together.
+pub fn same_runs(pair: Pair, rows: Rows, i: usize, j: usize) -> Option<usize>
+    requires { RunPartsOf pair rows i j }
+    ensures { TogetherOf pair.entry rows i j result }
 {
-    if s != t {
-        return 0;
+    if rows.left != rows.right {
+        return None;
     }
-    let m = run_of(a, an, s + (n - 1)) - i;
-    if run_of(b, bn, t + (n - 1)) - j != m {
-        return 0;
+    let last = rows.count - 1;
+    let m = run_of(pair.left, rows.left + last) - i;
+    if run_of(pair.right, rows.right + last) - j != m {
+        return None;
     }
-    if !ends_same(a, an, b, bn, i, j, m) {
-        return 0;
+    let runs = Rows {
+        left: i,
+        right: j,
+        count: m,
+    };
+    if !ends_same(pair, runs) {
+        return None;
     }
-    m + 1
+    Some(m + 1)
 }

@@ -3,99 +3,103 @@
 ghost use Rattle.std.specs.Prelude.{◌≡◌, not, ◌||◌, eqb};
 ghost use Rattle.std.specs.Bool.{beq};
 ghost use Rattle.image.specs.Record.{id_of, nullable};
-ghost use Rattle.image.specs.Types.{same_bytes, name_of, labels_agree, heads_agree, types_agree_at};
+ghost use Rattle.image.specs.Types.{same_bytes, name_of, labels_agree, heads_agree, types_agree_at, types_agree};
+ghost use Rattle.values.specs.Pair.{agree};
 
+use crate::pair::Pair;
 use image::labels::Counted;
-use image::names::name_is;
-use image::record::{
-    child_count, code, first_child, is_nullable, name_length, name_place, p1, p2, type_id,
-};
+use image::record::MAX_DEPTH;
 use image::type_code::TypeCode;
 
 // The names of two nodes are the same, where they count.
-fn name_agrees(a: &[u8], b: &[u8], i: u32, j: u32, counts: bool) -> bool
-    ensures { result ≡ (not counts || same_bytes (name_of a.now i) (name_of b.now j)) }
+fn name_agrees(pair: Pair, counts: bool) -> bool
+    ensures { result ≡ (not counts || same_bytes (name_of pair.entry.left.image.now pair.entry.left.number) (name_of pair.entry.right.image.now pair.entry.right.number)) }
 {
     if !counts {
         return true;
     }
-    name_is(a, i, b, name_place(b, j), name_length(b, j))
+    let right = pair.right;
+    pair.left
+        .name_is(right.image, right.name_place(), right.name_length())
 }
 
 // The nullable flags of two nodes are the same, where they count.
-fn flag_agrees(a: &[u8], b: &[u8], i: u32, j: u32, counts: bool) -> bool
-    ensures { result ≡ (not counts || beq (nullable a.now i) (nullable b.now j)) }
+fn flag_agrees(pair: Pair, counts: bool) -> bool
+    ensures { result ≡ (not counts || beq (nullable pair.entry.left.image.now pair.entry.left.number) (nullable pair.entry.right.image.now pair.entry.right.number)) }
 {
     if !counts {
         return true;
     }
-    is_nullable(a, i) == is_nullable(b, j)
+    pair.left.is_nullable() == pair.right.is_nullable()
 }
 
 // The type ids of two nodes are the same, where they count.
-fn id_agrees(a: &[u8], b: &[u8], i: u32, j: u32, counts: bool) -> bool
-    ensures { result ≡ (not counts || eqb (id_of a.now i) (id_of b.now j)) }
+fn id_agrees(pair: Pair, counts: bool) -> bool
+    ensures { result ≡ (not counts || eqb (id_of pair.entry.left.image.now pair.entry.left.number) (id_of pair.entry.right.image.now pair.entry.right.number)) }
 {
     if !counts {
         return true;
     }
-    type_id(a, i) == type_id(b, j)
+    pair.left.type_id() == pair.right.type_id()
 }
 
 // What counts of two children agrees.
-fn labels_equal(a: &[u8], b: &[u8], i: u32, j: u32, counted: Counted) -> bool
-    ensures { result ≡ labels_agree counted a.now b.now i j }
+fn labels_equal(pair: Pair, counted: Counted) -> bool
+    ensures { result ≡ agree (labels_agree counted) pair.entry }
 {
-    if !name_agrees(a, b, i, j, counted.name) {
+    if !name_agrees(pair, counted.name) {
         return false;
     }
-    if !flag_agrees(a, b, i, j, counted.flag) {
+    if !flag_agrees(pair, counted.flag) {
         return false;
     }
-    id_agrees(a, b, i, j, counted.id)
+    id_agrees(pair, counted.id)
 }
 
 // Codes, parameters and child counts of two nodes agree.
-fn heads_equal(a: &[u8], b: &[u8], i: u32, j: u32) -> bool
-    ensures { result ≡ heads_agree a.now b.now i j }
+fn heads_equal(pair: Pair) -> bool
+    ensures { result ≡ agree heads_agree pair.entry }
 {
-    if code(a, i) != code(b, j) {
+    if pair.left.code() != pair.right.code() {
         return false;
     }
-    if p1(a, i) != p1(b, j) {
+    if pair.left.p1() != pair.right.p1() {
         return false;
     }
-    if p2(a, i) != p2(b, j) {
+    if pair.left.p2() != pair.right.p2() {
         return false;
     }
-    child_count(a, i) == child_count(b, j)
+    pair.left.child_count() == pair.right.child_count()
 }
 
 // The types of two nodes agree, down to the given depth; `entries` says whether the nodes are the entries of a Map.
-pub fn types_equal(a: &[u8], b: &[u8], i: u32, j: u32, entries: bool, depth: usize) -> bool
-    ensures { result ≡ types_agree_at depth entries a.now b.now i j }
+pub fn types_equal(pair: Pair, entries: bool, depth: usize) -> bool
+    ensures { result ≡ agree (types_agree_at depth entries) pair.entry }
 {
     if depth == 0 {
         return true;
     }
-    if !heads_equal(a, b, i, j) {
+    if !heads_equal(pair) {
         return false;
     }
-    let c = code(a, i);
-    let counted = Counted::below(c, entries);
-    let map = c == TypeCode::MAP;
-    let count = child_count(a, i);
-    let x = first_child(a, i);
-    let y = first_child(b, j);
-    let mut k: u32 = 0;
-    while k < count {
-        if !labels_equal(a, b, x + k, y + k, counted) {
+    let code = pair.left.code();
+    let counted = Counted::below(code, entries);
+    let map = code == TypeCode::MAP;
+    for k in 0..pair.left.child_count() {
+        let child = pair.child(k);
+        if !labels_equal(child, counted) {
             return false;
         }
-        if !types_equal(a, b, x + k, y + k, map, depth - 1) {
+        if !types_equal(child, map, depth - 1) {
             return false;
         }
-        k += 1;
     }
     true
+}
+
+// The types of two tables agree.
+pub fn same_types(a: &[u8], b: &[u8]) -> bool
+    ensures { result ≡ types_agree a.now b.now }
+{
+    types_equal(Pair::roots(a, b), false, MAX_DEPTH)
 }

@@ -19,9 +19,9 @@ returns-in_err-bounds_of c =
     let p = err_from_is_err_and c.from_residual-in_err-bounds_of.result c.from_residual-in_err-bounds_of.ensures.1 in
     rw (p.1, p.2, ← c.paired.ensures, c.in_ok-paired.was, ← c.bounds_of.ensures, c.in_err-bounds_of.was)
 
-pub equal_range-requires : goal.equal_range-requires
-equal_range-requires c = range_sides _ _ _ _ _ (sym c.paired.ensures ∙ c.in_ok-paired.was) (sym c.bounds_of.ensures ∙ c.in_ok-bounds_of.was)
+pub rows_equal-requires : goal.rows_equal-requires
+rows_equal-requires c = range_sides _ _ _ _ _ (sym c.paired.ensures ∙ c.in_ok-paired.was) (sym c.bounds_of.ensures ∙ c.in_ok-bounds_of.was)
 
 pub returns : goal.returns
 unfolding compare_range_answer
-returns c = rw (← c.paired.ensures, c.in_ok-paired.was, ← c.bounds_of.ensures, c.in_ok-bounds_of.was, ← table_answer _ _ _ _ _, ← c.equal_range.ensures)
+returns c = rw (← c.paired.ensures, c.in_ok-paired.was, ← c.bounds_of.ensures, c.in_ok-bounds_of.was, ← table_answer _ _ _ _ _, ← c.rows_equal.ensures)

@@ -2,7 +2,6 @@
 -- By rewriting with what the callees give.
 use Rattle.std.proofs.lemmas.Result.{err_from_is_err_and}
 use Rattle.answers.specs.Answers.{paired_of}
-use Rattle.image.specs.Types.{types_agree}
 use Rattle.api.proofs.paired.Goals as goal
 
 pub returns-in_err-check_side : goal.returns-in_err-check_side
@@ -17,10 +16,10 @@ returns-in_err-check_side-2 c =
     let p = err_from_is_err_and c.from_residual-in_err-check_side-2.result c.from_residual-in_err-check_side-2.ensures.1 in
     rw (p.1, p.2, ← c.check_side.ensures, c.in_ok-check_side.was, ← c.check_side-2.ensures, c.in_err-check_side-2.was)
 
-pub returns-then-not-types_equal : goal.returns-then-not-types_equal
-unfolding paired_of types_agree
-returns-then-not-types_equal c = rw (← c.check_side.ensures, c.in_ok-check_side.was, ← c.check_side-2.ensures, c.in_ok-check_side-2.was, ← c.types_equal.ensures, c.if-not-types_equal.true)
+pub returns-then-not-same_types : goal.returns-then-not-same_types
+unfolding paired_of
+returns-then-not-same_types c = rw (← c.check_side.ensures, c.in_ok-check_side.was, ← c.check_side-2.ensures, c.in_ok-check_side-2.was, ← c.same_types.ensures, c.if-not-same_types.true)
 
 pub returns : goal.returns
-unfolding paired_of types_agree
-returns c = rw (← c.check_side.ensures, c.in_ok-check_side.was, ← c.check_side-2.ensures, c.in_ok-check_side-2.was, ← c.types_equal.ensures, c.if-not-types_equal.false)
+unfolding paired_of
+returns c = rw (← c.check_side.ensures, c.in_ok-check_side.was, ← c.check_side-2.ensures, c.in_ok-check_side-2.was, ← c.same_types.ensures, c.if-not-same_types.false)

@@ -7,7 +7,7 @@ use Prim.Native.Nat.{◌-◌}
 use Rattle.difference.proofs.first_difference.Given as goal
 
 abbrev pub invariant-loop-k : goal.invariant-loop-k
-invariant-loop-k l = Passed (same_rows l.a l.b) l.s l.t l.n l.k
+invariant-loop-k l = Passed (same_rows l.a l.b) l.rows.left l.rows.right l.rows.count l.k
 
 abbrev pub decreases-loop-k : goal.decreases-loop-k
 decreases-loop-k l = l.n - l.k

@@ -5,17 +5,19 @@ use Rattle.equal.proofs.Nulls.{sides_left, sides_right}
 use Rattle.difference.proofs.Search.{between_up, between_down, between_none, first_row, rows_said, rows_between, nulls_between, sides_inside}
 use native.Mathlib.Omega.{arith}
 use Rattle.difference.proofs.first_unequal_row.Goals as goal
-use Rattle.difference.proofs.first_unequal_row.Goals.{then-null-n, else-null-n}
+use Rattle.difference.proofs.first_unequal_row.Goals.{then-null-rows, else-null-rows}
 
 pub first_unequal_null-null-requires : goal.first_unequal_null-null-requires
-first_unequal_null-null-requires c = (omega (arith, sides_left c.requires.sides), omega (arith, sides_right c.requires.sides))
+first_unequal_null-null-requires c = record { left = omega (arith, sides_left c.requires.sides); right = omega (arith, sides_right c.requires.sides) }
 
 pub overflow_add-high : goal.overflow_add-high
-overflow_add-high c = omega (arith, c.if-null-n.true, sides_left c.requires.sides)
+overflow_add-high c = omega (arith, c.if-null-rows.true, sides_left c.requires.sides)
 
 pub loop-high-init : goal.loop-high-init
 loop-high-init c =
-    elim c.if-null-n.branch [ then-null-n w ↦ rw w.high-is (nulls_between c.requires.sides c.first_unequal_null-null.ensures w.if-null-n.true) | else-null-n w ↦ rw w.high-is (rows_between _ _ _ _ _ c.requires.n_value) ]
+    let roots = c.roots.ensures in
+    let null = rw (roots.left_image, roots.left_root, roots.right_image, roots.right_root) at c.first_unequal_null-null.ensures in
+    elim c.if-null-rows.branch [ then-null-rows w ↦ rw w.high-is (nulls_between c.requires.sides null w.if-null-rows.true) | else-null-rows w ↦ rw w.high-is (rows_between _ _ _ _ _ c.requires.unequal) ]
 
 pub overflow_sub-high : goal.overflow_sub-high
 overflow_sub-high c = omega (arith, c.loop-high.invariant.below)
@@ -26,29 +28,30 @@ overflow_sub-middle c = omega (arith, c.loop-high.invariant.below)
 pub overflow_add-middle : goal.overflow_add-middle
 overflow_add-middle c = omega (arith, c.loop-high.invariant.below, c.loop-high.invariant.within, sides_left c.requires.sides)
 
-pub overflow_add-s : goal.overflow_add-s
-overflow_add-s c = omega (arith, c.loop-high.invariant.below, c.loop-high.invariant.within, sides_left c.requires.sides)
-
-pub overflow_add-t : goal.overflow_add-t
-overflow_add-t c = omega (arith, c.loop-high.invariant.below, c.loop-high.invariant.within, sides_right c.requires.sides)
+pub part-requires : goal.part-requires
+part-requires c = omega (arith, c.loop-high.invariant.below, c.loop-high.invariant.within, sides_left c.requires.sides, sides_right c.requires.sides)
 
 pub overflow_sub-middle-in-loop-high : goal.overflow_sub-middle-in-loop-high
 overflow_sub-middle-in-loop-high c = omega (arith, c.loop-high.invariant.below)
 
-pub equal_range-requires : goal.equal_range-requires
-equal_range-requires c = sides_inside c.requires.sides _ _ (omega (arith, c.loop-high.invariant.below, c.loop-high.invariant.within))
+pub rows_equal-requires : goal.rows_equal-requires
+rows_equal-requires c = rw c.part.ensures (sides_inside c.requires.sides _ _ (omega (arith, c.loop-high.invariant.below, c.loop-high.invariant.within)))
 
-pub loop-high-smaller-then-equal_range : goal.loop-high-smaller-then-equal_range
-loop-high-smaller-then-equal_range c = omega (arith, c.loop-high.invariant.below, c.loop-high-test.true)
+pub loop-high-smaller-then-rows_equal : goal.loop-high-smaller-then-rows_equal
+loop-high-smaller-then-rows_equal c = omega (arith, c.loop-high.invariant.below, c.loop-high-test.true)
 
-pub loop-high-preserved-then-equal_range : goal.loop-high-preserved-then-equal_range
-loop-high-preserved-then-equal_range c = between_up _ _ _ _ c.loop-high.invariant (omega (arith, c.loop-high-test.true)) (omega (arith, c.loop-high-test.true)) (rows_said _ _ _ _ _ c.equal_range.ensures c.if-equal_range.true)
+pub loop-high-preserved-then-rows_equal : goal.loop-high-preserved-then-rows_equal
+loop-high-preserved-then-rows_equal c =
+    let same = rw c.part.ensures at c.rows_equal.ensures in
+    between_up _ _ _ _ c.loop-high.invariant (omega (arith, c.loop-high-test.true)) (omega (arith, c.loop-high-test.true)) (rows_said _ _ _ _ _ same c.if-rows_equal.true)
 
 pub loop-high-smaller : goal.loop-high-smaller
 loop-high-smaller c = omega (arith, c.loop-high.invariant.below, c.loop-high-test.true)
 
 pub loop-high-preserved : goal.loop-high-preserved
-loop-high-preserved c = between_down _ _ _ _ c.loop-high.invariant (omega (arith, c.loop-high-test.true)) (omega (arith, c.loop-high-test.true)) (rows_said _ _ _ _ _ c.equal_range.ensures c.if-equal_range.false)
+loop-high-preserved c =
+    let same = rw c.part.ensures at c.rows_equal.ensures in
+    between_down _ _ _ _ c.loop-high.invariant (omega (arith, c.loop-high-test.true)) (omega (arith, c.loop-high-test.true)) (rows_said _ _ _ _ _ same c.if-rows_equal.false)
 
 pub returns : goal.returns
 returns c = between_none _ _ _ _ c.loop-high.invariant (omega (arith, c.loop-high-test.false)) ∙ first_row _ _ _ _ _

@@ -6,7 +6,7 @@ use Prim.Native.Nat.{◌-◌}
 use Rattle.difference.proofs.first_unequal_row.Given as goal
 
 abbrev pub invariant-loop-high : goal.invariant-loop-high
-invariant-loop-high l = Between (same_rows l.a l.b) l.s l.t l.n l.low l.high
+invariant-loop-high l = Between (same_rows l.a l.b) l.rows.left l.rows.right l.rows.count l.low l.high
 
 abbrev pub decreases-loop-high : goal.decreases-loop-high
 decreases-loop-high l = l.high - l.low

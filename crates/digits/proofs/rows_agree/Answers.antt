@@ -8,28 +8,22 @@ use native.Mathlib.Omega.{arith}
 use Rattle.digits.proofs.rows_agree.Goals as goal
 
 pub loop-k-init : goal.loop-k-init
-loop-k-init c = left_none _ _ _ _
+loop-k-init g c = left_none _ _ _ _
 
-pub overflow_add-s : goal.overflow_add-s
-overflow_add-s c = omega (arith, c.loop-k-test.true, side_small _ _ _ _ c.requires.numbers.0.rows.left)
+pub overflow_add-rows : goal.overflow_add-rows
+overflow_add-rows g c = omega (arith, c.loop-k-test.true, side_small _ _ _ _ c.requires.numbers.0.rows.left)
 
-pub overflow_add-t : goal.overflow_add-t
-overflow_add-t c = omega (arith, c.loop-k-test.true, side_small _ _ _ _ c.requires.numbers.0.rows.right)
+pub overflow_add-rows-in-loop-k : goal.overflow_add-rows-in-loop-k
+overflow_add-rows-in-loop-k g c = omega (arith, c.loop-k-test.true, side_small _ _ _ _ c.requires.numbers.0.rows.right)
 
 pub row_agrees-requires : goal.row_agrees-requires
-row_agrees-requires c = record { numbers = (numbers_row c.requires.numbers.0 c.loop-k-test.true, c.requires.numbers.1); columned = c.requires.columned }
+row_agrees-requires g c = record { numbers = (numbers_row c.requires.numbers.0 c.loop-k-test.true, c.requires.numbers.1); columned = c.requires.columned }
 
 pub returns-then-not-row_agrees : goal.returns-then-not-row_agrees
-returns-then-not-row_agrees c = left_fails _ _ _ _ _ c.loop-k-test.true c.loop-k.invariant (sym c.row_agrees.ensures ∙ c.if-not-row_agrees.true)
-
-pub overflow_add-k : goal.overflow_add-k
-overflow_add-k c = omega (arith, c.loop-k-test.true, side_small _ _ _ _ c.requires.numbers.0.rows.left)
-
-pub loop-k-smaller : goal.loop-k-smaller
-loop-k-smaller c = omega (arith, c.loop-k-test.true)
+returns-then-not-row_agrees g c = left_fails _ _ _ _ _ c.loop-k-test.true c.loop-k.invariant (sym c.row_agrees.ensures ∙ c.if-not-row_agrees.true)
 
 pub loop-k-preserved : goal.loop-k-preserved
-loop-k-preserved c = left_more _ _ _ _ _ c.loop-k-test.true c.loop-k.invariant (sym c.row_agrees.ensures ∙ c.if-not-row_agrees.false)
+loop-k-preserved g c = left_more _ _ _ _ _ c.loop-k-test.true c.loop-k.invariant (sym c.row_agrees.ensures ∙ c.if-not-row_agrees.false)
 
 pub returns : goal.returns
-returns c = left_done _ _ _ _ _ c.loop-k-test.false c.loop-k.invariant
+returns g c = left_done _ _ _ _ _ c.loop-k-test.false c.loop-k.invariant

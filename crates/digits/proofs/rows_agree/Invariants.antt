@@ -1,12 +1,8 @@
 -- `rows_agree` compares row by row.
 -- The loop keeps that what is left to look at gives the answer; the measure is how much is left.
-use Prim.Native.Nat.{◌-◌}
 use Rattle.image.specs.Digits.{kept_agree}
 use Rattle.values.proofs.Steps.{Left}
 use Rattle.digits.proofs.rows_agree.Given as goal
 
 abbrev pub invariant-loop-k : goal.invariant-loop-k
-invariant-loop-k l = Left (kept_agree l.p l.a l.b) l.s l.t l.n l.k
-
-abbrev pub decreases-loop-k : goal.decreases-loop-k
-decreases-loop-k l = l.n - l.k
+invariant-loop-k g l = Left (kept_agree l.p l.a l.b) l.rows.left l.rows.right l.rows.count l.k

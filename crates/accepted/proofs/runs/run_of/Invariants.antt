@@ -5,7 +5,7 @@ use Prim.Native.Nat.{◌-◌}
 use Rattle.accepted.proofs.runs.run_of.Given as goal
 
 abbrev pub invariant-loop-low : goal.invariant-loop-low
-invariant-loop-low l = Bisect l.s l.node l.j l.low l.high
+invariant-loop-low l = Bisect l.node.image.now l.node.number l.j l.low l.high
 
 abbrev pub decreases-loop-low : goal.decreases-loop-low
 decreases-loop-low l = l.high - l.low

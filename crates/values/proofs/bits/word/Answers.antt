@@ -6,10 +6,10 @@ use native.Mathlib.Omega.{arith}
 use Rattle.values.proofs.bits.word.Goals as goal
 
 pub returns-then-shift-eq0 : goal.returns-then-shift-eq0
-returns-then-shift-eq0 c = word_whole _ (λ k. omega (arith, c.shared_slice_known-1.given k)) _ _ c.le64-low.ensures c.if-shift-eq0.true
+returns-then-shift-eq0 c = word_whole _ (λ k. omega (arith, c.type_inv.s k)) _ _ c.le-low.ensures c.if-shift-eq0.true
 
 pub overflow_add-result : goal.overflow_add-result
-overflow_add-result c = omega (arith, word_fits _ (λ k. omega (arith, c.shared_slice_known-1.given k)) _ _ c.le64-low.ensures c.wide-high.result)
+overflow_add-result c = omega (arith, word_fits _ (λ k. omega (arith, c.type_inv.s k)) _ _ c.le-low.ensures c.from.result)
 
 pub returns : goal.returns
-returns c = word_split _ (λ k. omega (arith, c.shared_slice_known-1.given k)) _ _ c.le64-low.ensures (c.wide-high.ensures.value ∙ c.byte.ensures.value)
+returns c = word_split _ (λ k. omega (arith, c.type_inv.s k)) _ _ c.le-low.ensures (c.from.ensures ∙ c.byte.ensures.value)

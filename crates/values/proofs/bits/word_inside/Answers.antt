@@ -4,11 +4,14 @@ use Rattle.values.proofs.Words.{word_whole, word_split, word_fits}
 use native.Mathlib.Omega.{arith}
 use Rattle.values.proofs.bits.word_inside.Goals as goal
 
+pub load-low-requires : goal.load-low-requires
+load-low-requires c = (omega arith, omega (arith, c.requires))
+
 pub returns-then-shift-eq0 : goal.returns-then-shift-eq0
-returns-then-shift-eq0 c = word_whole _ (λ k. omega (arith, c.shared_slice_known-1.given k)) _ _ c.octet-low.ensures c.if-shift-eq0.true
+returns-then-shift-eq0 c = word_whole _ (λ k. omega (arith, c.type_inv.s k)) _ _ c.load-low.ensures c.if-shift-eq0.true
 
 pub overflow_add-result : goal.overflow_add-result
-overflow_add-result c = omega (arith, word_fits _ (λ k. omega (arith, c.shared_slice_known-1.given k)) _ _ c.octet-low.ensures c.wide.result)
+overflow_add-result c = omega (arith, word_fits _ (λ k. omega (arith, c.type_inv.s k)) _ _ c.load-low.ensures c.from.result)
 
 pub returns : goal.returns
-returns c = word_split _ (λ k. omega (arith, c.shared_slice_known-1.given k)) _ _ c.octet-low.ensures c.wide.ensures.value
+returns c = word_split _ (λ k. omega (arith, c.type_inv.s k)) _ _ c.load-low.ensures c.from.ensures

@@ -6,14 +6,14 @@ use Rattle.image.specs.Row.{view_row}
 use Rattle.values.proofs.MaskedRows.{elements_masked, elements_rows}
 use Rattle.values.proofs.byte_view.byte_view_equal.Goals as goal
 
-pub overflow_sub-s : goal.overflow_sub-s
-overflow_sub-s c = omega (arith, c.offset.ensures.value, c.requires.parts.left.low)
+pub overflow_sub-rows : goal.overflow_sub-rows
+overflow_sub-rows c = omega (arith, c.offset.ensures.value, c.requires.parts.left.low)
 
-pub overflow_sub-t : goal.overflow_sub-t
-overflow_sub-t c = omega (arith, c.offset-2.ensures.value, c.requires.parts.right.low)
+pub overflow_sub-rows-2 : goal.overflow_sub-rows-2
+overflow_sub-rows-2 c = omega (arith, c.offset-2.ensures.value, c.requires.parts.right.low)
 
 pub masked_views_equal-requires : goal.masked_views_equal-requires
-masked_views_equal-requires c = rw (c.offset.ensures.value, c.offset-2.ensures.value) (elements_masked c.requires.parts c.requires.an_value)
+masked_views_equal-requires c = rw (c.offset.ensures.value, c.offset-2.ensures.value) (elements_masked c.requires.parts c.requires.layout)
 
 pub returns : goal.returns
 returns c = c.masked_views_equal.ensures ∙ rw (c.offset.ensures.value, c.offset-2.ensures.value) (elements_rows c.requires.parts view_row)

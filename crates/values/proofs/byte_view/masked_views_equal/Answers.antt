@@ -32,14 +32,14 @@ overflow_add-y-2 c = omega (arith, side_small _ _ _ _ c.requires.right, c.buffer
 pub loop-k-init : goal.loop-k-init
 loop-k-init c = (first_view _ _ _ c.buffer_place.ensures c.offset.ensures, first_view _ _ _ c.buffer_place-2.ensures c.offset-2.ensures, left_none _ _ _ _)
 
-pub overflow_add-s : goal.overflow_add-s
-overflow_add-s c = omega (arith, c.loop-k-test.true, side_small _ _ _ _ c.requires.left)
+pub overflow_add-rows : goal.overflow_add-rows
+overflow_add-rows c = omega (arith, c.loop-k-test.true, side_small _ _ _ _ c.requires.left)
 
 pub is_kept-requires : goal.is_kept-requires
-is_kept-requires c = (c.mask_of-mask.ensures, omega (arith, c.loop-k-test.true, side_small _ _ _ _ c.requires.left))
+is_kept-requires c = (c.bitmap-bitmap.ensures, omega (arith, c.loop-k-test.true, side_small _ _ _ _ c.requires.left))
 
 pub view_equal-requires : goal.view_equal-requires
-view_equal-requires c = record { viewed = (row_views c.requires c.loop-k-test.true (sym c.is_kept.ensures ∙ c.if-is_kept.true) c.loop-k.invariant.0 c.loop-k.invariant.1).left; viewed_2 = (row_views c.requires c.loop-k-test.true (sym c.is_kept.ensures ∙ c.if-is_kept.true) c.loop-k.invariant.0 c.loop-k.invariant.1).right; ea_value = (entries_read _ _ _ c.node_entry-ea.ensures, entries_read _ _ _ c.node_entry-eb.ensures) }
+view_equal-requires c = (record { viewed = (row_views c.requires c.loop-k-test.true (sym c.is_kept.ensures ∙ c.if-is_kept.true) c.loop-k.invariant.0 c.loop-k.invariant.1).left; entries = entries_read _ _ _ c.node_entry-ea.ensures }, record { viewed = (row_views c.requires c.loop-k-test.true (sym c.is_kept.ensures ∙ c.if-is_kept.true) c.loop-k.invariant.0 c.loop-k.invariant.1).right; entries = entries_read _ _ _ c.node_entry-eb.ensures })
 
 pub returns-then-not-view_equal : goal.returns-then-not-view_equal
 returns-then-not-view_equal c = left_fails _ _ _ _ _ c.loop-k-test.true c.loop-k.invariant.2 (row_are c.requires c.loop-k-test.true (sym c.is_kept.ensures ∙ c.if-is_kept.true) c.loop-k.invariant.0 c.loop-k.invariant.1 c.view_equal.ensures ∙ c.if-not-view_equal.true) ∙ by_rows _ _ _ _ _

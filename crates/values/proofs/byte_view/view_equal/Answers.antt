@@ -1,27 +1,25 @@
 -- The answer is whether the views have the same length and the same bytes.
 -- The laws of Views: by the lengths, by the twelve bytes of a short view or those that count, or by the bytes of a long one.
 use mathlib.Core.Path.{sym, ◌∙◌}
+use Rattle.values.proofs.Slices.{parts_same}
 use Rattle.values.proofs.Views.{sized_left, sized_right, lengths_differ, shown_are, short_are, short_same}
 use native.Mathlib.Omega.{arith}
 use Rattle.values.proofs.byte_view.view_equal.Goals as goal
 
-pub returns-then-len-quad : goal.returns-then-len-quad
-returns-then-len-quad c = lengths_differ c.requires.viewed c.requires.viewed_2 c.quad-len.ensures c.quad.ensures c.if-len-quad.true
+pub returns-then-len-load : goal.returns-then-len-load
+returns-then-len-load c = lengths_differ c.requires.0.viewed c.requires.1.viewed c.load-len.ensures c.load.ensures c.if-len-load.true
 
-pub returns-then-octets_equal : goal.returns-then-octets_equal
-returns-then-octets_equal c = short_same c.requires.viewed c.requires.viewed_2 c.quad-len.ensures c.quad.ensures c.if-len-quad.false c.if-len-le-INLINE_LENGTH.true (sym c.octets_equal.ensures ∙ c.if-octets_equal.true)
+pub returns-then-eq : goal.returns-then-eq
+returns-then-eq c = short_same c.requires.0.viewed c.requires.1.viewed c.load-len.ensures c.load.ensures c.if-len-load.false c.if-len-le-INLINE_LENGTH.true (sym (parts_same _ _ _ _ _ _ (omega (arith, c.requires.0.viewed.fits)) (omega (arith, c.requires.1.viewed.fits))) ∙ sym c.eq.ensures ∙ c.if-eq.true)
 
 pub returns-then-len-le-INLINE_LENGTH : goal.returns-then-len-le-INLINE_LENGTH
-returns-then-len-le-INLINE_LENGTH c = short_are c.requires.viewed c.requires.viewed_2 c.quad-len.ensures c.quad.ensures c.if-len-quad.false c.if-len-le-INLINE_LENGTH.true c.equal_len.ensures
+returns-then-len-le-INLINE_LENGTH c = short_are c.requires.0.viewed c.requires.1.viewed c.load-len.ensures c.load.ensures c.if-len-load.false c.if-len-le-INLINE_LENGTH.true (c.eq-then-len-le-INLINE_LENGTH.ensures ∙ parts_same _ _ _ _ _ _ (omega (arith, c.requires.0.viewed.fits, c.if-len-le-INLINE_LENGTH.true)) (omega (arith, c.requires.1.viewed.fits, c.if-len-le-INLINE_LENGTH.true)))
 
-pub long_place-requires : goal.long_place-requires
-long_place-requires c = record { viewed = sized_left c.requires.viewed c.requires.viewed_2 c.quad-len.ensures c.quad.ensures; lt_len = (c.if-len-le-INLINE_LENGTH.false, c.requires.ea_value.0) }
+pub long_place-at-requires : goal.long_place-at-requires
+long_place-at-requires c = record { viewed = sized_left c.requires.0.viewed c.requires.1.viewed c.load-len.ensures c.load.ensures; lt_len = (c.if-len-le-INLINE_LENGTH.false, c.requires.0.entries) }
 
-pub long_place-requires-2 : goal.long_place-requires-2
-long_place-requires-2 c = record { viewed = sized_right c.requires.viewed c.requires.viewed_2 c.quad-len.ensures c.quad.ensures c.if-len-quad.false; lt_len = (c.if-len-le-INLINE_LENGTH.false, c.requires.ea_value.1) }
-
-pub octets_equal-requires-2 : goal.octets_equal-requires-2
-octets_equal-requires-2 c = (omega (arith, c.if-len-le-INLINE_LENGTH.false), c.long_place.ensures.inside, c.long_place-2.ensures.inside)
+pub long_place-bt-requires : goal.long_place-bt-requires
+long_place-bt-requires c = record { viewed = sized_right c.requires.0.viewed c.requires.1.viewed c.load-len.ensures c.load.ensures c.if-len-load.false; lt_len = (c.if-len-le-INLINE_LENGTH.false, c.requires.1.entries) }
 
 pub returns : goal.returns
-returns c = shown_are c.requires.viewed c.requires.viewed_2 c.quad-len.ensures c.quad.ensures c.if-len-quad.false c.long_place.ensures c.long_place-2.ensures c.octets_equal-2.ensures
+returns c = shown_are c.requires.0.viewed c.requires.1.viewed c.load-len.ensures c.load.ensures c.if-len-load.false c.long_place-at.ensures c.long_place-bt.ensures (c.eq-2.ensures ∙ parts_same _ _ _ _ _ _ c.long_place-at.ensures.inside c.long_place-bt.ensures.inside)

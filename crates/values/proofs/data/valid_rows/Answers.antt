@@ -3,8 +3,8 @@
 use Rattle.values.proofs.Masks.{rows_none, rows_bits}
 use Rattle.values.proofs.data.valid_rows.Goals as goal
 
-pub returns-then-not-has_bitmap : goal.returns-then-not-has_bitmap
-returns-then-not-has_bitmap c = rows_none _ _ _ _ c.has_bitmap.ensures (c.if-not-has_bitmap.true)
+pub returns-in-None : goal.returns-in-None
+returns-in-None c = rows_none c.args.node _ _ c.in-None.ensures
 
-pub returns : goal.returns
-returns c = rows_bits _ _ _ _ c.has_bitmap.ensures (c.if-not-has_bitmap.false) c.bitmap_place.ensures c.first_bit.ensures c.leading_set.ensures
+pub returns-in-Some : goal.returns-in-Some
+returns-in-Some c = rows_bits c.args.node _ _ c.in-Some.ensures c.leading_set.ensures

@@ -2,66 +2,82 @@
 -- A row is its value: the bytes at its place, or the text between its offsets.
 use mathlib.Core.Path.{◌∙◌}
 use Rattle.accepted.proofs.Nodes.{side_small}
+use Rattle.values.proofs.Slices.{parts_same}
 use Rattle.values.proofs.LeafRows.{fixed_left, fixed_right, fixed_rows, left_nth, right_nth, left_read, right_read, text_differs, text_same}
 use native.Mathlib.Omega.{arith}
 use Rattle.values.proofs.leaf.leaf_equal.Goals as goal
 
-pub overflow_mul-s : goal.overflow_mul-s
-overflow_mul-s c = omega (arith, fixed_left c.requires.sides c.requires.leaves_at c.if-l.true)
+pub overflow_mul-x : goal.overflow_mul-x
+overflow_mul-x c = let inside = fixed_left c.requires.sides (rw c.in-Fixed.is at c.requires.leaves) in omega (arith, inside)
 
-pub overflow_add-left : goal.overflow_add-left
-overflow_add-left c = omega (arith, fixed_left c.requires.sides c.requires.leaves_at c.if-l.true)
+pub overflow_add-x : goal.overflow_add-x
+overflow_add-x c = let inside = fixed_left c.requires.sides (rw c.in-Fixed.is at c.requires.leaves) in omega (arith, inside)
 
-pub overflow_mul-t : goal.overflow_mul-t
-overflow_mul-t c = omega (arith, fixed_right c.requires.sides c.requires.leaves_at c.if-l.true)
+pub overflow_add-x-in-Fixed : goal.overflow_add-x-in-Fixed
+overflow_add-x-in-Fixed c = let inside = fixed_left c.requires.sides (rw c.in-Fixed.is at c.requires.leaves) in omega (arith, inside)
 
-pub overflow_add-right : goal.overflow_add-right
-overflow_add-right c = omega (arith, fixed_right c.requires.sides c.requires.leaves_at c.if-l.true)
+pub slice_bounds-eq-end : goal.slice_bounds-eq-end
+slice_bounds-eq-end c = let inside = fixed_left c.requires.sides (rw c.in-Fixed.is at c.requires.leaves) in omega (arith, inside)
 
-pub equal_len-requires : goal.equal_len-requires
-equal_len-requires c = (fixed_left c.requires.sides c.requires.leaves_at c.if-l.true, fixed_right c.requires.sides c.requires.leaves_at c.if-l.true)
+pub overflow_mul-y : goal.overflow_mul-y
+overflow_mul-y c = let inside = fixed_right c.requires.sides (rw c.in-Fixed.is at c.requires.leaves) in omega (arith, inside)
 
-pub returns-then-l : goal.returns-then-l
-returns-then-l c = c.equal_len.ensures ∙ fixed_rows c.requires.sides c.requires.leaves_at c.if-l.true
+pub overflow_add-y : goal.overflow_add-y
+overflow_add-y c = let inside = fixed_right c.requires.sides (rw c.in-Fixed.is at c.requires.leaves) in omega (arith, inside)
 
-pub nth-from-requires : goal.nth-from-requires
-nth-from-requires c = left_nth c.requires.sides c.requires.leaves_at c.requires.texts_value c.if-l.false _ (omega arith)
+pub overflow_add-y-in-Fixed : goal.overflow_add-y-in-Fixed
+overflow_add-y-in-Fixed c = let inside = fixed_right c.requires.sides (rw c.in-Fixed.is at c.requires.leaves) in omega (arith, inside)
+
+pub slice_bounds-eq-end-in-Fixed : goal.slice_bounds-eq-end-in-Fixed
+slice_bounds-eq-end-in-Fixed c = let inside = fixed_right c.requires.sides (rw c.in-Fixed.is at c.requires.leaves) in omega (arith, inside)
+
+pub returns-in-Fixed : goal.returns-in-Fixed
+returns-in-Fixed c = let leaves = rw c.in-Fixed.is at c.requires.leaves in c.eq.ensures ∙ parts_same _ _ _ _ _ _ (fixed_left c.requires.sides leaves) (fixed_right c.requires.sides leaves) ∙ fixed_rows c.requires.sides leaves
+
+pub at-from-requires : goal.at-from-requires
+at-from-requires c = let leaves = rw c.in-Texts.is at c.requires.leaves in left_nth c.requires.sides leaves _ (omega arith)
+
+pub at-requires : goal.at-requires
+at-requires c = let leaves = rw c.in-Texts.is at c.requires.leaves in left_nth c.requires.sides leaves _ (omega arith)
+
+pub at-start-requires : goal.at-start-requires
+at-start-requires c = let leaves = rw c.in-Texts.is at c.requires.leaves in right_nth c.requires.sides leaves _ (omega arith)
+
+pub at-requires-in-Texts : goal.at-requires-in-Texts
+at-requires-in-Texts c = let leaves = rw c.in-Texts.is at c.requires.leaves in right_nth c.requires.sides leaves _ (omega arith)
 
 pub overflow_add-s : goal.overflow_add-s
 overflow_add-s c = omega (arith, side_small _ _ _ _ c.requires.sides.left)
 
-pub nth-to-requires : goal.nth-to-requires
-nth-to-requires c = left_nth c.requires.sides c.requires.leaves_at c.requires.texts_value c.if-l.false _ (omega arith)
-
-pub nth-start-requires : goal.nth-start-requires
-nth-start-requires c = right_nth c.requires.sides c.requires.leaves_at c.requires.texts_value c.if-l.false _ (omega arith)
-
 pub overflow_add-t : goal.overflow_add-t
 overflow_add-t c = omega (arith, side_small _ _ _ _ c.requires.sides.right)
 
-pub nth-end-requires : goal.nth-end-requires
-nth-end-requires c = right_nth c.requires.sides c.requires.leaves_at c.requires.texts_value c.if-l.false _ (omega arith)
+pub overflow_sub-len : goal.overflow_sub-len
+overflow_sub-len c = let leaves = rw c.in-Texts.is at c.requires.leaves in (left_read c.requires.sides leaves c.at-from.ensures c.at.ensures).up
 
-pub overflow_sub-to : goal.overflow_sub-to
-overflow_sub-to c = (left_read c.requires.sides c.requires.leaves_at c.requires.texts_value c.if-l.false c.nth-from.ensures c.nth-to.ensures).up
+pub overflow_sub-at : goal.overflow_sub-at
+overflow_sub-at c = let leaves = rw c.in-Texts.is at c.requires.leaves in (right_read c.requires.sides leaves c.at-start.ensures c.at-in-Texts.ensures).up
 
-pub overflow_sub-end : goal.overflow_sub-end
-overflow_sub-end c = (right_read c.requires.sides c.requires.leaves_at c.requires.texts_value c.if-l.false c.nth-start.ensures c.nth-end.ensures).up
+pub returns-then-at-start : goal.returns-then-at-start
+returns-then-at-start c = let leaves = rw c.in-Texts.is at c.requires.leaves in let left = left_read c.requires.sides leaves c.at-from.ensures c.at.ensures in let right = right_read c.requires.sides leaves c.at-start.ensures c.at-in-Texts.ensures in text_differs c.requires.sides leaves left right c.if-at-start.true
 
-pub returns-then-to-from : goal.returns-then-to-from
-returns-then-to-from c = text_differs c.requires.sides c.requires.leaves_at c.requires.texts_value c.if-l.false (left_read c.requires.sides c.requires.leaves_at c.requires.texts_value c.if-l.false c.nth-from.ensures c.nth-to.ensures) (right_read c.requires.sides c.requires.leaves_at c.requires.texts_value c.if-l.false c.nth-start.ensures c.nth-end.ensures) c.if-to-from.true
+pub overflow_add-x-in-Texts : goal.overflow_add-x-in-Texts
+overflow_add-x-in-Texts c = let leaves = rw c.in-Texts.is at c.requires.leaves in let left = left_read c.requires.sides leaves c.at-from.ensures c.at.ensures in let right = right_read c.requires.sides leaves c.at-start.ensures c.at-in-Texts.ensures in omega (arith, left.up, left.inside, right.up, right.inside, c.if-at-start.false)
 
-pub overflow_add-l : goal.overflow_add-l
-overflow_add-l c = omega (arith, (left_read c.requires.sides c.requires.leaves_at c.requires.texts_value c.if-l.false c.nth-from.ensures c.nth-to.ensures).up, (left_read c.requires.sides c.requires.leaves_at c.requires.texts_value c.if-l.false c.nth-from.ensures c.nth-to.ensures).inside)
+pub overflow_add-y-in-Texts : goal.overflow_add-y-in-Texts
+overflow_add-y-in-Texts c = let leaves = rw c.in-Texts.is at c.requires.leaves in let left = left_read c.requires.sides leaves c.at-from.ensures c.at.ensures in let right = right_read c.requires.sides leaves c.at-start.ensures c.at-in-Texts.ensures in omega (arith, left.up, left.inside, right.up, right.inside, c.if-at-start.false)
 
-pub overflow_add-l-2 : goal.overflow_add-l-2
-overflow_add-l-2 c = omega (arith, (right_read c.requires.sides c.requires.leaves_at c.requires.texts_value c.if-l.false c.nth-start.ensures c.nth-end.ensures).up, (right_read c.requires.sides c.requires.leaves_at c.requires.texts_value c.if-l.false c.nth-start.ensures c.nth-end.ensures).inside)
+pub overflow_add-x-in-Texts-2 : goal.overflow_add-x-in-Texts-2
+overflow_add-x-in-Texts-2 c = let leaves = rw c.in-Texts.is at c.requires.leaves in let left = left_read c.requires.sides leaves c.at-from.ensures c.at.ensures in let right = right_read c.requires.sides leaves c.at-start.ensures c.at-in-Texts.ensures in omega (arith, left.up, left.inside, right.up, right.inside, c.if-at-start.false)
 
-pub overflow_sub-to-2 : goal.overflow_sub-to-2
-overflow_sub-to-2 c = (left_read c.requires.sides c.requires.leaves_at c.requires.texts_value c.if-l.false c.nth-from.ensures c.nth-to.ensures).up
+pub overflow_add-y-in-Texts-2 : goal.overflow_add-y-in-Texts-2
+overflow_add-y-in-Texts-2 c = let leaves = rw c.in-Texts.is at c.requires.leaves in let left = left_read c.requires.sides leaves c.at-from.ensures c.at.ensures in let right = right_read c.requires.sides leaves c.at-start.ensures c.at-in-Texts.ensures in omega (arith, left.up, left.inside, right.up, right.inside, c.if-at-start.false)
 
-pub equal_len-requires-2 : goal.equal_len-requires-2
-equal_len-requires-2 c = omega (arith, (left_read c.requires.sides c.requires.leaves_at c.requires.texts_value c.if-l.false c.nth-from.ensures c.nth-to.ensures).up, (left_read c.requires.sides c.requires.leaves_at c.requires.texts_value c.if-l.false c.nth-from.ensures c.nth-to.ensures).inside, (right_read c.requires.sides c.requires.leaves_at c.requires.texts_value c.if-l.false c.nth-start.ensures c.nth-end.ensures).up, (right_read c.requires.sides c.requires.leaves_at c.requires.texts_value c.if-l.false c.nth-start.ensures c.nth-end.ensures).inside, c.if-to-from.false)
+pub slice_bounds-eq-end-in-Texts : goal.slice_bounds-eq-end-in-Texts
+slice_bounds-eq-end-in-Texts c = let leaves = rw c.in-Texts.is at c.requires.leaves in let left = left_read c.requires.sides leaves c.at-from.ensures c.at.ensures in let right = right_read c.requires.sides leaves c.at-start.ensures c.at-in-Texts.ensures in omega (arith, left.up, left.inside, right.up, right.inside, c.if-at-start.false)
 
-pub returns : goal.returns
-returns c = c.equal_len-2.ensures ∙ text_same c.requires.sides c.requires.leaves_at c.requires.texts_value c.if-l.false (left_read c.requires.sides c.requires.leaves_at c.requires.texts_value c.if-l.false c.nth-from.ensures c.nth-to.ensures) (right_read c.requires.sides c.requires.leaves_at c.requires.texts_value c.if-l.false c.nth-start.ensures c.nth-end.ensures) c.if-to-from.false
+pub slice_bounds-eq-end-in-Texts-2 : goal.slice_bounds-eq-end-in-Texts-2
+slice_bounds-eq-end-in-Texts-2 c = let leaves = rw c.in-Texts.is at c.requires.leaves in let left = left_read c.requires.sides leaves c.at-from.ensures c.at.ensures in let right = right_read c.requires.sides leaves c.at-start.ensures c.at-in-Texts.ensures in omega (arith, left.up, left.inside, right.up, right.inside, c.if-at-start.false)
+
+pub returns-else-at-start : goal.returns-else-at-start
+returns-else-at-start c = let leaves = rw c.in-Texts.is at c.requires.leaves in let left = left_read c.requires.sides leaves c.at-from.ensures c.at.ensures in let right = right_read c.requires.sides leaves c.at-start.ensures c.at-in-Texts.ensures in c.eq-in-Texts.ensures ∙ parts_same _ _ _ _ _ _ (omega (arith, left.up, left.inside)) (omega (arith, right.up, right.inside, c.if-at-start.false)) ∙ text_same c.requires.sides leaves left right c.if-at-start.false

@@ -1,8 +1,9 @@
 -- `values::lengths::lengths_equal` meets its contract.
 -- Offsets that are the same make the same lengths, and so do offsets that stand equally far above the first, and no others.
 use Rattle.values.proofs.Spans.{offsets_spans}
-use Rattle.values.proofs.Distances.{narrow_width, firsts_read, both_above, distances_spans}
-use mathlib.Core.Path.{sym, ◌∙◌}
+use Rattle.values.proofs.Distances.{narrow_width, else_wide, both_above, distances_spans}
+use mathlib.Core.Path.{refl, sym, ◌∙◌}
+use native.Mathlib.Nat.{add-zero}
 use native.Mathlib.Omega.{arith}
 use Rattle.values.proofs.lengths.lengths_equal.Goals as goal
 
@@ -12,17 +13,20 @@ offsets_same-requires c = c.requires
 pub returns-then-offsets_same : goal.returns-then-offsets_same
 returns-then-offsets_same c = sym (offsets_spans c.requires (sym c.offsets_same.ensures ∙ c.if-offsets_same.true))
 
-pub nth-x-requires : goal.nth-x-requires
-nth-x-requires c = record { near = omega (arith, c.buffer_place-la.ensures.small); narrow = narrow_width c.requires.whole c.element_width-width.ensures; few = omega (arith, c.requires.left_small) }
+pub offset_at-requires : goal.offset_at-requires
+offset_at-requires c = (narrow_width c.requires.whole refl, omega (arith, c.requires.left_small))
 
-pub nth-y-requires : goal.nth-y-requires
-nth-y-requires c = record { near = omega (arith, c.buffer_place-lb.ensures.small); narrow = narrow_width c.requires.whole c.element_width-width.ensures; few = omega (arith, c.requires.right_small) }
-
-pub overflow_add-n : goal.overflow_add-n
-overflow_add-n c = omega (arith, c.requires.left_small)
+pub offset_at-requires-2 : goal.offset_at-requires-2
+offset_at-requires-2 c = (narrow_width c.requires.whole (sym c.requires.same), omega (arith, c.requires.right_small))
 
 pub distances_equal-requires : goal.distances_equal-requires
-distances_equal-requires c = both_above c.requires (firsts_read c.requires c.element_width-width.ensures c.buffer_place-la.ensures c.buffer_place-lb.ensures c.nth-x.ensures c.nth-y.ensures)
+distances_equal-requires c = rw (add-zero, add-zero) (both_above c.requires (record { width = sym c.if-element_width-eq4.true ∙ c.element_width.ensures; left = c.buffer_place.ensures.value; right = c.buffer_place-2.ensures.value; left_first = c.offset_at.ensures; right_first = c.offset_at-2.ensures }))
+
+pub returns-then-element_width-eq4 : goal.returns-then-element_width-eq4
+returns-then-element_width-eq4 c = let same = rw (add-zero, add-zero) at c.distances_equal.ensures in same ∙ distances_spans c.requires (record { width = sym c.if-element_width-eq4.true ∙ c.element_width.ensures; left = c.buffer_place.ensures.value; right = c.buffer_place-2.ensures.value; left_first = c.offset_at.ensures; right_first = c.offset_at-2.ensures })
+
+pub distances_equal-requires-2 : goal.distances_equal-requires-2
+distances_equal-requires-2 c = rw (add-zero, add-zero) (both_above c.requires (record { width = else_wide c.requires.whole c.element_width.ensures c.if-element_width-eq4.false; left = c.buffer_place.ensures.value; right = c.buffer_place-2.ensures.value; left_first = c.offset_at.ensures; right_first = c.offset_at-2.ensures }))
 
 pub returns : goal.returns
-returns c = c.distances_equal.ensures ∙ distances_spans c.requires (firsts_read c.requires c.element_width-width.ensures c.buffer_place-la.ensures c.buffer_place-lb.ensures c.nth-x.ensures c.nth-y.ensures)
+returns c = let same = rw (add-zero, add-zero) at c.distances_equal-2.ensures in same ∙ distances_spans c.requires (record { width = else_wide c.requires.whole c.element_width.ensures c.if-element_width-eq4.false; left = c.buffer_place.ensures.value; right = c.buffer_place-2.ensures.value; left_first = c.offset_at.ensures; right_first = c.offset_at-2.ensures })

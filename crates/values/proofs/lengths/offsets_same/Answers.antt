@@ -1,30 +1,41 @@
 -- `values::lengths::offsets_same` meets its contract.
 -- The block of offsets lies inside each image, so no sum or product of places grows past the image's length.
-use Rattle.values.proofs.Spans.{left_block, right_block, block_read}
-use mathlib.Core.Path.{◌∙◌}
+use Rattle.values.proofs.Slices.{parts_same}
+use Rattle.values.proofs.Spans.{few_bytes, left_block, right_block, block_read}
+use mathlib.Core.Path.{refl, ◌∙◌}
+use Prim.Native.Nat.{◌+◌}
 use native.Mathlib.Omega.{arith}
 use Rattle.values.proofs.lengths.offsets_same.Goals as goal
 
-pub overflow_mul-s : goal.overflow_mul-s
-overflow_mul-s c = omega (arith, (left_block c.requires c.element_width-width.ensures c.buffer_place-la.ensures.value c.buffer_place-lb.ensures.value), (right_block c.requires c.element_width-width.ensures c.buffer_place-la.ensures.value c.buffer_place-lb.ensures.value), c.ranges)
+pub overflow_mul-x : goal.overflow_mul-x
+overflow_mul-x c = let few = few_bytes c.requires c.element_width-width.ensures c.buffer_place.ensures.value refl in omega (arith, few c.args.rows.left, few c.args.rows.right, few (c.args.rows.count + 1), c.requires.left_small, c.requires.right_small, c.buffer_place.ensures.small)
 
-pub overflow_add-la : goal.overflow_add-la
-overflow_add-la c = omega (arith, (left_block c.requires c.element_width-width.ensures c.buffer_place-la.ensures.value c.buffer_place-lb.ensures.value), (right_block c.requires c.element_width-width.ensures c.buffer_place-la.ensures.value c.buffer_place-lb.ensures.value), c.ranges)
+pub overflow_add-x : goal.overflow_add-x
+overflow_add-x c = let few = few_bytes c.requires c.element_width-width.ensures c.buffer_place.ensures.value refl in omega (arith, few c.args.rows.left, few c.args.rows.right, few (c.args.rows.count + 1), c.requires.left_small, c.requires.right_small, c.buffer_place.ensures.small)
 
-pub overflow_mul-t : goal.overflow_mul-t
-overflow_mul-t c = omega (arith, (left_block c.requires c.element_width-width.ensures c.buffer_place-la.ensures.value c.buffer_place-lb.ensures.value), (right_block c.requires c.element_width-width.ensures c.buffer_place-la.ensures.value c.buffer_place-lb.ensures.value), c.ranges)
+pub overflow_mul-y : goal.overflow_mul-y
+overflow_mul-y c = let few = few_bytes c.requires c.element_width-width.ensures c.buffer_place.ensures.value c.buffer_place-2.ensures.value in omega (arith, few c.args.rows.left, few c.args.rows.right, few (c.args.rows.count + 1), c.requires.left_small, c.requires.right_small, c.buffer_place.ensures.small, c.buffer_place-2.ensures.small)
 
-pub overflow_add-lb : goal.overflow_add-lb
-overflow_add-lb c = omega (arith, (left_block c.requires c.element_width-width.ensures c.buffer_place-la.ensures.value c.buffer_place-lb.ensures.value), (right_block c.requires c.element_width-width.ensures c.buffer_place-la.ensures.value c.buffer_place-lb.ensures.value), c.ranges)
+pub overflow_add-y : goal.overflow_add-y
+overflow_add-y c = let few = few_bytes c.requires c.element_width-width.ensures c.buffer_place.ensures.value c.buffer_place-2.ensures.value in omega (arith, few c.args.rows.left, few c.args.rows.right, few (c.args.rows.count + 1), c.requires.left_small, c.requires.right_small, c.buffer_place.ensures.small, c.buffer_place-2.ensures.small)
 
-pub overflow_add-n : goal.overflow_add-n
-overflow_add-n c = omega (arith, (left_block c.requires c.element_width-width.ensures c.buffer_place-la.ensures.value c.buffer_place-lb.ensures.value), (right_block c.requires c.element_width-width.ensures c.buffer_place-la.ensures.value c.buffer_place-lb.ensures.value), c.ranges)
+pub overflow_add-size : goal.overflow_add-size
+overflow_add-size c = let few = few_bytes c.requires c.element_width-width.ensures c.buffer_place.ensures.value c.buffer_place-2.ensures.value in omega (arith, few c.args.rows.left, few c.args.rows.right, few (c.args.rows.count + 1), c.requires.left_small, c.requires.right_small, c.buffer_place.ensures.small, c.buffer_place-2.ensures.small)
 
-pub overflow_mul-n : goal.overflow_mul-n
-overflow_mul-n c = omega (arith, (left_block c.requires c.element_width-width.ensures c.buffer_place-la.ensures.value c.buffer_place-lb.ensures.value), (right_block c.requires c.element_width-width.ensures c.buffer_place-la.ensures.value c.buffer_place-lb.ensures.value), c.ranges)
+pub overflow_mul-size : goal.overflow_mul-size
+overflow_mul-size c = let few = few_bytes c.requires c.element_width-width.ensures c.buffer_place.ensures.value c.buffer_place-2.ensures.value in omega (arith, few c.args.rows.left, few c.args.rows.right, few (c.args.rows.count + 1), c.requires.left_small, c.requires.right_small, c.buffer_place.ensures.small, c.buffer_place-2.ensures.small)
 
-pub equal_len-requires : goal.equal_len-requires
-equal_len-requires c = (left_block c.requires c.element_width-width.ensures c.buffer_place-la.ensures.value c.buffer_place-lb.ensures.value, right_block c.requires c.element_width-width.ensures c.buffer_place-la.ensures.value c.buffer_place-lb.ensures.value)
+pub overflow_add-x-2 : goal.overflow_add-x-2
+overflow_add-x-2 c = let few = few_bytes c.requires c.element_width-width.ensures c.buffer_place.ensures.value c.buffer_place-2.ensures.value in omega (arith, few c.args.rows.left, few c.args.rows.right, few (c.args.rows.count + 1), c.requires.left_small, c.requires.right_small, c.buffer_place.ensures.small, c.buffer_place-2.ensures.small)
+
+pub overflow_add-y-2 : goal.overflow_add-y-2
+overflow_add-y-2 c = let few = few_bytes c.requires c.element_width-width.ensures c.buffer_place.ensures.value c.buffer_place-2.ensures.value in omega (arith, few c.args.rows.left, few c.args.rows.right, few (c.args.rows.count + 1), c.requires.left_small, c.requires.right_small, c.buffer_place.ensures.small, c.buffer_place-2.ensures.small)
+
+pub slice_bounds-eq-end : goal.slice_bounds-eq-end
+slice_bounds-eq-end c = left_block c.requires c.element_width-width.ensures c.buffer_place.ensures.value c.buffer_place-2.ensures.value
+
+pub slice_bounds-eq-end-2 : goal.slice_bounds-eq-end-2
+slice_bounds-eq-end-2 c = right_block c.requires c.element_width-width.ensures c.buffer_place.ensures.value c.buffer_place-2.ensures.value
 
 pub returns : goal.returns
-returns c = c.equal_len.ensures ∙ block_read c.requires c.element_width-width.ensures c.buffer_place-la.ensures.value c.buffer_place-lb.ensures.value
+returns c = c.eq.ensures ∙ parts_same _ _ _ _ _ _ (left_block c.requires c.element_width-width.ensures c.buffer_place.ensures.value c.buffer_place-2.ensures.value) (right_block c.requires c.element_width-width.ensures c.buffer_place.ensures.value c.buffer_place-2.ensures.value) ∙ block_read c.requires c.element_width-width.ensures c.buffer_place.ensures.value c.buffer_place-2.ensures.value

@@ -6,11 +6,11 @@ use mathlib.Core.Path.{◌∙◌}
 use native.Mathlib.Omega.{arith}
 use Rattle.values.proofs.primitive.block_equal.Goals as goal
 
-pub overflow_add-offset : goal.overflow_add-offset
-overflow_add-offset c = omega (arith, c.offset.ensures.small, side_small _ _ _ _ c.requires.left)
+pub overflow_add-elements : goal.overflow_add-elements
+overflow_add-elements c = omega (arith, c.offset.ensures.small, side_small _ _ _ _ c.requires.left)
 
-pub overflow_add-offset-2 : goal.overflow_add-offset-2
-overflow_add-offset-2 c = omega (arith, c.offset-2.ensures.small, side_small _ _ _ _ c.requires.right)
+pub overflow_add-elements-2 : goal.overflow_add-elements-2
+overflow_add-elements-2 c = omega (arith, c.offset-2.ensures.small, side_small _ _ _ _ c.requires.right)
 
 pub elements_equal-requires : goal.elements_equal-requires
 elements_equal-requires c = rw (c.offset.ensures.value, c.offset-2.ensures.value) (masked_fixed c.requires)

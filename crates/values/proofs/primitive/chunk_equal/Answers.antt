@@ -1,8 +1,10 @@
--- `values::primitive::chunk_equal` meets its contract.
--- Where all bytes are the same the rows are; without a bitmap only then.
+-- A chunk of rows is equal where all its bytes are the same, or else by its mask.
+-- Without a bitmap only where the bytes are.
 use Rattle.values.proofs.MaskedRows.{whole_block}
 use Rattle.values.proofs.ValidElements.{whole_rows}
 use Rattle.image.specs.Row.{fixed_row}
+use Rattle.accepted.proofs.Nodes.{side_small}
+use native.Mathlib.Omega.{arith}
 use mathlib.Core.Path.{sym, ◌∙◌}
 use Rattle.values.proofs.primitive.chunk_equal.Goals as goal
 
@@ -12,11 +14,14 @@ block_equal-requires c = c.requires
 pub returns-then-block_equal : goal.returns-then-block_equal
 returns-then-block_equal c = whole_block fixed_row c.requires (sym c.block_equal.ensures ∙ c.if-block_equal.true)
 
-pub returns-then-not-has_bitmap : goal.returns-then-not-has_bitmap
-returns-then-not-has_bitmap c = sym (sym (whole_rows c.requires (sym c.has_bitmap.ensures ∙ c.if-not-has_bitmap.true)) ∙ sym c.block_equal.ensures ∙ c.if-block_equal.false)
+pub validity-requires : goal.validity-requires
+validity-requires c = omega (arith, side_small _ _ _ _ c.requires.left)
+
+pub returns-in-None : goal.returns-in-None
+returns-in-None c = sym (sym (whole_rows c.requires c.in-None.ensures) ∙ sym c.block_equal.ensures ∙ c.if-block_equal.false)
 
 pub words_equal-requires : goal.words_equal-requires
-words_equal-requires c = (sym c.has_bitmap.ensures ∙ c.if-not-has_bitmap.false, c.requires)
+words_equal-requires c = record { masked = c.requires; mask = c.in-Some.ensures }
 
-pub returns : goal.returns
-returns c = c.words_equal.ensures
+pub returns-in-Some : goal.returns-in-Some
+returns-in-Some c = c.words_equal.ensures

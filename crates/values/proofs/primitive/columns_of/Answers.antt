@@ -10,4 +10,4 @@ pub first_place-requires-2 : goal.first_place-requires-2
 first_place-requires-2 c = (other_width c.requires c.element_width-width.ensures, right_first c.requires)
 
 pub returns : goal.returns
-returns c = record { width = c.element_width-width.ensures; left = c.first_place.ensures; right = c.first_place-2.ensures; place = c.bitmap_place.ensures; first = c.first_bit.ensures }
+returns c = record { width = c.element_width-width.ensures; left = c.first_place.ensures; right = c.first_place-2.ensures }

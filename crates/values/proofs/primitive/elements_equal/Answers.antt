@@ -1,18 +1,18 @@
--- `values::primitive::elements_equal` meets its contract.
--- The definition is rewritten by what the calls ensure and by the tests on the way.
-use Rattle.values.proofs.Fixed.{same_length, fixed_block}
+-- The answer is whether the bytes of two ranges of elements are the same.
+-- What `==` says of them.
 use mathlib.Core.Path.{◌∙◌}
-use native.Mathlib.Omega.{arith}
+use Rattle.values.proofs.Slices.{lists_same}
+use Rattle.values.proofs.Fixed.{fixed_block}
 use Rattle.values.proofs.primitive.elements_equal.Goals as goal
 
-pub span_of-x-requires : goal.span_of-x-requires
-span_of-x-requires c = c.requires.left
+pub elements-requires : goal.elements-requires
+elements-requires c = c.requires.left
 
-pub span_of-y-requires : goal.span_of-y-requires
-span_of-y-requires c = c.requires.right
-
-pub equal_len-requires : goal.equal_len-requires
-equal_len-requires c = (c.span_of-x.ensures.inside, omega (arith, same_length _ _ _ _ _ c.requires c.span_of-x.ensures c.span_of-y.ensures, c.span_of-y.ensures.inside))
+pub elements-requires-2 : goal.elements-requires-2
+elements-requires-2 c = c.requires.right
 
 pub returns : goal.returns
-returns c = c.equal_len.ensures ∙ rw (c.span_of-x.ensures.place, c.span_of-y.ensures.place, c.span_of-x.ensures.size) (fixed_block _ _ _ _ c.requires.width _ _ _)
+returns c =
+    let right = rw (← c.requires.width) at c.elements-2.ensures in
+    let same = rw (c.elements.ensures, right) at c.eq.ensures in
+    same ∙ lists_same _ _ ∙ fixed_block _ _ _ _ c.requires.width _ _ _

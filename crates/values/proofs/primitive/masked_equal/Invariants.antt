@@ -1,13 +1,11 @@
--- `values::primitive::masked_equal` meets its contract.
--- The loop keeps that what is left to look at gives the answer; the measure is how much is left.
+-- `masked_equal` compares 1,024 rows at a time.
+-- The loop keeps that the rows behind the blocks so far decide.
 use Rattle.values.proofs.Steps.{Left}
 use Rattle.image.specs.Row.{fixed_row}
 use Rattle.values.specs.Pairs.{same_row, masked_row}
-use Prim.Native.Nat.{◌-◌}
+use Prim.Native.Nat.{◌*◌}
 use Rattle.values.proofs.primitive.masked_equal.Given as goal
 
-abbrev pub invariant-loop-k : goal.invariant-loop-k
-invariant-loop-k l = Left (same_row (masked_row fixed_row l.a l.an) (masked_row fixed_row l.b l.bn)) l.s l.t l.n l.k
-
-abbrev pub decreases-loop-k : goal.decreases-loop-k
-decreases-loop-k l = l.n - l.k
+abbrev pub invariant-loop-h : goal.invariant-loop-h
+invariant-loop-h l =
+    Left (same_row (masked_row fixed_row l.pair.left.image.now l.pair.left.number) (masked_row fixed_row l.pair.right.image.now l.pair.right.number)) l.rows.left l.rows.right l.rows.count (1024 * l.h)

@@ -1,31 +1,42 @@
 -- `word_equal` compares at most 64 rows.
 -- The bits of the word are those of the rows; the elements lie inside.
+use Rattle.values.proofs.Slices.{part_bytes, part_length}
 use Rattle.values.proofs.ValidElements.{left_inside, right_inside, word_rows}
-use Rattle.accepted.proofs.Nodes.{side_small}
 use mathlib.Core.Path.{◌∙◌}
 use native.Mathlib.Omega.{arith}
 use Rattle.values.proofs.primitive.word_equal.Goals as goal
 
-pub overflow_add-columns : goal.overflow_add-columns
-overflow_add-columns c = omega (arith, c.requires.2.first.small, side_small _ _ _ _ c.requires.3.left)
+pub overflow_mul-size : goal.overflow_mul-size
+overflow_mul-size c = omega (arith, left_inside c.requires.masked.1 c.requires.columns, right_inside c.requires.masked.1 c.requires.columns, c.ranges)
 
-pub word-bits-requires : goal.word-bits-requires
-word-bits-requires c = (c.requires.2.place.small, omega (arith, c.requires.2.first.small, side_small _ _ _ _ c.requires.3.left))
+pub overflow_mul-x : goal.overflow_mul-x
+overflow_mul-x c = omega (arith, left_inside c.requires.masked.1 c.requires.columns, right_inside c.requires.masked.1 c.requires.columns, c.ranges)
 
-pub overflow_mul-s : goal.overflow_mul-s
-overflow_mul-s c = omega (arith, left_inside c.requires.3 c.requires.2, right_inside c.requires.3 c.requires.2, c.ranges)
+pub overflow_add-x : goal.overflow_add-x
+overflow_add-x c = omega (arith, left_inside c.requires.masked.1 c.requires.columns, right_inside c.requires.masked.1 c.requires.columns, c.ranges)
 
-pub overflow_add-columns-2 : goal.overflow_add-columns-2
-overflow_add-columns-2 c = omega (arith, left_inside c.requires.3 c.requires.2, right_inside c.requires.3 c.requires.2, c.ranges)
+pub overflow_mul-y : goal.overflow_mul-y
+overflow_mul-y c = omega (arith, left_inside c.requires.masked.1 c.requires.columns, right_inside c.requires.masked.1 c.requires.columns, c.ranges)
 
-pub overflow_mul-t : goal.overflow_mul-t
-overflow_mul-t c = omega (arith, left_inside c.requires.3 c.requires.2, right_inside c.requires.3 c.requires.2, c.ranges)
+pub overflow_add-y : goal.overflow_add-y
+overflow_add-y c = omega (arith, left_inside c.requires.masked.1 c.requires.columns, right_inside c.requires.masked.1 c.requires.columns, c.ranges)
 
-pub overflow_add-columns-3 : goal.overflow_add-columns-3
-overflow_add-columns-3 c = omega (arith, left_inside c.requires.3 c.requires.2, right_inside c.requires.3 c.requires.2, c.ranges)
+pub overflow_add-x-2 : goal.overflow_add-x-2
+overflow_add-x-2 c = omega (arith, left_inside c.requires.masked.1 c.requires.columns, right_inside c.requires.masked.1 c.requires.columns, c.ranges)
+
+pub overflow_add-y-2 : goal.overflow_add-y-2
+overflow_add-y-2 c = omega (arith, left_inside c.requires.masked.1 c.requires.columns, right_inside c.requires.masked.1 c.requires.columns, c.ranges)
+
+pub slice_bounds-valid_equal-end : goal.slice_bounds-valid_equal-end
+slice_bounds-valid_equal-end c = left_inside c.requires.masked.1 c.requires.columns
+
+pub slice_bounds-valid_equal-end-2 : goal.slice_bounds-valid_equal-end-2
+slice_bounds-valid_equal-end-2 c = right_inside c.requires.masked.1 c.requires.columns
 
 pub valid_equal-requires : goal.valid_equal-requires
-valid_equal-requires c = (c.requires.0, left_inside c.requires.3 c.requires.2, right_inside c.requires.3 c.requires.2)
+valid_equal-requires c = (c.requires.masked.0, rw (part_length _ _ _ (left_inside c.requires.masked.1 c.requires.columns)) (omega arith), rw (part_length _ _ _ (right_inside c.requires.masked.1 c.requires.columns)) (omega arith))
 
 pub returns : goal.returns
-returns c = c.valid_equal.ensures ∙ word_rows c.requires.3 c.requires.2 c.requires.1 c.word-bits.ensures c.requires.0
+returns c = 
+    let same = rw (part_bytes _ _ _ (left_inside c.requires.masked.1 c.requires.columns), part_bytes _ _ _ (right_inside c.requires.masked.1 c.requires.columns)) at c.valid_equal.ensures in
+    same ∙ word_rows c.requires.masked.1 c.requires.columns c.requires.bits.is_there c.requires.bits.word c.requires.masked.0

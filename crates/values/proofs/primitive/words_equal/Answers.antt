@@ -1,54 +1,52 @@
 -- `words_equal` compares 64 rows at a time.
--- The loop keeps that what is left to look at gives the answer; the measure is how much is left.
+-- The loop keeps that the rows behind the blocks so far decide.
 use Rattle.values.proofs.Steps.{left_none, left_jump, jump_fails, left_rest, by_rows}
-use Rattle.values.proofs.MaskedRows.{masked_ahead}
+use Rattle.values.proofs.MaskedRows.{masked_part}
 use Rattle.accepted.proofs.Nodes.{side_small}
-use native.Mathlib.Nat.{le_refl}
-use mathlib.Core.Path.{sym, ◌∙◌}
+use Rattle.values.proofs.Masks.{mask_word}
+use mathlib.Core.Path.{◌≡◌, sym, ◌∙◌}
+use Prim.Native.Nat.{◌+◌, ◌*◌, ◌/◌}
 use native.Mathlib.Omega.{arith}
 use Rattle.values.proofs.primitive.words_equal.Goals as goal
 
+pub loop-h-init : goal.loop-h-init
+loop-h-init c = left_none _ _ _ _
+
+pub part-requires : goal.part-requires
+part-requires c = omega (arith, c.loop-h-test.true, side_small _ _ _ _ c.requires.masked.left, side_small _ _ _ _ c.requires.masked.right)
+
+pub part-requires-2 : goal.part-requires-2
+part-requires-2 c = omega (arith, side_small _ _ _ _ c.requires.masked.left, side_small _ _ _ _ c.requires.masked.right)
+
 pub columns_of-columns-requires : goal.columns_of-columns-requires
-columns_of-columns-requires c = c.requires.1
+columns_of-columns-requires c = c.requires.masked
 
-pub loop-k-init : goal.loop-k-init
-loop-k-init c = left_none _ _ _ _
+pub word-requires : goal.word-requires
+word-requires c = record { place = c.requires.mask.near; few = omega (arith, c.requires.mask.few, c.loop-h-test.true, side_small _ _ _ _ c.requires.masked.left) }
 
-pub overflow_sub-n : goal.overflow_sub-n
-overflow_sub-n c = c.loop-k.invariant.within
-
-pub overflow_add-s : goal.overflow_add-s
-overflow_add-s c = omega (arith, c.loop-k.invariant.within, side_small _ _ _ _ c.requires.1.left)
-
-pub overflow_add-t : goal.overflow_add-t
-overflow_add-t c = omega (arith, c.loop-k.invariant.within, side_small _ _ _ _ c.requires.1.right)
+pub word-requires-2 : goal.word-requires-2
+word-requires-2 c = record { place = c.requires.mask.near; few = omega (arith, c.requires.mask.few, side_small _ _ _ _ c.requires.masked.left) }
 
 pub word_equal-requires : goal.word_equal-requires
-word_equal-requires c = (omega arith, c.requires.0, c.columns_of-columns.ensures, masked_ahead c.requires.1 c.loop-k.invariant.within c.loop-k-test.true)
-
-pub returns-then-not-word_equal : goal.returns-then-not-word_equal
-returns-then-not-word_equal c = jump_fails _ _ _ _ _ 64 c.loop-k-test.true c.loop-k.invariant (by_rows _ _ _ _ _ ∙ sym c.word_equal.ensures ∙ c.if-not-word_equal.true) ∙ by_rows _ _ _ _ _
-
-pub overflow_add-k : goal.overflow_add-k
-overflow_add-k c = omega (arith, c.loop-k.invariant.within, c.loop-k-test.true)
-
-pub loop-k-smaller : goal.loop-k-smaller
-loop-k-smaller c = omega (arith, c.loop-k.invariant.within, c.loop-k-test.true)
-
-pub loop-k-preserved : goal.loop-k-preserved
-loop-k-preserved c = left_jump _ _ _ _ _ 64 c.loop-k.invariant.within c.loop-k-test.true c.loop-k.invariant (by_rows _ _ _ _ _ ∙ sym c.word_equal.ensures ∙ c.if-not-word_equal.false)
-
-pub overflow_add-s-2 : goal.overflow_add-s-2
-overflow_add-s-2 c = omega (arith, c.loop-k.invariant.within, side_small _ _ _ _ c.requires.1.left)
-
-pub overflow_add-t-2 : goal.overflow_add-t-2
-overflow_add-t-2 c = omega (arith, c.loop-k.invariant.within, side_small _ _ _ _ c.requires.1.right)
-
-pub overflow_sub-n-2 : goal.overflow_sub-n-2
-overflow_sub-n-2 c = c.loop-k.invariant.within
+word_equal-requires c = rw c.part.ensures (record { masked = (omega arith, masked_part c.requires.masked _ _ (omega (arith, c.loop-h-test.true))); columns = c.columns_of-columns.ensures; bits = mask_word c.args.pair.left _ _ c.requires.mask c.word.ensures })
 
 pub word_equal-requires-2 : goal.word_equal-requires-2
-word_equal-requires-2 c = (omega (arith, c.loop-k-test.false), c.requires.0, c.columns_of-columns.ensures, masked_ahead c.requires.1 c.loop-k.invariant.within (le_refl _))
+word_equal-requires-2 c = rw c.part-2.ensures (record { masked = (omega arith, masked_part c.requires.masked _ _ (omega arith)); columns = c.columns_of-columns.ensures; bits = mask_word c.args.pair.left _ _ c.requires.mask c.word-2.ensures })
+
+pub returns-then-not-word_equal : goal.returns-then-not-word_equal
+returns-then-not-word_equal c = 
+    let same = rw c.part.ensures at c.word_equal.ensures in
+    jump_fails _ _ _ _ _ 64 (omega (arith, c.loop-h-test.true)) c.loop-h.invariant (by_rows _ _ _ _ _ ∙ sym same ∙ c.if-not-word_equal.true) ∙ by_rows _ _ _ _ _
+
+pub loop-h-preserved : goal.loop-h-preserved
+loop-h-preserved c = 
+    let same = rw c.part.ensures at c.word_equal.ensures in
+    let next : 64 * (c.loop-h.h + 1) ≡ 64 * c.loop-h.h + 64 = omega arith in
+    rw next (left_jump _ _ _ _ _ 64 (omega (arith, c.loop-h-test.true)) (omega (arith, c.loop-h-test.true)) c.loop-h.invariant (by_rows _ _ _ _ _ ∙ sym same ∙ c.if-not-word_equal.false))
 
 pub returns : goal.returns
-returns c = left_rest _ _ _ _ _ c.loop-k.invariant (c.word_equal-2.ensures ∙ sym (by_rows _ _ _ _ _)) ∙ by_rows _ _ _ _ _
+returns c = 
+    let all_blocks : c.loop-h.h ≡ c.args.rows.count / 64 = omega (arith, c.loop-h-test.false, c.loop-h.auto.h-end) in
+    let last = rw all_blocks at c.loop-h.invariant in
+    let same = rw c.part-2.ensures at c.word_equal-2.ensures in
+    left_rest _ _ _ _ _ last (same ∙ sym (by_rows _ _ _ _ _)) ∙ by_rows _ _ _ _ _

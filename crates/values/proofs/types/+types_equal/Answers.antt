@@ -15,20 +15,14 @@ returns-then-not-heads_equal t c = heads_fail _ _ _ _ _ _ c.if-depth-eq0.false c
 pub loop-k-init : goal.loop-k-init
 loop-k-init t c = left_none _ _ _ _
 
-pub overflow_add-x : goal.overflow_add-x
-overflow_add-x t c = omega (arith, c.first_child-x.ensures.small, c.child_count-count.ensures.small, c.loop-k-test.true)
-
-pub overflow_add-y : goal.overflow_add-y
-overflow_add-y t c = omega (arith, c.first_child-y.ensures.small, c.child_count-count.ensures.small, c.loop-k-test.true)
+pub child-child-requires : goal.child-child-requires
+child-child-requires t c = omega (arith, c.child_count-k-end.ensures.small, c.loop-k-test.true)
 
 pub returns-then-not-labels_equal : goal.returns-then-not-labels_equal
-returns-then-not-labels_equal t c = left_fails _ _ _ _ _ c.loop-k-test.true c.loop-k.invariant (labels_fail _ _ _ _ _ _ _ c.labels_equal.ensures (c.if-not-labels_equal.true)) ∙ children _ _ _ _ _ _ c.if-depth-eq0.false c.heads_equal.ensures (c.if-not-heads_equal.false) c.code-c.ensures.value c.below-counted.ensures refl c.child_count-count.ensures.value c.first_child-x.ensures.value c.first_child-y.ensures.value
-
-pub overflow_add-x-in-loop-k : goal.overflow_add-x-in-loop-k
-overflow_add-x-in-loop-k t c = omega (arith, c.first_child-x.ensures.small, c.child_count-count.ensures.small, c.loop-k-test.true)
-
-pub overflow_add-y-in-loop-k : goal.overflow_add-y-in-loop-k
-overflow_add-y-in-loop-k t c = omega (arith, c.first_child-y.ensures.small, c.child_count-count.ensures.small, c.loop-k-test.true)
+returns-then-not-labels_equal t c =
+    let lt = (rw c.child_count-k-end.ensures.value at c.loop-k-test.true) in
+    let labels = rw c.child-child.ensures.same at c.labels_equal.ensures in
+    left_fails _ _ _ _ _ lt c.loop-k.invariant (labels_fail _ _ _ _ _ _ _ labels (c.if-not-labels_equal.true)) ∙ children _ _ _ _ _ _ c.if-depth-eq0.false c.heads_equal.ensures (c.if-not-heads_equal.false) c.code-code.ensures.value c.below-counted.ensures refl refl refl refl
 
 pub overflow_sub-depth : goal.overflow_sub-depth
 overflow_sub-depth t c = omega (arith, c.if-depth-eq0.false)
@@ -37,16 +31,18 @@ pub types_equal-requires : goal.types_equal-requires
 types_equal-requires t c = (omega (arith, c.decreases, c.if-depth-eq0.false), tt)
 
 pub returns-then-not-types_equal : goal.returns-then-not-types_equal
-returns-then-not-types_equal t c = left_fails _ _ _ _ _ c.loop-k-test.true c.loop-k.invariant (labels_agree_lem _ _ _ _ _ _ _ c.labels_equal.ensures (c.if-not-labels_equal.false) c.types_equal.ensures ∙ c.if-not-types_equal.true) ∙ children _ _ _ _ _ _ c.if-depth-eq0.false c.heads_equal.ensures (c.if-not-heads_equal.false) c.code-c.ensures.value c.below-counted.ensures refl c.child_count-count.ensures.value c.first_child-x.ensures.value c.first_child-y.ensures.value
-
-pub overflow_add-k : goal.overflow_add-k
-overflow_add-k t c = omega (arith, c.child_count-count.ensures.small, c.loop-k-test.true)
-
-pub loop-k-smaller : goal.loop-k-smaller
-loop-k-smaller t c = omega (arith, c.loop-k-test.true)
+returns-then-not-types_equal t c =
+    let lt = (rw c.child_count-k-end.ensures.value at c.loop-k-test.true) in
+    let labels = rw c.child-child.ensures.same at c.labels_equal.ensures in
+    let types = rw c.child-child.ensures.same at c.types_equal.ensures in
+    left_fails _ _ _ _ _ lt c.loop-k.invariant (labels_agree_lem _ _ _ _ _ _ _ labels (c.if-not-labels_equal.false) types ∙ c.if-not-types_equal.true) ∙ children _ _ _ _ _ _ c.if-depth-eq0.false c.heads_equal.ensures (c.if-not-heads_equal.false) c.code-code.ensures.value c.below-counted.ensures refl refl refl refl
 
 pub loop-k-preserved : goal.loop-k-preserved
-loop-k-preserved t c = left_more _ _ _ _ _ c.loop-k-test.true c.loop-k.invariant (labels_agree_lem _ _ _ _ _ _ _ c.labels_equal.ensures (c.if-not-labels_equal.false) c.types_equal.ensures ∙ c.if-not-types_equal.false)
+loop-k-preserved t c =
+    let lt = (rw c.child_count-k-end.ensures.value at c.loop-k-test.true) in
+    let labels = rw c.child-child.ensures.same at c.labels_equal.ensures in
+    let types = rw c.child-child.ensures.same at c.types_equal.ensures in
+    left_more _ _ _ _ _ lt c.loop-k.invariant (labels_agree_lem _ _ _ _ _ _ _ labels (c.if-not-labels_equal.false) types ∙ c.if-not-types_equal.false)
 
 pub returns : goal.returns
-returns t c = left_done _ _ _ _ _ c.loop-k-test.false c.loop-k.invariant ∙ children _ _ _ _ _ _ c.if-depth-eq0.false c.heads_equal.ensures (c.if-not-heads_equal.false) c.code-c.ensures.value c.below-counted.ensures refl c.child_count-count.ensures.value c.first_child-x.ensures.value c.first_child-y.ensures.value
+returns t c = left_done _ _ _ _ _ (rw c.child_count-k-end.ensures.value at c.loop-k-test.false) c.loop-k.invariant ∙ children _ _ _ _ _ _ c.if-depth-eq0.false c.heads_equal.ensures (c.if-not-heads_equal.false) c.code-code.ensures.value c.below-counted.ensures refl refl refl refl

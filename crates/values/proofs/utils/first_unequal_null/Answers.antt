@@ -1,16 +1,45 @@
 -- The first pair of rows of which one alone is null: by their bits, or where one side has no bitmap by the other's.
 -- The laws of Masks.
 use Rattle.values.proofs.Masks.{masks_none, masks_left, masks_right, masks_both}
+use native.Mathlib.Omega.{arith}
 use Rattle.values.proofs.utils.first_unequal_null.Goals as goal
 
-pub returns-then-not-has_bitmap-2 : goal.returns-then-not-has_bitmap-2
-returns-then-not-has_bitmap-2 c = masks_none _ _ _ _ _ _ _ c.has_bitmap.ensures c.has_bitmap-then-not-has_bitmap.ensures (c.if-not-has_bitmap.true) (c.if-not-has_bitmap-2.true)
+pub returns-in-None-None : goal.returns-in-None-None
+returns-in-None-None c =
+    let left = rw c.in-None-None.is-0 at c.validity-left.ensures in
+    let right = rw c.in-None-None.is-1 at c.validity-right.ensures in
+    masks_none c.args.pair c.args.rows left right
 
-pub returns-then-not-has_bitmap : goal.returns-then-not-has_bitmap
-returns-then-not-has_bitmap c = masks_right _ _ _ _ _ _ _ c.has_bitmap.ensures c.has_bitmap-then-not-has_bitmap.ensures (c.if-not-has_bitmap.true) (c.if-not-has_bitmap-2.false) c.bitmap_place.ensures c.first_bit.ensures c.leading_set.ensures
+pub returns-in-None-Some : goal.returns-in-None-Some
+returns-in-None-Some c =
+    let left = rw c.in-None-Some.is-0 at c.validity-left.ensures in
+    let right = rw c.in-None-Some.is-1 at c.validity-right.ensures in
+    masks_right c.args.pair c.args.rows left right c.leading_set.ensures
 
-pub returns-then-not-has_bitmap-3 : goal.returns-then-not-has_bitmap-3
-returns-then-not-has_bitmap-3 c = masks_left _ _ _ _ _ _ _ c.has_bitmap.ensures c.has_bitmap-2.ensures (c.if-not-has_bitmap.false) (c.if-not-has_bitmap-3.true) c.bitmap_place-then-not-has_bitmap-3.ensures c.first_bit-then-not-has_bitmap-3.ensures c.leading_set-then-not-has_bitmap-3.ensures
+pub returns-in-Some-None : goal.returns-in-Some-None
+returns-in-Some-None c =
+    let left = rw c.in-Some-None.is-0 at c.validity-left.ensures in
+    let right = rw c.in-Some-None.is-1 at c.validity-right.ensures in
+    masks_left c.args.pair c.args.rows left right c.leading_set-in-Some-None.ensures
 
-pub returns : goal.returns
-returns c = masks_both _ _ _ _ _ _ _ c.has_bitmap.ensures c.has_bitmap-2.ensures (c.if-not-has_bitmap.false) (c.if-not-has_bitmap-3.false) c.bitmap_place-2.ensures c.first_bit-2.ensures c.bitmap_place-3.ensures c.first_bit-3.ensures c.first_unequal_bit.ensures
+pub returns-in-Some-Some : goal.returns-in-Some-Some
+returns-in-Some-Some c =
+    let left = rw c.in-Some-Some.is-0 at c.validity-left.ensures in
+    let right = rw c.in-Some-Some.is-1 at c.validity-right.ensures in
+    masks_both c.args.pair c.args.rows left right c.first_unequal_bit.ensures
+
+pub leading_set-requires : goal.leading_set-requires
+leading_set-requires c =
+    let right = rw c.in-None-Some.is-1 at c.validity-right.ensures in
+    record { place = right.near; few = omega (arith, right.few, c.requires.right) }
+
+pub leading_set-requires-in-Some-None : goal.leading_set-requires-in-Some-None
+leading_set-requires-in-Some-None c =
+    let left = rw c.in-Some-None.is-0 at c.validity-left.ensures in
+    record { place = left.near; few = omega (arith, left.few, c.requires.left) }
+
+pub first_unequal_bit-requires : goal.first_unequal_bit-requires
+first_unequal_bit-requires c =
+    let left = rw c.in-Some-Some.is-0 at c.validity-left.ensures in
+    let right = rw c.in-Some-Some.is-1 at c.validity-right.ensures in
+    (record { place = left.near; few = omega (arith, left.few, c.requires.left) }, record { place = right.near; few = omega (arith, right.few, c.requires.right) })

@@ -1,42 +1,58 @@
 -- `values::variable_size::variable_sized_equal` meets its contract.
 -- The definition is rewritten by what the calls ensure and by the tests on the way.
 use Rattle.accepted.proofs.Nodes.{part_small}
+use Rattle.values.proofs.Slices.{parts_same}
 use Rattle.values.proofs.Texts.{text_spans, text_up, texts_differ, texts_block, right_end}
 use Rattle.accepted.proofs.Texts.{text_narrow, text_inside}
 use Rattle.image.specs.TypeCode.{layout_of}
 use mathlib.Core.Path.{sym, ap, ◌∙◌}
+use Prim.Native.Nat.{◌+◌, ◌-◌, ◌≤◌}
+use lib.ListN.{length}
 use native.Mathlib.Omega.{arith}
 use Rattle.values.proofs.variable_size.variable_sized_equal.Goals as goal
 
 pub lengths_equal-requires : goal.lengths_equal-requires
-lengths_equal-requires c = text_spans c.requires.parts c.requires.an_value
+lengths_equal-requires c = text_spans c.requires.parts c.requires.layout
 
 pub returns-then-not-lengths_equal : goal.returns-then-not-lengths_equal
 returns-then-not-lengths_equal c = texts_differ _ _ _ _ _ _ _ (sym c.lengths_equal.ensures ∙ c.if-not-lengths_equal.true)
 
 pub offset_at-from-requires : goal.offset_at-from-requires
-offset_at-from-requires c = (text_narrow _ _ _ _ c.requires.parts.left c.requires.an_value, omega (arith, part_small c.requires.parts.left))
+offset_at-from-requires c = (text_narrow _ _ _ _ c.requires.parts.left c.requires.layout, omega (arith, part_small c.requires.parts.left))
 
-pub overflow_add-s : goal.overflow_add-s
-overflow_add-s c = omega (arith, part_small c.requires.parts.left)
+pub overflow_add-rows : goal.overflow_add-rows
+overflow_add-rows c = omega (arith, part_small c.requires.parts.left)
 
-pub offset_at-to-requires : goal.offset_at-to-requires
-offset_at-to-requires c = (text_narrow _ _ _ _ c.requires.parts.left c.requires.an_value, omega (arith, part_small c.requires.parts.left))
+pub offset_at-requires : goal.offset_at-requires
+offset_at-requires c = (text_narrow _ _ _ _ c.requires.parts.left c.requires.layout, omega (arith, part_small c.requires.parts.left))
 
-pub offset_at-start-requires : goal.offset_at-start-requires
-offset_at-start-requires c = (text_narrow _ _ _ _ c.requires.parts.right (sym (ap layout_of c.requires.parts.alike.0.code) ∙ c.requires.an_value), omega (arith, part_small c.requires.parts.right))
+pub overflow_sub-len : goal.overflow_sub-len
+overflow_sub-len c = omega (arith, c.offset_at-from.ensures, c.offset_at.ensures, text_up _ _ _ _ c.requires.parts.left c.requires.layout)
 
-pub overflow_add-buffer_place : goal.overflow_add-buffer_place
-overflow_add-buffer_place c = omega (arith, c.buffer_place.ensures.value, c.offset_at-from.ensures, c.offset_at-to.ensures, c.offset_at-start.ensures, text_inside _ _ _ _ c.requires.parts.left c.requires.an_value, text_up _ _ _ _ c.requires.parts.left c.requires.an_value, c.requires.parts.left.image.tables.size)
+pub overflow_add-x : goal.overflow_add-x
+overflow_add-x c = omega (arith, c.buffer_place.ensures.value, c.offset_at-from.ensures, c.offset_at.ensures, text_inside _ _ _ _ c.requires.parts.left c.requires.layout, text_up _ _ _ _ c.requires.parts.left c.requires.layout, c.requires.parts.left.image.tables.size)
 
-pub overflow_add-buffer_place-2 : goal.overflow_add-buffer_place-2
-overflow_add-buffer_place-2 c = omega (arith, c.buffer_place-2.ensures.value, c.offset_at-from.ensures, c.offset_at-to.ensures, c.offset_at-start.ensures, text_inside _ _ _ _ c.requires.parts.right (sym (ap layout_of c.requires.parts.alike.0.code) ∙ c.requires.an_value), right_end _ _ _ _ _ _ _ (text_spans c.requires.parts c.requires.an_value) (sym c.lengths_equal.ensures ∙ c.if-not-lengths_equal.false), c.requires.parts.right.image.tables.size)
+pub offset_at-requires-2 : goal.offset_at-requires-2
+offset_at-requires-2 c = (text_narrow _ _ _ _ c.requires.parts.right (sym (ap layout_of c.requires.parts.alike.0.code) ∙ c.requires.layout), omega (arith, part_small c.requires.parts.right))
 
-pub overflow_sub-to : goal.overflow_sub-to
-overflow_sub-to c = omega (arith, c.offset_at-from.ensures, c.offset_at-to.ensures, c.offset_at-start.ensures, text_up _ _ _ _ c.requires.parts.left c.requires.an_value)
+pub overflow_add-y : goal.overflow_add-y
+overflow_add-y c = omega (arith, c.buffer_place.ensures.value, c.buffer_place-2.ensures.value, c.offset_at-from.ensures, c.offset_at.ensures, c.offset_at-2.ensures, text_inside _ _ _ _ c.requires.parts.left c.requires.layout, text_up _ _ _ _ c.requires.parts.left c.requires.layout, c.requires.parts.left.image.tables.size, text_inside _ _ _ _ c.requires.parts.right (sym (ap layout_of c.requires.parts.alike.0.code) ∙ c.requires.layout), right_end _ _ _ _ _ _ _ (text_spans c.requires.parts c.requires.layout) (sym c.lengths_equal.ensures ∙ c.if-not-lengths_equal.false), c.requires.parts.right.image.tables.size)
 
-pub equal_len-requires : goal.equal_len-requires
-equal_len-requires c = omega (arith, c.buffer_place.ensures.value, c.buffer_place-2.ensures.value, c.offset_at-from.ensures, c.offset_at-to.ensures, c.offset_at-start.ensures, text_inside _ _ _ _ c.requires.parts.left c.requires.an_value, text_up _ _ _ _ c.requires.parts.left c.requires.an_value, text_inside _ _ _ _ c.requires.parts.right (sym (ap layout_of c.requires.parts.alike.0.code) ∙ c.requires.an_value), right_end _ _ _ _ _ _ _ (text_spans c.requires.parts c.requires.an_value) (sym c.lengths_equal.ensures ∙ c.if-not-lengths_equal.false))
+pub overflow_add-x-2 : goal.overflow_add-x-2
+overflow_add-x-2 c = omega (arith, c.buffer_place.ensures.value, c.buffer_place-2.ensures.value, c.offset_at-from.ensures, c.offset_at.ensures, c.offset_at-2.ensures, text_inside _ _ _ _ c.requires.parts.left c.requires.layout, text_up _ _ _ _ c.requires.parts.left c.requires.layout, c.requires.parts.left.image.tables.size, text_inside _ _ _ _ c.requires.parts.right (sym (ap layout_of c.requires.parts.alike.0.code) ∙ c.requires.layout), right_end _ _ _ _ _ _ _ (text_spans c.requires.parts c.requires.layout) (sym c.lengths_equal.ensures ∙ c.if-not-lengths_equal.false), c.requires.parts.right.image.tables.size)
+
+pub overflow_add-y-2 : goal.overflow_add-y-2
+overflow_add-y-2 c = omega (arith, c.buffer_place.ensures.value, c.buffer_place-2.ensures.value, c.offset_at-from.ensures, c.offset_at.ensures, c.offset_at-2.ensures, text_inside _ _ _ _ c.requires.parts.left c.requires.layout, text_up _ _ _ _ c.requires.parts.left c.requires.layout, c.requires.parts.left.image.tables.size, text_inside _ _ _ _ c.requires.parts.right (sym (ap layout_of c.requires.parts.alike.0.code) ∙ c.requires.layout), right_end _ _ _ _ _ _ _ (text_spans c.requires.parts c.requires.layout) (sym c.lengths_equal.ensures ∙ c.if-not-lengths_equal.false), c.requires.parts.right.image.tables.size)
+
+pub slice_bounds-eq-end : goal.slice_bounds-eq-end
+slice_bounds-eq-end c = omega (arith, c.buffer_place.ensures.value, c.buffer_place-2.ensures.value, c.offset_at-from.ensures, c.offset_at.ensures, c.offset_at-2.ensures, text_inside _ _ _ _ c.requires.parts.left c.requires.layout, text_up _ _ _ _ c.requires.parts.left c.requires.layout, c.requires.parts.left.image.tables.size, text_inside _ _ _ _ c.requires.parts.right (sym (ap layout_of c.requires.parts.alike.0.code) ∙ c.requires.layout), right_end _ _ _ _ _ _ _ (text_spans c.requires.parts c.requires.layout) (sym c.lengths_equal.ensures ∙ c.if-not-lengths_equal.false), c.requires.parts.right.image.tables.size)
+
+pub slice_bounds-eq-end-2 : goal.slice_bounds-eq-end-2
+slice_bounds-eq-end-2 c = omega (arith, c.buffer_place.ensures.value, c.buffer_place-2.ensures.value, c.offset_at-from.ensures, c.offset_at.ensures, c.offset_at-2.ensures, text_inside _ _ _ _ c.requires.parts.left c.requires.layout, text_up _ _ _ _ c.requires.parts.left c.requires.layout, c.requires.parts.left.image.tables.size, text_inside _ _ _ _ c.requires.parts.right (sym (ap layout_of c.requires.parts.alike.0.code) ∙ c.requires.layout), right_end _ _ _ _ _ _ _ (text_spans c.requires.parts c.requires.layout) (sym c.lengths_equal.ensures ∙ c.if-not-lengths_equal.false), c.requires.parts.right.image.tables.size)
 
 pub returns : goal.returns
-returns c = c.equal_len.ensures ∙ rw (c.buffer_place.ensures.value, c.buffer_place-2.ensures.value, c.offset_at-from.ensures, c.offset_at-to.ensures, c.offset_at-start.ensures) (texts_block _ _ _ _ _ _ _ _ c.requires.parts c.requires.an_value (sym c.lengths_equal.ensures ∙ c.if-not-lengths_equal.false))
+returns c = 
+    let inside_left : c.buffer_place.result + c.offset_at-from.result + (c.offset_at.result - c.offset_at-from.result) ≤ length c.args.pair.left.image.now = omega (arith, c.buffer_place.ensures.value, c.buffer_place-2.ensures.value, c.offset_at-from.ensures, c.offset_at.ensures, c.offset_at-2.ensures, text_inside _ _ _ _ c.requires.parts.left c.requires.layout, text_up _ _ _ _ c.requires.parts.left c.requires.layout, c.requires.parts.left.image.tables.size, text_inside _ _ _ _ c.requires.parts.right (sym (ap layout_of c.requires.parts.alike.0.code) ∙ c.requires.layout), right_end _ _ _ _ _ _ _ (text_spans c.requires.parts c.requires.layout) (sym c.lengths_equal.ensures ∙ c.if-not-lengths_equal.false), c.requires.parts.right.image.tables.size) in
+    let inside_right : c.buffer_place-2.result + c.offset_at-2.result + (c.offset_at.result - c.offset_at-from.result) ≤ length c.args.pair.right.image.now = omega (arith, c.buffer_place.ensures.value, c.buffer_place-2.ensures.value, c.offset_at-from.ensures, c.offset_at.ensures, c.offset_at-2.ensures, text_inside _ _ _ _ c.requires.parts.left c.requires.layout, text_up _ _ _ _ c.requires.parts.left c.requires.layout, c.requires.parts.left.image.tables.size, text_inside _ _ _ _ c.requires.parts.right (sym (ap layout_of c.requires.parts.alike.0.code) ∙ c.requires.layout), right_end _ _ _ _ _ _ _ (text_spans c.requires.parts c.requires.layout) (sym c.lengths_equal.ensures ∙ c.if-not-lengths_equal.false), c.requires.parts.right.image.tables.size) in
+    let same = c.eq.ensures ∙ parts_same _ _ _ _ _ _ inside_left inside_right in
+    same ∙ rw (c.buffer_place.ensures.value, c.buffer_place-2.ensures.value, c.offset_at-from.ensures, c.offset_at.ensures, c.offset_at-2.ensures) (texts_block _ _ _ _ _ _ _ _ c.requires.parts c.requires.layout (sym c.lengths_equal.ensures ∙ c.if-not-lengths_equal.false))

@@ -1,0 +1,64 @@
+// Two nodes whose rows are compared, and the rows of each.
+ghost use Rattle.std.specs.Prelude.{◌≡◌, ◌+◌, ◌<◌, ◌^◌};
+ghost use Rattle.values.specs.Pair.{Roots, children, part};
+
+use image::record::Node;
+
+// Two nodes whose rows are compared.
+#[derive(Clone, Copy)]
+pub struct Pair<'a> {
+    pub left: Node<'a>,
+    pub right: Node<'a>,
+}
+
+impl<'a> Pair<'a> {
+    // The roots of two images.
+    pub fn roots(a: &'a [u8], b: &'a [u8]) -> Pair<'a>
+        ensures { Roots a.now b.now result }
+    {
+        Pair {
+            left: Node {
+                image: a,
+                number: 0,
+            },
+            right: Node {
+                image: b,
+                number: 0,
+            },
+        }
+    }
+
+    // Child c of each.
+    pub fn child(self, c: u32) -> Pair<'a>
+        requires { c < 2 ^ 31 }
+        ensures same { result ≡ children self.entry c }
+        ensures near { (result.left.number < c + 2 ^ 16) × (result.right.number < c + 2 ^ 16) }
+    {
+        Pair {
+            left: self.left.child(c),
+            right: self.right.child(c),
+        }
+    }
+}
+
+// As many rows, or elements, of each of two nodes, from one of the left and from one of the right on.
+#[derive(Clone, Copy)]
+pub struct Rows {
+    pub left: usize,
+    pub right: usize,
+    pub count: usize,
+}
+
+impl Rows {
+    // n of them, from the one numbered k on.
+    pub fn part(self, k: usize, n: usize) -> Rows
+        requires { (self.left + k < 2 ^ 64) × (self.right + k < 2 ^ 64) }
+        ensures { result ≡ part self k n }
+    {
+        Rows {
+            left: self.left + k,
+            right: self.right + k,
+            count: n,
+        }
+    }
+}
