@@ -40,18 +40,22 @@ def functions(text):
         yield m[1], params, text[body.end():end], m.start()
 
 
+FOUND = 'Accepted|Yes|Agreed|Within|Nowhere|Bytes|Left|Done|Compare|Fits'
+REFUSED = 'Refused|No|OutOfRange|Short|TooLong|At|NotRows|Unreadable'
+
+
 def point1():
-    """Enums with a variant for what is refused or not there; flags in structs; constants that stand for nothing; numbers for
+    """Enums with a variant for what is found and one for what is refused or not there; flags in structs; constants that stand for nothing; numbers for
     refusals; comments of functions that say which number stands for nothing."""
     for path, text in sources():
         for m in re.finditer(r'\benum (\w+) \{(.*?)\n\}', text, re.S):
-            if re.search(r'^\s*(Refused|Accepted|Within|Short|TooLong|Nowhere|Agreed|OutOfRange)\b', m[2], re.M):
+            if all(re.search(r'^\s*(' + names + r')\b', m[2], re.M) for names in (FOUND, REFUSED)):
                 yield path, line_of(text, m.start()), 'enum ' + m[1]
         for m in re.finditer(r'^    (?:pub )?(\w+): bool,$', text, re.M):
             yield path, line_of(text, m.start()), 'flag ' + m[1]
         for m in re.finditer(r'const (NOT?_\w+):', text):
             yield path, line_of(text, m.start()), 'constant ' + m[1]
-        for m in re.finditer(r'Refused\((?:\d+|u8)\)|\bnumber: (?:\d+|u8)\b|numbers_of\([1-9]\d', text):
+        for m in re.finditer(r'Refused\((?:\d+|u8)\)|\bnumber: (?:[1-9]\d*|u8)\b|numbers_of\([1-9]\d', text):
             yield path, line_of(text, m.start()), 'number ' + m[0]
         for m in re.finditer(r'^ *// .*(\bor (?:n|the end of \w+(?: \w+)?|the node itself)\b.*\b(?:where|none)\b|[;:,] (?:0|none) where\b).*$', text, re.M):
             yield path, line_of(text, m.start()), 'stands for nothing: ' + m[1]
