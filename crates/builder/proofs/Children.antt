@@ -1,42 +1,44 @@
 -- The lengths of nodes, filled in from the root on.
 -- A parent's number is lower than its children's, and later nodes have later children: what is filled in once stays.
-use mathlib.Core.Path.{◌≡◌, refl, sym, ◌∙◌}
-use mathlib.Core.List.{List}
+use mathlib.Core.Path.{◌≡◌, sym, ap, ◌∙◌}
+use mathlib.Core.List.{List, ◌++◌}
 use mathlib.Core.Logic.{◌⊎◌, inl, inr}
-use Prim.Native.Nat.{ℕ, suc, ◌+◌, ◌≤◌, ◌<◌}
+use Prim.Native.Nat.{ℕ, suc, ◌+◌, ◌-◌, ◌≤◌, ◌<◌}
 use native.Mathlib.Nat.{eq-or-lt_of_le}
 use native.Mathlib.Omega.{arith}
-use lib.ListN.{length, get_or, set, length-set}
-use lib.Seq.{get_or-set_same, get_or-set_other}
+use borrow.Rule.Slice.PartMut.{mid_of, put_mid, same_len_mid}
+use lib.ListN.{length, get_or, set, take, drop, replicate, length-set, length-drop, length-replicate, get_or-append, get_or-replicate}
+use lib.Seq.{get_or-set_same, get_or-take, get_or-append-add, length-take-le}
 use Rattle.image.specs.Record.{node_count, first_child, child_count}
 use Rattle.image.specs.Element.{child_end}
 use Rattle.laws.specs.Accepted.{AcceptedImage}
 use Rattle.built.proofs.Columns.{ends_before}
-use Rattle.builder.specs.Plan.{child_rows, LengthsTo, Filled}
+use Rattle.builder.specs.Plan.{child_rows, LengthsTo}
 
 -- A table that is filled.
 
-pub fill_start : (old : List ℕ) (place x : ℕ) → Filled old place 0 x old
-fill_start old place x = record { sized = refl; inside = λ i lt. absurd (omega arith); before = λ j lt. refl }
+-- a table with n entries from a place on set to x
+pub record Filled (old : List ℕ) (place n x : ℕ) (new : List ℕ) : Type 0 where
+  pub sized : length new ≡ length old
+  pub inside : (i : ℕ) → i < n → get_or new (place + i) 0 ≡ x
+  pub before : (j : ℕ) → j < place → get_or new j 0 ≡ get_or old j 0
 
-module _ {old new : List ℕ} {place k x : ℕ} (f : Filled old place k x new) where
-  pub fill_more : place + k < length old → Filled old place (k + 1) x (set new (place + k) x)
-  fill_more lt = record {
-    sized = length-set new (place + k) x ∙ f.sized;
-    inside = λ i less. cases i (eq-or-lt_of_le {n = suc i} {m = k + 1} (omega arith));
-    before = λ j less. get_or-set_other new (place + k) j x 0 (λ q. omega arith) ∙ f.before j less;
+module _ {old : List ℕ} {place n x : ℕ} (fits : place + n ≤ length old) where
+  pub filled : Filled old place n x (put_mid place n old (replicate n x))
+  filled = record {
+    sized = same_len_mid place n old (replicate n x) (length-replicate {A = ℕ} n x ∙ sym (length-take-le n (drop place old) (omega (arith, length-drop place old))));
+    inside = λ i lt. ap (λ (j : ℕ). get_or (put_mid place n old (replicate n x)) (j + i) 0) (sym long) ∙ get_or-append-add (take place old) (replicate n x ++ drop n (drop place old)) i 0 ∙ get_or-append (replicate n x) (drop n (drop place old)) 0 i (omega (arith, length-replicate {A = ℕ} n x, lt)) ∙ get_or-replicate n i x 0 lt;
+    before = λ j lt. get_or-append (take place old) (replicate n x ++ drop n (drop place old)) 0 j (omega (arith, long, lt)) ∙ get_or-take place old j 0 lt;
   }
     where
-      cases : (i : ℕ) → (suc i ≡ k + 1) ⊎ (suc i < k + 1) → get_or (set new (place + k) x) (place + i) 0 ≡ x
-      cases i (inl e) =
-          let same : i ≡ k = omega arith in
-          rw same (get_or-set_same new (place + k) x 0 (omega (arith, f.sized)))
-      cases i (inr less) = get_or-set_other new (place + k) (place + i) x 0 (λ q. omega arith) ∙ f.inside i (omega arith)
+      long : length (take place old) ≡ place
+      long = length-take-le place old (omega (arith, fits))
 
-  pub fill_done : (n : ℕ) → k ≤ n → n ≤ k → Filled old place n x new
-  fill_done n le ge =
-      let same : k ≡ n = omega arith in
-      rw (← same) f
+  -- filled, as the library says of the part
+  pub filled_by : {part : List ℕ} → part ≡ replicate (length (mid_of place (place + n - place) old)) x → Filled old place n x (put_mid place (place + n - place) old part)
+  filled_by e =
+      let same : place + n - place ≡ n = omega arith in
+      rw (e, same, length-take-le n (drop place old) (omega (arith, length-drop place old, fits))) filled
 
 -- The lengths.
 

@@ -2,14 +2,16 @@
 -- What is left to put begins with the next number; a number's bytes are as many as its width.
 use mathlib.Core.Path.{◌≡◌, sym, ap}
 use mathlib.Core.List.{List, ◌++◌}
-use Prim.Native.Nat.{ℕ, suc, ◌+◌, ◌-◌, ◌≤◌, ◌<◌}
+use Prim.Native.Nat.{ℕ, ◌+◌, ◌-◌, ◌≤◌, ◌<◌}
 use native.Mathlib.Nat.{zero-add}
 use native.Mathlib.Omega.{arith}
-use lib.ListN.{length, set, replicate, length-replicate}
+use lib.ListN.{length, drop, replicate, length-drop, length-replicate}
+use lib.Seq.{drop-drop, length-take-le}
+use borrow.Rule.Slice.PartMut.{mid_of, put_mid}
 use Rattle.image.specs.Bytes.{number_bytes}
 use Rattle.laws.proofs.Lengths.{number_length}
 use Rattle.rows.specs.Output.{over, Fits}
-use Rattle.rows.proofs.Over.{ToPut, put_start, put_as, put_more, put_last, put_byte, put_done, PiecesToPut, pieces_fit, pieces_more}
+use Rattle.rows.proofs.Over.{ToPut, put_start, put_as, put_more, put_last, PiecesToPut, pieces_fit, pieces_more}
 
 -- nothing is put yet, of bytes whose length is known
 put_sized : {out whole : List ℕ} {at n : ℕ} → length whole ≡ n → at + n ≤ length out → ToPut out at whole out at whole
@@ -39,23 +41,7 @@ module _ {p : ℕ → List ℕ} {n : ℕ} {out₀ : List ℕ} {at : ℕ} {out : 
   pub piece_put : {after : List ℕ} {end : ℕ} → (end ≡ next + length (p k)) × (after ≡ over out next (p k)) → PiecesToPut p 0 n out₀ at after end (k + 1)
   piece_put f = pieces_more t lt (rw (zero-add k) f.1) (rw (zero-add k) f.0)
 
--- Zeros: of those from a place up to another, those from place k on are still to be put.
-pub record ZerosToPut (out₀ : List ℕ) (from to : ℕ) (out : List ℕ) (k : ℕ) : Type 0 where
-  pub put : ToPut out₀ from (replicate (to - from) 0) out k (replicate (to - k) 0)
-
-pub zeros_start : {out : List ℕ} {from to : ℕ} → from ≤ to → to ≤ length out → ZerosToPut out from to out from
-zeros_start {out} {from} {to} le fits = record { put = put_sized (length-replicate {A = ℕ} (to - from) 0) (omega arith) }
-
-module _ {out₀ out : List ℕ} {from to k : ℕ} (t : ZerosToPut out₀ from to out k) where
-  pub zeros_fit : k < to → k < length out
-  zeros_fit lt = omega (arith, t.put.fits, length-replicate {A = ℕ} (to - k) 0)
-
-  pub zeros_more : k < to → ZerosToPut out₀ from to (set out k 0) (k + 1)
-  zeros_more lt =
-      let e : to - k ≡ suc (to - (k + 1)) = omega arith in
-      record { put = put_byte (rw e at t.put) }
-
-  pub zeros_done : to ≤ k → out ≡ over out₀ from (replicate (to - from) 0)
-  zeros_done le =
-      let e : to - k ≡ 0 = omega arith in
-      put_done (rw e at t.put)
+-- Zeros from a place up to another, as the library fills the part.
+pub zeros_over : (out : List ℕ) {part : List ℕ} (from to : ℕ) → (from ≤ to) × (to ≤ length out) → part ≡ replicate (length (mid_of from (to - from) out)) 0 → put_mid from (to - from) out part ≡ over out from (replicate (to - from) 0)
+unfolding over
+zeros_over out {part} from to within e = rw (e, length-take-le (to - from) (drop from out) (omega (arith, length-drop from out, within.1)), length-replicate {A = ℕ} (to - from) 0, drop-drop _ _ _)

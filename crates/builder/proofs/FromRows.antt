@@ -21,7 +21,7 @@ use Rattle.image.specs.Row.{Rows}
 use Rattle.image.specs.RowBytes.{count}
 use Rattle.image.specs.Parse.{readable_code, readable}
 use Rattle.image.specs.Built.{parent_of, column, part_at, part_length, part_start, name_start, record_of, buffer_entry, entries_of, built_image}
-use Rattle.answers.specs.declared.BuildRefusal.TheVariants.{TooLong as BuildTooLong}
+use Rattle.answers.specs.declared.BuildRefusal.TheVariants.{TooLong}
 use Rattle.std.proofs.Common.{Ok, Err}
 use Rattle.answers.specs.Answers.{too_many_rows, image_answer}
 use Rattle.laws.specs.Accepted.{AcceptedImage}
@@ -34,7 +34,7 @@ use Rattle.built.proofs.Lengths.{PartLengths, null_lengths, boolean_lengths, fix
 use Rattle.built.proofs.Fields.{whole_length}
 use Rattle.built.proofs.Accepts.{sum_kept}
 use Rattle.rows.specs.Output.{Fits}
-use Rattle.builder.specs.declared.plan.Planned.TheVariants.{Bytes, TooLong}
+use Rattle.std.specs.Prelude.{None, Some}
 use Rattle.builder.specs.Plan.{child_rows, Lengths, bitmap_size, first_size, second_size, size_of, part_size, place_of, Places, too_many, plan_answer, built_of}
 use Rattle.builder.specs.Front.{length_from, built_flags, built_name, bitmap_from, type_fields, row_fields, table_fields, record_from, entry_from, entries_from, front_from}
 use Rattle.builder.proofs.Fronts.{few_buffers}
@@ -84,7 +84,7 @@ pieces_kept p q i zero same = refl
 pieces_kept p q i (suc n) same = rw (same i (omega arith) (omega arith), pieces_kept p q (suc i) n (λ k low high. same k (omega arith) (omega arith)))
 
 -- a refusal, or so many bytes
-either : (long : Bool) (size : ℕ) → cond long (Err BuildTooLong) (Ok size) ≡ built_of (cond long TooLong (Bytes size))
+either : (long : Bool) (size : ℕ) → cond long (Err TooLong) (Ok size) ≡ built_of (cond long None (Some size))
 either true size = refl
 either false size = refl
 

@@ -17,7 +17,7 @@ use Rattle.image.specs.Reads.{Read}
 use Rattle.image.specs.Built.{name_start}
 use Rattle.image.proofs.Ranges.{any_below, sum_grows}
 use Rattle.laws.specs.Accepted.{Tables}
-use Rattle.builder.specs.declared.plan.Planned.TheVariants.{Bytes, TooLong}
+use Rattle.std.specs.Prelude.{None, Some}
 use Rattle.builder.specs.Plan.{part_size, place_of, PlacesTo, Places, too_many, plan_answer, PlanOf}
 use Rattle.builder.specs.Front.{Rise}
 
@@ -60,37 +60,37 @@ module _ (s lengths spans : List ℕ) where
 
   -- The answer.
 
-  too_many_lem : any (too_many lengths) 0 (node_count s) ≡ true → (room : ℕ) → TooLong ≡ plan_answer s lengths spans room
+  too_many_lem : any (too_many lengths) 0 (node_count s) ≡ true → (room : ℕ) → None ≡ plan_answer s lengths spans room
   unfolding plan_answer
   too_many_lem e room = rw e (cases (ltb room (place_of s lengths spans (3 * node_count s)) || ltb longest_image (place_of s lengths spans (3 * node_count s))))
     where
-      cases : (b : Bool) → TooLong ≡ cond (b || true) TooLong (Bytes (place_of s lengths spans (3 * node_count s)))
+      cases : (b : Bool) → None ≡ cond (b || true) None (Some (place_of s lengths spans (3 * node_count s)))
       cases true = refl
       cases false = refl
 
-  too_long_lem : longest_image < place_of s lengths spans (3 * node_count s) → (room : ℕ) → TooLong ≡ plan_answer s lengths spans room
+  too_long_lem : longest_image < place_of s lengths spans (3 * node_count s) → (room : ℕ) → None ≡ plan_answer s lengths spans room
   unfolding plan_answer
   too_long_lem lt room = rw (lt-ltb longest_image (place_of s lengths spans (3 * node_count s)) lt) (cases (ltb room (place_of s lengths spans (3 * node_count s))))
     where
-      cases : (b : Bool) → TooLong ≡ cond (b || true || any (too_many lengths) 0 (node_count s)) TooLong (Bytes (place_of s lengths spans (3 * node_count s)))
+      cases : (b : Bool) → None ≡ cond (b || true || any (too_many lengths) 0 (node_count s)) None (Some (place_of s lengths spans (3 * node_count s)))
       cases true = refl
       cases false = refl
 
-  no_room : (room : ℕ) → room < place_of s lengths spans (3 * node_count s) → TooLong ≡ plan_answer s lengths spans room
+  no_room : (room : ℕ) → room < place_of s lengths spans (3 * node_count s) → None ≡ plan_answer s lengths spans room
   unfolding plan_answer
   no_room room lt = rw (lt-ltb room (place_of s lengths spans (3 * node_count s)) lt)
 
   fitting : (room : ℕ) → any (too_many lengths) 0 (node_count s) ≡ false → place_of s lengths spans (3 * node_count s) ≤ longest_image → place_of s lengths spans (3 * node_count s) ≤ room
-      → Bytes (place_of s lengths spans (3 * node_count s)) ≡ plan_answer s lengths spans room
+      → Some (place_of s lengths spans (3 * node_count s)) ≡ plan_answer s lengths spans room
   unfolding plan_answer
   fitting room few short fits = rw (le-ltb room (place_of s lengths spans (3 * node_count s)) fits, le-ltb longest_image (place_of s lengths spans (3 * node_count s)) short, few)
 
   -- where the answer is a size, it is that of the image, which fits
-  pub size_fits : (room size : ℕ) → plan_answer s lengths spans room ≡ Bytes size → (size ≡ place_of s lengths spans (3 * node_count s)) × (size ≤ room) × (size ≤ longest_image)
+  pub size_fits : (room size : ℕ) → plan_answer s lengths spans room ≡ Some size → (size ≡ place_of s lengths spans (3 * node_count s)) × (size ≤ room) × (size ≤ longest_image)
   unfolding plan_answer
   size_fits room size e = cases (ltb room (place_of s lengths spans (3 * node_count s))) (ltb longest_image (place_of s lengths spans (3 * node_count s))) (any (too_many lengths) 0 (node_count s)) refl refl e
     where
-      cases : (a b c : Bool) → ltb room (place_of s lengths spans (3 * node_count s)) ≡ a → ltb longest_image (place_of s lengths spans (3 * node_count s)) ≡ b → cond (a || b || c) TooLong (Bytes (place_of s lengths spans (3 * node_count s))) ≡ Bytes size
+      cases : (a b c : Bool) → ltb room (place_of s lengths spans (3 * node_count s)) ≡ a → ltb longest_image (place_of s lengths spans (3 * node_count s)) ≡ b → cond (a || b || c) None (Some (place_of s lengths spans (3 * node_count s))) ≡ Some size
           → (size ≡ place_of s lengths spans (3 * node_count s)) × (size ≤ room) × (size ≤ longest_image)
       cases false false false p q e =
           let is : size ≡ place_of s lengths spans (3 * node_count s) = cc in
@@ -106,7 +106,7 @@ module _ (s lengths spans : List ℕ) where
           absurd (omega arith)
 
   -- a refusal says nothing of the table
-  refused : {places : List ℕ} {room : ℕ} → TooLong ≡ plan_answer s lengths spans room → PlanOf s lengths spans room places TooLong
+  refused : {places : List ℕ} {room : ℕ} → None ≡ plan_answer s lengths spans room → PlanOf s lengths spans room places None
   refused e = record {
     answer = e;
     table = λ n q.
@@ -114,7 +114,7 @@ module _ (s lengths spans : List ℕ) where
         absurd (omega arith);
   }
 
-  pub many_refused : {places : List ℕ} {room : ℕ} → any (too_many lengths) 0 (node_count s) ≡ true → PlanOf s lengths spans room places TooLong
+  pub many_refused : {places : List ℕ} {room : ℕ} → any (too_many lengths) 0 (node_count s) ≡ true → PlanOf s lengths spans room places None
   many_refused {room = room} e = refused (too_many_lem e room)
 
 -- What the loop keeps: the table of places up to part q, and the place of part q.
@@ -164,7 +164,7 @@ module _ {s lengths spans places : List ℕ} where
           cases i (inr less) = get_or-set_other places (q + 1) i (place + size) 0 (λ e. omega arith) ∙ p.table.place i (omega arith)
 
       -- a part that is too long
-      pub planning_long : {room : ℕ} → longest_image - place < size → PlanOf s lengths spans room places TooLong
+      pub planning_long : {room : ℕ} → longest_image - place < size → PlanOf s lengths spans room places None
       planning_long {room} long =
           let grows = place_grows s lengths spans (q + 1) (3 * node_count s) (omega arith) in
           refused s lengths spans (too_long_lem s lengths spans (omega (arith, next_here, p.short)) room)
@@ -177,10 +177,10 @@ module _ {s lengths spans places : List ℕ} where
       end_here : place ≡ place_of s lengths spans (3 * node_count s)
       end_here = rw (← all_placed) p.here
 
-      pub planning_room : {room : ℕ} → room < place → PlanOf s lengths spans room places TooLong
+      pub planning_room : {room : ℕ} → room < place → PlanOf s lengths spans room places None
       planning_room {room} lt = refused s lengths spans (no_room s lengths spans room (omega (arith, end_here)))
 
-      pub planning_done : {room : ℕ} → any (too_many lengths) 0 (node_count s) ≡ false → place ≤ room → PlanOf s lengths spans room places (Bytes place)
+      pub planning_done : {room : ℕ} → any (too_many lengths) 0 (node_count s) ≡ false → place ≤ room → PlanOf s lengths spans room places (Some place)
       planning_done {room} few fits = record {
         answer = rw end_here (fitting s lengths spans room few (omega (arith, end_here, p.short)) (omega (arith, end_here)));
         table = λ n e. rw (← all_placed) p.table;

@@ -17,7 +17,7 @@ use Rattle.image.specs.Row.{Rows}
 use Rattle.image.specs.Parse.{Parsed, failed, parsed, readable, rows_in}
 use Rattle.image.specs.Built.{part_at, part_length, part_start}
 use Rattle.image.proofs.Ranges.{sum_grows}
-use Rattle.answers.specs.declared.BuildRefusal.TheVariants.{NotRows, TooLong as BuildTooLong}
+use Rattle.answers.specs.declared.BuildRefusal.TheVariants.{NotRows, TooLong}
 use Rattle.answers.specs.Answers.{rows_answer, build_answer, image_of, written_over}
 use Rattle.laws.proofs.Accepted.{accepted}
 use Rattle.built.specs.Walk.{the_rows}
@@ -30,7 +30,7 @@ use Rattle.parse.specs.Answer.{are_rows, Spanned}
 use Rattle.rows.specs.Output.{over, Fits}
 use Rattle.rows.proofs.Over.{over_length, over_over}
 use Rattle.fill.specs.Filling.{ToFill, filling}
-use Rattle.builder.specs.declared.plan.Planned.TheVariants.{Bytes, TooLong}
+use Rattle.std.specs.Prelude.{None, Some}
 use Rattle.builder.specs.Plan.{Lengths, Places, plan_answer, built_of}
 use Rattle.builder.specs.Front.{Rise, front_from}
 use Rattle.builder.specs.Table.{Laid}
@@ -178,12 +178,12 @@ module _ (s : List ℕ) (n : ℕ) (b out : List ℕ) {spans lengths : List ℕ} 
   planned : rows_answer s (rows_in s n b) out ≡ built_of (plan_answer s lengths spans (length out))
   planned = ap (λ (p : Parsed Rows). rows_answer s p out) read ∙ answer_is scanned l out
 
-  pub build_too_long : TooLong ≡ plan_answer s lengths spans (length out) → (Err BuildTooLong ≡ rows_answer s (rows_in s n b) out) × (out ≡ written_over (rows_answer s (rows_in s n b) out) (image_of s (rows_in s n b)) out)
+  pub build_too_long : None ≡ plan_answer s lengths spans (length out) → (Err TooLong ≡ rows_answer s (rows_in s n b) out) × (out ≡ written_over (rows_answer s (rows_in s n b) out) (image_of s (rows_in s n b)) out)
   build_too_long e =
-      let is : rows_answer s (rows_in s n b) out ≡ Err BuildTooLong = planned ∙ sym (ap built_of e) in
+      let is : rows_answer s (rows_in s n b) out ≡ Err TooLong = planned ∙ sym (ap built_of e) in
       (sym is, rw is)
 
-  module _ {size : ℕ} (e : Bytes size ≡ plan_answer s lengths spans (length out)) where
+  module _ {size : ℕ} (e : Some size ≡ plan_answer s lengths spans (length out)) where
     bytes : rows_answer s (rows_in s n b) out ≡ Ok size
     bytes = planned ∙ sym (ap built_of e)
 

@@ -1,6 +1,6 @@
 -- How long the nodes of a built image are, how many bytes each part takes, and where each part stands: from the row count of
 -- the root, and from how far the offsets of each node go on in all (its span).
-use Rattle.std.specs.Prelude.{◌≡◌, Bool, cond, ◌||◌, List, ℕ, ◌+◌, ◌*◌, ◌/◌, ◌%◌, ◌<◌, ◌≤◌, length, get_or, eqb, ltb, Result, Ok, Err}
+use Rattle.std.specs.Prelude.{◌≡◌, Bool, cond, ◌||◌, List, ℕ, ◌+◌, ◌*◌, ◌/◌, ◌%◌, ◌<◌, ◌≤◌, length, get_or, eqb, ltb, Option, Some, None, Result, Ok, Err}
 use Rattle.image.specs.declared.type_code.Layout.{Layout}
 use Rattle.image.specs.declared.type_code.Layout.TheVariants.{Null, Boolean, FixedWidth, VariableSize, View, List as Lists, ListView, FixedList, Struct, DenseUnion, SparseUnion, Dictionary, Runs}
 use Rattle.image.specs.Ranges.{any, sum_to}
@@ -9,9 +9,7 @@ use Rattle.image.specs.TypeCode.{layout_of, takes_bitmap}
 use Rattle.image.specs.Element.{element_width}
 use Rattle.image.specs.Built.{name_start}
 use Rattle.answers.specs.declared.BuildRefusal.{BuildRefusal}
-use Rattle.answers.specs.declared.BuildRefusal.TheVariants.{TooLong as BuildTooLong}
-use Rattle.builder.specs.declared.plan.Planned.{Planned}
-use Rattle.builder.specs.declared.plan.Planned.TheVariants.{Bytes, TooLong}
+use Rattle.answers.specs.declared.BuildRefusal.TheVariants.{TooLong}
 
 -- how many rows each child of node p has: as many as a Struct, or as a list's offsets go on
 unfoldable pub child_rows : List ℕ → List ℕ → List ℕ → ℕ → ℕ
@@ -26,12 +24,6 @@ pub record LengthsTo (s : List ℕ) (count : ℕ) (spans lengths : List ℕ) (k 
 -- the lengths of all nodes
 abbrev pub Lengths : List ℕ → ℕ → List ℕ → List ℕ → Type 0
 Lengths s count spans lengths = LengthsTo s count spans lengths (node_count s)
-
--- a table with n entries from a place on set to x
-pub record Filled (old : List ℕ) (place n x : ℕ) (new : List ℕ) : Type 0 where
-  pub sized : length new ≡ length old
-  pub inside : (i : ℕ) → i < n → get_or new (place + i) 0 ≡ x
-  pub before : (j : ℕ) → j < place → get_or new j 0 ≡ get_or old j 0
 
 -- the bytes that so many bits take
 abbrev pub bit_bytes : ℕ → ℕ
@@ -99,17 +91,17 @@ unfoldable pub too_many : List ℕ → ℕ → Bool
 too_many lengths k = ltb most_elements (get_or lengths k 0)
 
 -- "43 where the image is longer than the buffer or the maximum, or a node would have more than 1,073,741,824 rows"
-unfoldable pub plan_answer : List ℕ → List ℕ → List ℕ → ℕ → Planned
+unfoldable pub plan_answer : List ℕ → List ℕ → List ℕ → ℕ → Option ℕ
 plan_answer s lengths spans room =
     let size = place_of s lengths spans (3 * node_count s) in
-    cond (ltb room size || ltb longest_image size || any (too_many lengths) 0 (node_count s)) TooLong (Bytes size)
+    cond (ltb room size || ltb longest_image size || any (too_many lengths) 0 (node_count s)) None (Some size)
 
 -- what a plan answers, and the places that it gives where the image is not too long
-pub record PlanOf (s lengths spans : List ℕ) (room : ℕ) (places : List ℕ) (r : Planned) : Type 0 where
+pub record PlanOf (s lengths spans : List ℕ) (room : ℕ) (places : List ℕ) (r : Option ℕ) : Type 0 where
   pub answer : r ≡ plan_answer s lengths spans room
-  pub table : (n : ℕ) → r ≡ Bytes n → Places s lengths spans places
+  pub table : (n : ℕ) → r ≡ Some n → Places s lengths spans places
 
 -- the answer of the call that a plan stands for
-abbrev pub built_of : Planned → Result ℕ BuildRefusal
-built_of (Bytes n) = Ok n
-built_of TooLong = Err BuildTooLong
+abbrev pub built_of : Option ℕ → Result ℕ BuildRefusal
+built_of (Some n) = Ok n
+built_of None = Err TooLong

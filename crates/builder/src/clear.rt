@@ -7,9 +7,5 @@ pub fn clear(out: &mut [u8], from: usize, to: usize)
     requires { (from ≤ to) × (to ≤ length out.old) }
     ensures { out.new ≡ over out.old from (replicate (to - from) 0) }
 {
-    let mut k = from;
-    while k < to {
-        out[k] = 0;
-        k += 1;
-    }
+    out[from..to].fill(0);
 }

@@ -1,6 +1,7 @@
 // What stands before the parts of a built image: header, records, entries and names. Each function answers the place after what
 // it put.
 ghost use Rattle.std.specs.Prelude.{◌≡◌, true, ◌+◌, ◌*◌, ◌-◌, ◌<◌, ◌≤◌, length, Ok};
+ghost use Rattle.image.specs.Of.{◌of◌};
 ghost use Rattle.image.specs.Ranges.{pieces};
 ghost use Rattle.image.specs.Record.{node_count, buffer_count};
 ghost use Rattle.image.specs.Faults.{check_image};
@@ -11,43 +12,39 @@ ghost use Rattle.laws.specs.Accepted.{Tables, Named};
 ghost use Rattle.rows.specs.Output.{over, Fits};
 ghost use Rattle.builder.specs.Front.{Rise, NodeFrom, length_from, built_flags, built_name, bitmap_from, type_fields, row_fields, table_fields, record_from, entry_from, entries_from, front_from};
 
-use image::bytes::wide;
-use image::record::{
-    buffer_count, buffer_total, child_count, code, first_buffer, first_child, flags, name_length,
-    name_place, node_count, p1, p2, tables_end,
-};
+use image::record::{Node, buffer_total, node_count, tables_end};
 use image::type_code::TypeCode;
 use rows::output::{put_bytes, put_number};
 
 // The flags of a node: nullable as given, and a bitmap where the code may have one.
-fn built_flags(image: &[u8], node: u32) -> usize
-    ensures { result ≡ built_flags image.now node }
+fn built_flags(node: Node) -> usize
+    ensures { result ≡ built_flags of node.entry }
 {
-    let nullable = wide(flags(image, node)) % 2;
-    if TypeCode::takes_bitmap(code(image, node)) {
+    let nullable = usize::from(node.flags()) % 2;
+    if TypeCode::takes_bitmap(node.code()) {
         return nullable + 2;
     }
     nullable
 }
 
 // Where the name of a node stands, 0 where it has none; `name` is where it would stand.
-fn built_name(image: &[u8], node: u32, name: usize) -> usize
-    requires { name ≡ name_start image.now node }
-    ensures { result ≡ built_name image.now node }
+fn built_name(node: Node, name: usize) -> usize
+    requires { name ≡ name_start of node }
+    ensures { result ≡ built_name of node.entry }
 {
-    if name_length(image, node) == 0 {
+    if node.name_length() == 0 {
         return 0;
     }
     name
 }
 
 // Where the bitmap of a node stands, 0 where its code may have none.
-fn bitmap_from(image: &[u8], node: u32, places: &[usize]) -> usize
-    requires { (node < 256) × (length places.now ≡ 769) }
-    ensures { result ≡ bitmap_from image.now places.now node }
+fn bitmap_from(node: Node, places: &[usize]) -> usize
+    requires { (node.number < 256) × (length places.now ≡ 769) }
+    ensures { result ≡ bitmap_from node.entry.image.now places.now node.entry.number }
 {
-    if TypeCode::takes_bitmap(code(image, node)) {
-        return places[3 * node as usize];
+    if TypeCode::takes_bitmap(node.code()) {
+        return places[3 * node.number as usize];
     }
     0
 }
@@ -61,75 +58,73 @@ fn length_from(image: &[u8], places: &[usize], q: usize) -> usize
 }
 
 // The first fields of a node's record: its code, flags, name length, p1 and p2.
-fn put_type(image: &[u8], node: u32, out: &mut [u8], at: usize) -> usize
-    requires { Fits out.old at (type_fields image.now node) }
-    ensures value { result ≡ at + length (type_fields image.now node) }
-    ensures out_after { out.new ≡ over out.old at (type_fields image.now node) }
+fn put_type(node: Node, out: &mut [u8], at: usize) -> usize
+    requires { Fits out.old at (type_fields of node) }
+    ensures value { result ≡ at + length (type_fields of node.entry) }
+    ensures out_after { out.new ≡ over out.old at (type_fields of node.entry) }
 {
-    let a = put_number(out, at, wide(code(image, node)), 1);
-    let b = put_number(out, a, built_flags(image, node), 1);
+    let a = put_number(out, at, usize::from(node.code()), 1);
+    let b = put_number(out, a, built_flags(node), 1);
     let c = put_number(out, b, 0, 1);
-    let d = put_number(out, c, name_length(image, node), 1);
-    let e = put_number(out, d, p1(image, node), 4);
-    put_number(out, e, p2(image, node), 4)
+    let d = put_number(out, c, node.name_length(), 1);
+    let e = put_number(out, d, node.p1(), 4);
+    put_number(out, e, node.p2(), 4)
 }
 
 // The next fields: the rows, the name's place, the bitmap's place and length; `name` is where the name would stand.
 fn put_rows(
-    image: &[u8],
-    node: u32,
+    node: Node,
     lengths: &[usize],
     places: &[usize],
     name: usize,
     out: &mut [u8],
     at: usize,
 ) -> usize
-    requires node_from { NodeFrom image.now node lengths.now places.now }
-    requires name_value { name ≡ name_start image.now node }
-    requires fits { Fits out.old at (row_fields image.now lengths.now places.now node) }
-    ensures value { result ≡ at + length (row_fields image.now lengths.now places.now node) }
-    ensures out_after { out.new ≡ over out.old at (row_fields image.now lengths.now places.now node) }
+    requires node_from { (NodeFrom of node) lengths.now places.now }
+    requires name_value { name ≡ name_start of node }
+    requires fits { Fits out.old at (row_fields node.image.now lengths.now places.now node.number) }
+    ensures value { result ≡ at + length (row_fields node.entry.image.now lengths.now places.now node.entry.number) }
+    ensures out_after { out.new ≡ over out.old at (row_fields node.entry.image.now lengths.now places.now node.entry.number) }
 {
-    let k = node as usize;
+    let k = node.number as usize;
     let a = put_number(out, at, lengths[k], 4);
     let b = put_number(out, a, 0, 4);
-    let c = put_number(out, b, built_name(image, node, name), 4);
-    let d = put_number(out, c, bitmap_from(image, node, places), 4);
-    let e = put_number(out, d, length_from(image, places, 3 * k), 4);
+    let c = put_number(out, b, built_name(node, name), 4);
+    let d = put_number(out, c, bitmap_from(node, places), 4);
+    let e = put_number(out, d, length_from(node.image, places, 3 * k), 4);
     put_number(out, e, 0, 4)
 }
 
 // The last fields: the children and the buffers.
-fn put_tables(image: &[u8], node: u32, out: &mut [u8], at: usize) -> usize
-    requires { Fits out.old at (table_fields image.now node) }
-    ensures value { result ≡ at + length (table_fields image.now node) }
-    ensures out_after { out.new ≡ over out.old at (table_fields image.now node) }
+fn put_tables(node: Node, out: &mut [u8], at: usize) -> usize
+    requires { Fits out.old at (table_fields of node) }
+    ensures value { result ≡ at + length (table_fields of node.entry) }
+    ensures out_after { out.new ≡ over out.old at (table_fields of node.entry) }
 {
-    let a = put_number(out, at, first_child(image, node) as usize, 2);
-    let b = put_number(out, a, child_count(image, node) as usize, 2);
-    let c = put_number(out, b, first_buffer(image, node) as usize, 2);
-    put_number(out, c, buffer_count(image, node) as usize, 2)
+    let a = put_number(out, at, node.first_child() as usize, 2);
+    let b = put_number(out, a, node.child_count() as usize, 2);
+    let c = put_number(out, b, node.first_buffer() as usize, 2);
+    put_number(out, c, node.buffer_count() as usize, 2)
 }
 
 // The record of a node; `name` is where its name would stand.
 fn put_record(
-    image: &[u8],
-    node: u32,
+    node: Node,
     lengths: &[usize],
     places: &[usize],
     name: usize,
     out: &mut [u8],
     at: usize,
 ) -> usize
-    requires node_from { NodeFrom image.now node lengths.now places.now }
-    requires name_value { name ≡ name_start image.now node }
-    requires fits { Fits out.old at (record_from image.now lengths.now places.now node) }
-    ensures value { result ≡ at + length (record_from image.now lengths.now places.now node) }
-    ensures out_after { out.new ≡ over out.old at (record_from image.now lengths.now places.now node) }
+    requires node_from { (NodeFrom of node) lengths.now places.now }
+    requires name_value { name ≡ name_start of node }
+    requires fits { Fits out.old at (record_from node.image.now lengths.now places.now node.number) }
+    ensures value { result ≡ at + length (record_from node.entry.image.now lengths.now places.now node.entry.number) }
+    ensures out_after { out.new ≡ over out.old at (record_from node.entry.image.now lengths.now places.now node.entry.number) }
 {
-    let rows = put_type(image, node, out, at);
-    let tables = put_rows(image, node, lengths, places, name, out, rows);
-    put_tables(image, node, out, tables)
+    let rows = put_type(node, out, at);
+    let tables = put_rows(node, lengths, places, name, out, rows);
+    put_tables(node, out, tables)
 }
 
 // The records of all nodes.
@@ -149,11 +144,10 @@ fn put_records(
     let n = node_count(image);
     let mut name = tables_end(image);
     let mut next = at;
-    let mut k: u32 = 0;
-    while k < n {
-        next = put_record(image, k, lengths, places, name, out, next);
-        name += name_length(image, k);
-        k += 1;
+    for k in 0..n {
+        let node = Node { image, number: k };
+        next = put_record(node, lengths, places, name, out, next);
+        name += node.name_length();
     }
     next
 }
@@ -170,20 +164,18 @@ fn put_entry(image: &[u8], places: &[usize], q: usize, out: &mut [u8], at: usize
 }
 
 // The entries of a node's buffers, which are its parts from 1 on.
-fn put_entries(image: &[u8], node: u32, places: &[usize], out: &mut [u8], at: usize) -> usize
-    requires rise { Rise image.now places.now × (node < node_count image.now) × (node_count image.now ≤ 256) }
-    requires node_bound { buffer_count image.now node ≤ 2 }
-    requires fits { Fits out.old at (entries_from image.now places.now node) }
-    ensures value { result ≡ at + length (entries_from image.now places.now node) }
-    ensures out_after { out.new ≡ over out.old at (entries_from image.now places.now node) }
+fn put_entries(node: Node, places: &[usize], out: &mut [u8], at: usize) -> usize
+    requires rise { Rise node.image.now places.now × (node.number < node_count node.image.now) × (node_count node.image.now ≤ 256) }
+    requires node_bound { (buffer_count of node) ≤ 2 }
+    requires fits { Fits out.old at (entries_from node.image.now places.now node.number) }
+    ensures value { result ≡ at + length (entries_from node.entry.image.now places.now node.entry.number) }
+    ensures out_after { out.new ≡ over out.old at (entries_from node.entry.image.now places.now node.entry.number) }
 {
-    let first = 3 * node as usize + 1;
-    let n = buffer_count(image, node) as usize;
+    let first = 3 * node.number as usize + 1;
+    let n = node.buffer_count() as usize;
     let mut next = at;
-    let mut j: usize = 0;
-    while j < n {
-        next = put_entry(image, places, first + j, out, next);
-        j += 1;
+    for j in 0..n {
+        next = put_entry(node.image, places, first + j, out, next);
     }
     next
 }
@@ -198,26 +190,24 @@ fn put_all_entries(image: &[u8], places: &[usize], out: &mut [u8], at: usize) ->
 {
     let n = node_count(image);
     let mut next = at;
-    let mut k: u32 = 0;
-    while k < n {
-        next = put_entries(image, k, places, out, next);
-        k += 1;
+    for k in 0..n {
+        next = put_entries(Node { image, number: k }, places, out, next);
     }
     next
 }
 
 // The name of a node. A name without bytes may be said to stand anywhere, and is not read.
-fn put_name(image: &[u8], node: u32, out: &mut [u8], at: usize) -> usize
-    requires named { Named image.now node }
-    requires fits { Fits out.old at (name_of image.now node) }
-    ensures value { result ≡ at + length (name_of image.now node) }
-    ensures out_after { out.new ≡ over out.old at (name_of image.now node) }
+fn put_name(node: Node, out: &mut [u8], at: usize) -> usize
+    requires named { Named of node }
+    requires fits { Fits out.old at (name_of of node) }
+    ensures value { result ≡ at + length (name_of of node.entry) }
+    ensures out_after { out.new ≡ over out.old at (name_of of node.entry) }
 {
-    let n = name_length(image, node);
+    let n = node.name_length();
     if n == 0 {
         return at;
     }
-    put_bytes(out, at, image, name_place(image, node), n)
+    put_bytes(out, at, node.image, node.name_place(), n)
 }
 
 // The names of all nodes.
@@ -229,10 +219,8 @@ fn put_names(image: &[u8], out: &mut [u8], at: usize) -> usize
 {
     let n = node_count(image);
     let mut next = at;
-    let mut k: u32 = 0;
-    while k < n {
-        next = put_name(image, k, out, next);
-        k += 1;
+    for k in 0..n {
+        next = put_name(Node { image, number: k }, out, next);
     }
     next
 }

@@ -7,6 +7,7 @@ pub mod front;
 pub mod plan;
 
 ghost use Rattle.std.specs.Prelude.{◌≡◌, true, Ok};
+ghost use Rattle.image.specs.Of.{◌of◌};
 ghost use Rattle.image.specs.Faults.{check_image};
 ghost use Rattle.image.specs.Parse.{readable_code, readable, rows_in};
 ghost use Rattle.answers.specs.Answers.{rows_answer, image_of, written_over};
@@ -15,43 +16,29 @@ ghost use Rattle.builder.specs.Table.{Laid};
 
 use crate::clear::clear;
 use crate::front::put_front;
-use crate::plan::{MOST_NODES, MOST_PLACES, Planned, lengths_of, plan};
+use crate::plan::{MOST_NODES, MOST_PLACES, lengths_of, plan};
 use answers::BuildRefusal;
 use fill::fill;
-use image::record::{code, node_count};
+use image::record::{Node, all_nodes};
 use image::type_code::TypeCode;
 use parse::is_rows;
 
 // The type code of a node is one of those whose rows are read back.
-fn is_readable_code(image: &[u8], node: u32) -> bool
-    ensures { result ≡ readable_code image.now node }
+fn is_readable_code(node: Node) -> bool
+    ensures { result ≡ readable_code of node.entry }
 {
-    let of = code(image, node);
-    if of <= TypeCode::FIXED_SIZE_BINARY {
-        return true;
-    }
-    if of == TypeCode::LIST {
-        return true;
-    }
-    if of == TypeCode::LARGE_LIST {
-        return true;
-    }
-    of == TypeCode::STRUCT
+    let code = node.code();
+    (code <= TypeCode::FIXED_SIZE_BINARY)
+        | (code == TypeCode::LIST)
+        | (code == TypeCode::LARGE_LIST)
+        | (code == TypeCode::STRUCT)
 }
 
 // Rows of the type that an image has are read back: "Types may hold codes 0 to 30, 33, 34 and 38."
 pub fn is_readable(image: &[u8]) -> bool
     ensures { result ≡ readable image.now }
 {
-    let nodes = node_count(image);
-    let mut k: u32 = 0;
-    while k < nodes {
-        if !is_readable_code(image, k) {
-            return false;
-        }
-        k += 1;
-    }
-    true
+    all_nodes(image, |k| is_readable_code(Node { image, number: k }))
 }
 
 // Puts the image of so many rows, which are the string b: what stands before its parts, zeros behind that, and over them the parts.
@@ -89,7 +76,7 @@ pub fn build(s: &[u8], count: usize, b: &[u8], out: &mut [u8]) -> Result<usize, 
     lengths_of(s, count, &spans, &mut lengths);
     let mut places = [0usize; MOST_PLACES];
     let room = out.len();
-    let Planned::Bytes(size) = plan(s, &lengths, &spans, room, &mut places) else {
+    let Some(size) = plan(s, &lengths, &spans, room, &mut places) else {
         return Err(BuildRefusal::TooLong);
     };
     put_table(s, count, b, &lengths, &places, size, out);

@@ -8,13 +8,9 @@ ghost use Rattle.image.specs.TypeCode.{layout_of};
 ghost use Rattle.image.specs.Faults.{check_image};
 ghost use Rattle.image.specs.Built.{name_start};
 ghost use Rattle.laws.specs.Accepted.{Tables, AcceptedImage};
-ghost use Rattle.builder.specs.Plan.{Lengths, Filled, child_rows, bit_bytes, bitmap_size, first_size, second_size, part_size, too_many, PlanOf};
+ghost use Rattle.builder.specs.Plan.{Lengths, child_rows, bit_bytes, bitmap_size, first_size, second_size, part_size, too_many, PlanOf};
 
-use image::element::element_width;
-use image::record::{
-    LONGEST_IMAGE, MOST_ELEMENTS, child_count, code, first_child, name_length, node_count,
-    tables_end,
-};
+use image::record::{LONGEST_IMAGE, MOST_ELEMENTS, Node, node_count, tables_end};
 use image::type_code::{Layout, TypeCode};
 
 // How many entries a table of nodes has, and one of places: three parts for each node, and the image's end.
@@ -22,36 +18,17 @@ pub const MOST_NODES: usize = 256;
 
 pub const MOST_PLACES: usize = 769;
 
-// What a plan answers: how many bytes the image has, or that it is too long for the buffer, or for an image.
-#[derive(Clone, Copy)]
-pub enum Planned {
-    Bytes(usize),
-    TooLong,
-}
-
 // How many rows each child of a node has: as many as a Struct, or as a list's offsets go on.
-fn child_rows(image: &[u8], node: u32, lengths: &[usize], spans: &[usize]) -> usize
-    requires node_bound { node < 256 }
+fn child_rows(node: Node, lengths: &[usize], spans: &[usize]) -> usize
+    requires node_bound { node.number < 256 }
     requires lengths_len { (length lengths.now ≡ 256) × (length spans.now ≡ 256) }
-    ensures { result ≡ child_rows image.now lengths.now spans.now node }
+    ensures { result ≡ child_rows node.entry.image.now lengths.now spans.now node.entry.number }
 {
-    let i = node as usize;
-    if code(image, node) == TypeCode::STRUCT {
+    let i = node.number as usize;
+    if node.code() == TypeCode::STRUCT {
         return lengths[i];
     }
     spans[i]
-}
-
-// n entries of a table from a place on are set to x.
-fn fill(table: &mut [usize], place: usize, n: usize, x: usize)
-    requires { place + n ≤ length table.old }
-    ensures { Filled table.old place n x table.new }
-{
-    let mut k: usize = 0;
-    while k < n {
-        table[place + k] = x;
-        k += 1;
-    }
 }
 
 // The length of each node: the root's is the row count, and a parent's number is lower than its children's.
@@ -61,17 +38,12 @@ pub fn lengths_of(image: &[u8], count: usize, spans: &[usize], lengths: &mut [us
     ensures { Lengths image.now count spans.now lengths.new }
 {
     lengths[0] = count;
-    let n = node_count(image);
-    let mut k: u32 = 0;
-    while k < n {
-        let rows = child_rows(image, k, lengths, spans);
-        fill(
-            lengths,
-            first_child(image, k) as usize,
-            child_count(image, k) as usize,
-            rows,
-        );
-        k += 1;
+    for k in 0..node_count(image) {
+        let node = Node { image, number: k };
+        let rows = child_rows(node, lengths, spans);
+        let first = node.first_child() as usize;
+        let end = first + node.child_count() as usize;
+        lengths[first..end].fill(rows);
     }
 }
 
@@ -127,16 +99,16 @@ fn part_size(image: &[u8], lengths: &[usize], spans: &[usize], q: usize) -> usiz
     ensures { result ≡ part_size image.now lengths.now spans.now q }
 {
     let i = q / 3;
-    let part = q % 3;
-    let node = i as u32;
-    let of = code(image, node);
-    if part == 0 {
-        return bitmap_size(of, lengths[i]);
+    let node = Node {
+        image,
+        number: i as u32,
+    };
+    let code = node.code();
+    match q % 3 {
+        0 => bitmap_size(code, lengths[i]),
+        1 => first_size(code, node.element_width(), lengths[i]),
+        _ => second_size(code, spans[i]),
     }
-    if part == 1 {
-        return first_size(of, element_width(image, node), lengths[i]);
-    }
-    second_size(of, spans[i])
 }
 
 // Whether a node has more rows than a node may have.
@@ -144,13 +116,10 @@ fn too_many(image: &[u8], lengths: &[usize]) -> bool
     requires { (node_count image.now ≤ 256) × (length lengths.now ≡ 256) }
     ensures { result ≡ any (too_many lengths.now) 0 (node_count image.now) }
 {
-    let n = node_count(image) as usize;
-    let mut k: usize = 0;
-    while k < n {
+    for k in 0..node_count(image) as usize {
         if lengths[k] > MOST_ELEMENTS {
             return true;
         }
-        k += 1;
     }
     false
 }
@@ -160,46 +129,42 @@ fn names_end(image: &[u8]) -> usize
     requires { Tables image.now }
     ensures { Read (name_start image.now (node_count image.now)) 17 result }
 {
-    let n = node_count(image);
     let mut end = tables_end(image);
-    let mut k: u32 = 0;
-    while k < n {
-        end += name_length(image, k);
-        k += 1;
+    for k in 0..node_count(image) {
+        end += Node { image, number: k }.name_length();
     }
     end
 }
 
-// Where each part stands, and how long the image is. Sums stop at the first that is longer than an image may be.
+// Where each part stands, and how long the image is; None where it is too long for the buffer, or for an image. Sums stop at
+// the first that is longer than an image may be.
 pub fn plan(
     image: &[u8],
     lengths: &[usize],
     spans: &[usize],
     room: usize,
     places: &mut [usize],
-) -> Planned
+) -> Option<usize>
     requires image_value { check_image image.now ≡ Ok tt }
     requires lengths_len { (length lengths.now ≡ 256) × (length spans.now ≡ 256) × (length places.old ≡ 769) }
     ensures { PlanOf image.now lengths.now spans.now room places.new result }
 {
     if too_many(image, lengths) {
-        return Planned::TooLong;
+        return None;
     }
     let end = 3 * node_count(image) as usize;
     let mut place = names_end(image);
     places[0] = place;
-    let mut q: usize = 0;
-    while q < end {
+    for q in 0..end {
         let size = part_size(image, lengths, spans, q);
         if size > LONGEST_IMAGE - place {
-            return Planned::TooLong;
+            return None;
         }
         place += size;
-        q += 1;
-        places[q] = place;
+        places[q + 1] = place;
     }
     if room < place {
-        return Planned::TooLong;
+        return None;
     }
-    Planned::Bytes(place)
+    Some(place)
 }

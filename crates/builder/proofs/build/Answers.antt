@@ -21,7 +21,7 @@ pub returns-in_default : goal.returns-in_default
 returns-in_default c = let both = build_too_long _ _ _ _ c.requires (λ k. omega (arith, c.shared_slice_known-2-1.given k)) (sym c.is_rows.ensures.value ∙ c.if-not-is_rows.false) c.is_rows.ensures.spanned c.lengths_of.ensures (sym c.in_default.is ∙ c.plan.ensures.answer) in record { value = both.0; out_after = both.1 }
 
 pub put_table-requires : goal.put_table-requires
-put_table-requires c = build_laid _ _ _ _ c.requires (λ k. omega (arith, c.shared_slice_known-2-1.given k)) (sym c.is_rows.ensures.value ∙ c.if-not-is_rows.false) c.is_rows.ensures.spanned c.lengths_of.ensures (sym c.in-Bytes.is ∙ c.plan.ensures.answer) (c.plan.ensures.table _ c.in-Bytes.is)
+put_table-requires c = build_laid _ _ _ _ c.requires (λ k. omega (arith, c.shared_slice_known-2-1.given k)) (sym c.is_rows.ensures.value ∙ c.if-not-is_rows.false) c.is_rows.ensures.spanned c.lengths_of.ensures (sym c.in-Some.is ∙ c.plan.ensures.answer) (c.plan.ensures.table _ c.in-Some.is)
 
 pub returns : goal.returns
-returns c = let both = build_bytes _ _ _ _ c.requires (λ k. omega (arith, c.shared_slice_known-2-1.given k)) (sym c.is_rows.ensures.value ∙ c.if-not-is_rows.false) c.is_rows.ensures.spanned c.lengths_of.ensures (sym c.in-Bytes.is ∙ c.plan.ensures.answer) c.put_table.ensures in record { value = both.0; out_after = both.1 }
+returns c = let both = build_bytes _ _ _ _ c.requires (λ k. omega (arith, c.shared_slice_known-2-1.given k)) (sym c.is_rows.ensures.value ∙ c.if-not-is_rows.false) c.is_rows.ensures.spanned c.lengths_of.ensures (sym c.in-Some.is ∙ c.plan.ensures.answer) c.put_table.ensures in record { value = both.0; out_after = both.1 }

@@ -7,8 +7,8 @@ use Rattle.builder.proofs.front.built_flags.Goals as goal
 
 pub returns-then-takes_bitmap : goal.returns-then-takes_bitmap
 unfolding built_flags
-returns-then-takes_bitmap c = rw (← c.code.ensures.value, ← c.takes_bitmap.ensures, c.if-takes_bitmap.true, c.wide-nullable.ensures.value, c.flags.ensures.value)
+returns-then-takes_bitmap c = rw (← c.code.ensures.value, ← c.takes_bitmap.ensures, c.if-takes_bitmap.true, c.from-nullable.ensures, c.flags.ensures.value)
 
 pub returns : goal.returns
 unfolding built_flags
-returns c = rw (← c.code.ensures.value, ← c.takes_bitmap.ensures, c.if-takes_bitmap.false, c.wide-nullable.ensures.value, c.flags.ensures.value) (sym (add-zero _))
+returns c = rw (← c.code.ensures.value, ← c.takes_bitmap.ensures, c.if-takes_bitmap.false, c.from-nullable.ensures, c.flags.ensures.value) (sym (add-zero _))

@@ -1,6 +1,5 @@
 -- `put_all_entries` puts the entries of all nodes.
 -- The loop keeps the entries that are still to be put.
-use Prim.Native.Nat.{◌-◌}
 use Rattle.image.specs.Record.{node_count}
 use Rattle.rows.proofs.Over.{PiecesToPut}
 use Rattle.builder.specs.Front.{entries_from}
@@ -8,6 +7,3 @@ use Rattle.builder.proofs.front.put_all_entries.Given as goal
 
 abbrev pub invariant-loop-k : goal.invariant-loop-k
 invariant-loop-k l = PiecesToPut (entries_from l.image l.places) 0 (node_count l.image) l.initial.out l.at l.out l.next l.k
-
-abbrev pub decreases-loop-k : goal.decreases-loop-k
-decreases-loop-k l = l.n - l.k

@@ -1,6 +1,5 @@
 -- `put_names` puts the names of all nodes.
 -- The loop keeps the names that are still to be put.
-use Prim.Native.Nat.{◌-◌}
 use Rattle.image.specs.Record.{node_count}
 use Rattle.image.specs.Types.{name_of}
 use Rattle.rows.proofs.Over.{PiecesToPut}
@@ -8,6 +7,3 @@ use Rattle.builder.proofs.front.put_names.Given as goal
 
 abbrev pub invariant-loop-k : goal.invariant-loop-k
 invariant-loop-k l = PiecesToPut (name_of l.image) 0 (node_count l.image) l.initial.out l.at l.out l.next l.k
-
-abbrev pub decreases-loop-k : goal.decreases-loop-k
-decreases-loop-k l = l.n - l.k

@@ -1,6 +1,5 @@
 -- `put_records` puts the records of all nodes.
 -- The loop keeps the records that are still to be put, and where the next name would stand.
-use Prim.Native.Nat.{◌-◌}
 use Rattle.image.specs.Record.{node_count}
 use Rattle.rows.proofs.Over.{PiecesToPut}
 use Rattle.builder.specs.Front.{record_from}
@@ -9,6 +8,3 @@ use Rattle.builder.proofs.front.put_records.Given as goal
 
 abbrev pub invariant-loop-k : goal.invariant-loop-k
 invariant-loop-k l = PiecesToPut (record_from l.image l.lengths l.places) 0 (node_count l.image) l.initial.out l.at l.out l.next l.k × Names l.image l.name l.k
-
-abbrev pub decreases-loop-k : goal.decreases-loop-k
-decreases-loop-k l = l.n - l.k

@@ -28,4 +28,4 @@ put_number-requires c = omega (arith, fits_sized (type_length _ _) c.requires, c
 
 pub returns : goal.returns
 unfolding type_fields
-returns c = let both = number_last _ _ _ c.p2.ensures.value (c.put_number.ensures.value, c.put_number.ensures.out_after) (number_put _ _ _ c.p1.ensures.value (c.put_number-e.ensures.value, c.put_number-e.ensures.out_after) (number_put _ _ _ c.name_length.ensures.value (c.put_number-d.ensures.value, c.put_number-d.ensures.out_after) (number_put _ _ _ refl (c.put_number-c.ensures.value, c.put_number-c.ensures.out_after) (number_put _ _ _ c.built_flags.ensures (c.put_number-b.ensures.value, c.put_number-b.ensures.out_after) (number_put _ _ _ (c.wide.ensures.value ∙ c.code.ensures.value) (c.put_number-a.ensures.value, c.put_number-a.ensures.out_after) (put_start c.requires)))))) in record { value = both.0; out_after = both.1 }
+returns c = let both = number_last _ _ _ c.p2.ensures.value (c.put_number.ensures.value, c.put_number.ensures.out_after) (number_put _ _ _ c.p1.ensures.value (c.put_number-e.ensures.value, c.put_number-e.ensures.out_after) (number_put _ _ _ c.name_length.ensures.value (c.put_number-d.ensures.value, c.put_number-d.ensures.out_after) (number_put _ _ _ refl (c.put_number-c.ensures.value, c.put_number-c.ensures.out_after) (number_put _ _ _ c.built_flags.ensures (c.put_number-b.ensures.value, c.put_number-b.ensures.out_after) (number_put _ _ _ (c.from.ensures ∙ c.code.ensures.value) (c.put_number-a.ensures.value, c.put_number-a.ensures.out_after) (put_start c.requires)))))) in record { value = both.0; out_after = both.1 }

@@ -5,13 +5,13 @@ use native.Mathlib.Omega.{arith}
 use Rattle.builder.proofs.plan.names_end.Goals as goal
 
 pub loop-k-init : goal.loop-k-init
-loop-k-init c = (omega arith, names_start _ c.requires c.tables_end-end.ensures.value)
+loop-k-init c = names_start _ c.requires c.tables_end-end.ensures.value
 
 pub overflow_add-end : goal.overflow_add-end
-overflow_add-end c = omega (arith, c.loop-k.invariant.1.near, c.name_length-end.ensures.small)
+overflow_add-end c = omega (arith, c.loop-k.invariant.near, c.name_length-end.ensures.small)
 
 pub loop-k-preserved : goal.loop-k-preserved
-loop-k-preserved c = (omega arith, names_more c.loop-k.invariant.1 c.name_length-end.ensures)
+loop-k-preserved c = names_more c.loop-k.invariant c.name_length-end.ensures
 
 pub returns : goal.returns
-returns c = names_done c.loop-k.invariant.1 c.requires c.node_count-n.ensures.value c.loop-k.invariant.0 c.loop-k-test.false
+returns c = names_done c.loop-k.invariant c.requires c.node_count-k-end.ensures.value c.loop-k.auto.k-end c.loop-k-test.false

@@ -36,17 +36,11 @@ returns-then-size-place c = planning_long c.loop-q.invariant (omega (arith, c.lo
 pub overflow_add-place : goal.overflow_add-place
 overflow_add-place c = omega (arith, c.loop-q.invariant.short, c.if-size-place.false)
 
-pub overflow_add-q : goal.overflow_add-q
-overflow_add-q c = omega (arith, c.loop-q-test.true, c.node_count.ensures.small)
-
 pub offset_bounds-places-q : goal.offset_bounds-places-q
 offset_bounds-places-q c = omega (arith, c.loop-q-test.true, c.node_count.ensures.small)
 
 pub bounds-places-q : goal.bounds-places-q
 bounds-places-q c = omega (arith, c.loop-q.invariant.table.sized, c.loop-q-test.true, c.node_count.ensures.value, (accepted _ c.requires.image_value).tables.few_nodes)
-
-pub loop-q-smaller : goal.loop-q-smaller
-loop-q-smaller c = omega (arith, c.loop-q-test.true)
 
 pub loop-q-preserved : goal.loop-q-preserved
 loop-q-preserved c = planning_more c.loop-q.invariant (omega (arith, c.loop-q-test.true, c.node_count.ensures.value)) c.part_size-size.ensures (accepted _ c.requires.image_value).tables.few_nodes (omega (arith, c.if-size-place.false))

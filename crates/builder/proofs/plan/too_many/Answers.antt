@@ -11,11 +11,11 @@ loop-k-init c = rest_none _ _ _
 
 pub returns-then-lengths-k-gt-MOST_ELEMENTS : goal.returns-then-lengths-k-gt-MOST_ELEMENTS
 unfolding too_many
-returns-then-lengths-k-gt-MOST_ELEMENTS c = rw (← c.node_count-n.ensures.value) (any_found _ _ _ _ c.loop-k-test.true c.loop-k.invariant (rw zero-add (lt-ltb _ _ c.if-lengths-k-gt-MOST_ELEMENTS.true)))
+returns-then-lengths-k-gt-MOST_ELEMENTS c = rw (← c.node_count-k-end.ensures.value) (any_found _ _ _ _ c.loop-k-test.true c.loop-k.invariant (rw zero-add (lt-ltb _ _ c.if-lengths-k-gt-MOST_ELEMENTS.true)))
 
 pub loop-k-preserved : goal.loop-k-preserved
 unfolding too_many
 loop-k-preserved c = any_more _ _ _ _ c.loop-k-test.true c.loop-k.invariant (rw zero-add (le-ltb _ _ c.if-lengths-k-gt-MOST_ELEMENTS.false))
 
 pub returns : goal.returns
-returns c = rw (← c.node_count-n.ensures.value) (any_done _ _ _ _ c.loop-k-test.false c.loop-k.invariant)
+returns c = rw (← c.node_count-k-end.ensures.value) (any_done _ _ _ _ c.loop-k-test.false c.loop-k.invariant)

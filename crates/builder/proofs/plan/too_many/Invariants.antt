@@ -1,13 +1,9 @@
 -- `too_many` answers whether a node has too many rows.
 -- The loop keeps that the nodes that are left decide.
-use Prim.Native.Nat.{◌-◌}
 use Rattle.image.specs.Ranges.{any}
 use Rattle.image.proofs.Loops.{Rest}
 use Rattle.builder.specs.Plan.{too_many}
 use Rattle.builder.proofs.plan.too_many.Given as goal
 
 abbrev pub invariant-loop-k : goal.invariant-loop-k
-invariant-loop-k l = Rest (any (too_many l.lengths)) 0 l.n l.k
-
-abbrev pub decreases-loop-k : goal.decreases-loop-k
-decreases-loop-k l = l.n - l.k
+invariant-loop-k l = Rest (any (too_many l.lengths)) 0 l.k-end l.k
