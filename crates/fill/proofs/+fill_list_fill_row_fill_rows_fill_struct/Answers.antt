@@ -6,6 +6,7 @@
 -- A row of a Struct: a row of each child.
 -- The loop keeps which children are left to read and to fill.
 use borrow.Enum.Refused.{opened}
+use native.Mathlib.Nat.{add-zero}
 use native.Mathlib.Omega.{arith}
 use Rattle.fill.proofs.Arms.{row_inside, row_deep, listed_getting, listed_inside, listed_walk, listed_walked, null_rooms, null_walked, value_mark, layout_told, last_told, last_arm, struct_left, empty_getting, empty_walked, bit_inside, bit_least, bit_getting, bit_walked, fixed_inside, fixed_getting, fixed_done, text_inside, text_getting, text_done, struct_getting, one_mark, fields_start, field_walk, field_more, fields_done}
 use mathlib.Core.Path.{refl}
@@ -19,28 +20,28 @@ pub fill_list-overflow_add-at : goal.fill_list-overflow_add-at
 fill_list-overflow_add-at t c = omega (arith, row_inside c.requires.row_walk, c.well_formed.1.1.1.0.1)
 
 pub fill_list-put_list-requires : goal.fill_list-put_list-requires
-fill_list-put_list-requires t c = record { node_value = c.requires.node_value.0; getting = listed_getting c.requires.row_walk c.requires.node_value.0 c.requires.node_value.1 c.le32-n.ensures.value }
+fill_list-put_list-requires t c = record { node_value = c.requires.node_value.0; getting = listed_getting c.requires.row_walk c.requires.node_value.0 c.requires.node_value.1 c.le-n.ensures.value }
 
 pub fill_list-overflow_sub-depth : goal.fill_list-overflow_sub-depth
 fill_list-overflow_sub-depth t c = omega (arith, row_deep c.requires.row_walk)
 
 pub fill_list-overflow_add-at-2 : goal.fill_list-overflow_add-at-2
-fill_list-overflow_add-at-2 t c = omega (arith, listed_inside c.requires.row_walk c.requires.node_value.0 c.requires.node_value.1 c.le32-n.ensures.value, c.well_formed.1.1.1.0.1)
+fill_list-overflow_add-at-2 t c = omega (arith, listed_inside c.requires.row_walk c.requires.node_value.0 c.requires.node_value.1 c.le-n.ensures.value, c.well_formed.1.1.1.0.1)
 
 pub fill_list-fill_rows-requires : goal.fill_list-fill_rows-requires
-fill_list-fill_rows-requires t c = (omega (arith, c.decreases, row_deep c.requires.row_walk), listed_walk c.requires.row_walk c.requires.node_value.0 c.requires.node_value.1 c.le32-n.ensures.value c.first_child-child.ensures.value c.put_list.ensures)
+fill_list-fill_rows-requires t c = (omega (arith, c.decreases, row_deep c.requires.row_walk), rw (c.child.ensures.image, c.child.ensures.number, add-zero) (listed_walk c.requires.row_walk c.requires.node_value.0 c.requires.node_value.1 c.le-n.ensures.value refl c.put_list.ensures))
 
 pub fill_list-shape_of-rows : goal.fill_list-shape_of-rows
-fill_list-shape_of-rows t c = (listed_walked c.requires.row_walk c.requires.node_value.0 c.requires.node_value.1 c.le32-n.ensures.value c.first_child-child.ensures.value c.put_list.ensures c.fill_rows.ensures).done.filled.rows_long
+fill_list-shape_of-rows t c = (listed_walked c.requires.row_walk c.requires.node_value.0 c.requires.node_value.1 c.le-n.ensures.value refl c.put_list.ensures (rw (c.child.ensures.image, c.child.ensures.number, add-zero) at c.fill_rows.ensures)).done.filled.rows_long
 
 pub fill_list-shape_of-spans : goal.fill_list-shape_of-spans
-fill_list-shape_of-spans t c = (listed_walked c.requires.row_walk c.requires.node_value.0 c.requires.node_value.1 c.le32-n.ensures.value c.first_child-child.ensures.value c.put_list.ensures c.fill_rows.ensures).done.filled.spans_long
+fill_list-shape_of-spans t c = (listed_walked c.requires.row_walk c.requires.node_value.0 c.requires.node_value.1 c.le-n.ensures.value refl c.put_list.ensures (rw (c.child.ensures.image, c.child.ensures.number, add-zero) at c.fill_rows.ensures)).done.filled.spans_long
 
 pub fill_list-shape_of-out : goal.fill_list-shape_of-out
-fill_list-shape_of-out t c = (listed_walked c.requires.row_walk c.requires.node_value.0 c.requires.node_value.1 c.le32-n.ensures.value c.first_child-child.ensures.value c.put_list.ensures c.fill_rows.ensures).done.filled.long
+fill_list-shape_of-out t c = (listed_walked c.requires.row_walk c.requires.node_value.0 c.requires.node_value.1 c.le-n.ensures.value refl c.put_list.ensures (rw (c.child.ensures.image, c.child.ensures.number, add-zero) at c.fill_rows.ensures)).done.filled.long
 
 pub fill_list-returns : goal.fill_list-returns
-fill_list-returns t c = listed_walked c.requires.row_walk c.requires.node_value.0 c.requires.node_value.1 c.le32-n.ensures.value c.first_child-child.ensures.value c.put_list.ensures c.fill_rows.ensures
+fill_list-returns t c = listed_walked c.requires.row_walk c.requires.node_value.0 c.requires.node_value.1 c.le-n.ensures.value refl c.put_list.ensures (rw (c.child.ensures.image, c.child.ensures.number, add-zero) at c.fill_rows.ensures)
 
 pub fill_row-bounds-b-at : goal.fill_row-bounds-b-at
 fill_row-bounds-b-at t c = omega (arith, row_inside c.requires)
@@ -64,7 +65,7 @@ pub fill_row-returns-then-b-at-eq0 : goal.fill_row-returns-then-b-at-eq0
 fill_row-returns-then-b-at-eq0 t c = null_walked c.requires c.if-b-at-eq0.true c.fill_gap.ensures
 
 pub fill_row-put_gap-requires : goal.fill_row-put_gap-requires
-fill_row-put_gap-requires t c = empty_getting c.requires (λ z. c.if-b-at-eq0.false z) (layout_told c.args.s.now c.args.node c.layout-layout.ensures c.code.ensures.value c.in-Null.is)
+fill_row-put_gap-requires t c = empty_getting c.requires (λ z. c.if-b-at-eq0.false z) (layout_told c.args.node.image.now c.args.node.number c.layout-layout.ensures c.code.ensures.value c.in-Null.is)
 
 pub fill_row-overflow_add-result-in-Null : goal.fill_row-overflow_add-result-in-Null
 fill_row-overflow_add-result-in-Null t c = omega (arith, row_inside c.requires, c.well_formed.1.1.1.0.1)
@@ -73,97 +74,97 @@ pub fill_row-overflow_add-at : goal.fill_row-overflow_add-at
 fill_row-overflow_add-at t c = omega (arith, row_inside c.requires, c.well_formed.1.1.1.0.1)
 
 pub fill_row-bounds-b-at-in-Boolean : goal.fill_row-bounds-b-at-in-Boolean
-fill_row-bounds-b-at-in-Boolean t c = omega (arith, bit_inside c.requires (λ z. c.if-b-at-eq0.false z) (layout_told c.args.s.now c.args.node c.layout-layout.ensures c.code.ensures.value c.in-Boolean.is))
+fill_row-bounds-b-at-in-Boolean t c = omega (arith, bit_inside c.requires (λ z. c.if-b-at-eq0.false z) (layout_told c.args.node.image.now c.args.node.number c.layout-layout.ensures c.code.ensures.value c.in-Boolean.is))
 
 pub fill_row-put_boolean-requires : goal.fill_row-put_boolean-requires
-fill_row-put_boolean-requires t c = record { node_value = (layout_told c.args.s.now c.args.node c.layout-layout.ensures c.code.ensures.value c.in-Boolean.is); x_bound = bit_least c.requires (λ z. c.if-b-at-eq0.false z) (layout_told c.args.s.now c.args.node c.layout-layout.ensures c.code.ensures.value c.in-Boolean.is); getting = bit_getting c.requires (λ z. c.if-b-at-eq0.false z) (layout_told c.args.s.now c.args.node c.layout-layout.ensures c.code.ensures.value c.in-Boolean.is) }
+fill_row-put_boolean-requires t c = record { node_value = (layout_told c.args.node.image.now c.args.node.number c.layout-layout.ensures c.code.ensures.value c.in-Boolean.is); x_bound = bit_least c.requires (λ z. c.if-b-at-eq0.false z) (layout_told c.args.node.image.now c.args.node.number c.layout-layout.ensures c.code.ensures.value c.in-Boolean.is); getting = bit_getting c.requires (λ z. c.if-b-at-eq0.false z) (layout_told c.args.node.image.now c.args.node.number c.layout-layout.ensures c.code.ensures.value c.in-Boolean.is) }
 
 pub fill_row-overflow_add-result-in-Boolean : goal.fill_row-overflow_add-result-in-Boolean
 fill_row-overflow_add-result-in-Boolean t c = omega (arith, row_inside c.requires, c.well_formed.1.1.1.0.1)
 
 pub fill_row-overflow_add-result-in-Boolean-2 : goal.fill_row-overflow_add-result-in-Boolean-2
-fill_row-overflow_add-result-in-Boolean-2 t c = omega (arith, bit_inside c.requires (λ z. c.if-b-at-eq0.false z) (layout_told c.args.s.now c.args.node c.layout-layout.ensures c.code.ensures.value c.in-Boolean.is), c.well_formed.1.1.1.0.1)
+fill_row-overflow_add-result-in-Boolean-2 t c = omega (arith, bit_inside c.requires (λ z. c.if-b-at-eq0.false z) (layout_told c.args.node.image.now c.args.node.number c.layout-layout.ensures c.code.ensures.value c.in-Boolean.is), c.well_formed.1.1.1.0.1)
 
 pub fill_row-overflow_add-at-in-FixedWidth : goal.fill_row-overflow_add-at-in-FixedWidth
 fill_row-overflow_add-at-in-FixedWidth t c = omega (arith, row_inside c.requires, c.well_formed.1.1.1.0.1)
 
 pub fill_row-put_fixed-requires : goal.fill_row-put_fixed-requires
-fill_row-put_fixed-requires t c = record { node_value = (layout_told c.args.s.now c.args.node c.layout-layout.ensures c.code.ensures.value c.in-FixedWidth.is); width_value = (c.element_width-width.ensures, rw c.element_width-width.ensures (fixed_inside c.requires (λ z. c.if-b-at-eq0.false z) (layout_told c.args.s.now c.args.node c.layout-layout.ensures c.code.ensures.value c.in-FixedWidth.is))); getting = fixed_getting c.requires (λ z. c.if-b-at-eq0.false z) (layout_told c.args.s.now c.args.node c.layout-layout.ensures c.code.ensures.value c.in-FixedWidth.is) }
+fill_row-put_fixed-requires t c = record { node_value = (layout_told c.args.node.image.now c.args.node.number c.layout-layout.ensures c.code.ensures.value c.in-FixedWidth.is); width_value = (c.element_width-width.ensures, rw c.element_width-width.ensures (fixed_inside c.requires (λ z. c.if-b-at-eq0.false z) (layout_told c.args.node.image.now c.args.node.number c.layout-layout.ensures c.code.ensures.value c.in-FixedWidth.is))); getting = fixed_getting c.requires (λ z. c.if-b-at-eq0.false z) (layout_told c.args.node.image.now c.args.node.number c.layout-layout.ensures c.code.ensures.value c.in-FixedWidth.is) }
 
 pub fill_row-overflow_add-result-in-FixedWidth : goal.fill_row-overflow_add-result-in-FixedWidth
 fill_row-overflow_add-result-in-FixedWidth t c = omega (arith, row_inside c.requires, c.well_formed.1.1.1.0.1)
 
 pub fill_row-overflow_add-result-in-FixedWidth-2 : goal.fill_row-overflow_add-result-in-FixedWidth-2
-fill_row-overflow_add-result-in-FixedWidth-2 t c = rw c.element_width-width.ensures (omega (arith, fixed_inside c.requires (λ z. c.if-b-at-eq0.false z) (layout_told c.args.s.now c.args.node c.layout-layout.ensures c.code.ensures.value c.in-FixedWidth.is), c.well_formed.1.1.1.0.1))
+fill_row-overflow_add-result-in-FixedWidth-2 t c = rw c.element_width-width.ensures (omega (arith, fixed_inside c.requires (λ z. c.if-b-at-eq0.false z) (layout_told c.args.node.image.now c.args.node.number c.layout-layout.ensures c.code.ensures.value c.in-FixedWidth.is), c.well_formed.1.1.1.0.1))
 
 pub fill_row-overflow_add-at-in-VariableSize : goal.fill_row-overflow_add-at-in-VariableSize
 fill_row-overflow_add-at-in-VariableSize t c = omega (arith, row_inside c.requires, c.well_formed.1.1.1.0.1)
 
 pub fill_row-overflow_add-at-in-VariableSize-2 : goal.fill_row-overflow_add-at-in-VariableSize-2
-fill_row-overflow_add-at-in-VariableSize-2 t c = omega (arith, text_inside c.requires (λ z. c.if-b-at-eq0.false z) (layout_told c.args.s.now c.args.node c.layout-layout.ensures c.code.ensures.value c.in-VariableSize.is), c.well_formed.1.1.1.0.1)
+fill_row-overflow_add-at-in-VariableSize-2 t c = omega (arith, text_inside c.requires (λ z. c.if-b-at-eq0.false z) (layout_told c.args.node.image.now c.args.node.number c.layout-layout.ensures c.code.ensures.value c.in-VariableSize.is), c.well_formed.1.1.1.0.1)
 
 pub fill_row-put_text-requires : goal.fill_row-put_text-requires
-fill_row-put_text-requires t c = record { node_value = (layout_told c.args.s.now c.args.node c.layout-layout.ensures c.code.ensures.value c.in-VariableSize.is); n_in_bounds = rw c.le32-n.ensures.value (text_inside c.requires (λ z. c.if-b-at-eq0.false z) (layout_told c.args.s.now c.args.node c.layout-layout.ensures c.code.ensures.value c.in-VariableSize.is)); getting = rw c.le32-n.ensures.value (text_getting c.requires (λ z. c.if-b-at-eq0.false z) (layout_told c.args.s.now c.args.node c.layout-layout.ensures c.code.ensures.value c.in-VariableSize.is)) }
+fill_row-put_text-requires t c = record { node_value = (layout_told c.args.node.image.now c.args.node.number c.layout-layout.ensures c.code.ensures.value c.in-VariableSize.is); n_in_bounds = rw c.le-n.ensures.value (text_inside c.requires (λ z. c.if-b-at-eq0.false z) (layout_told c.args.node.image.now c.args.node.number c.layout-layout.ensures c.code.ensures.value c.in-VariableSize.is)); getting = rw c.le-n.ensures.value (text_getting c.requires (λ z. c.if-b-at-eq0.false z) (layout_told c.args.node.image.now c.args.node.number c.layout-layout.ensures c.code.ensures.value c.in-VariableSize.is)) }
 
 pub fill_row-overflow_add-result-in-VariableSize : goal.fill_row-overflow_add-result-in-VariableSize
-fill_row-overflow_add-result-in-VariableSize t c = omega (arith, text_inside c.requires (λ z. c.if-b-at-eq0.false z) (layout_told c.args.s.now c.args.node c.layout-layout.ensures c.code.ensures.value c.in-VariableSize.is), c.well_formed.1.1.1.0.1)
+fill_row-overflow_add-result-in-VariableSize t c = omega (arith, text_inside c.requires (λ z. c.if-b-at-eq0.false z) (layout_told c.args.node.image.now c.args.node.number c.layout-layout.ensures c.code.ensures.value c.in-VariableSize.is), c.well_formed.1.1.1.0.1)
 
 pub fill_row-overflow_add-result-in-VariableSize-2 : goal.fill_row-overflow_add-result-in-VariableSize-2
-fill_row-overflow_add-result-in-VariableSize-2 t c = rw c.le32-n.ensures.value (omega (arith, text_inside c.requires (λ z. c.if-b-at-eq0.false z) (layout_told c.args.s.now c.args.node c.layout-layout.ensures c.code.ensures.value c.in-VariableSize.is), c.well_formed.1.1.1.0.1))
+fill_row-overflow_add-result-in-VariableSize-2 t c = rw c.le-n.ensures.value (omega (arith, text_inside c.requires (λ z. c.if-b-at-eq0.false z) (layout_told c.args.node.image.now c.args.node.number c.layout-layout.ensures c.code.ensures.value c.in-VariableSize.is), c.well_formed.1.1.1.0.1))
 
 pub fill_row-fill_list-requires : goal.fill_row-fill_list-requires
-fill_row-fill_list-requires t c = (omega (arith, c.decreases), (((layout_told c.args.s.now c.args.node c.layout-layout.ensures c.code.ensures.value c.in-List.is), value_mark c.requires (λ z. c.if-b-at-eq0.false z)), c.requires))
+fill_row-fill_list-requires t c = (omega (arith, c.decreases), (((layout_told c.args.node.image.now c.args.node.number c.layout-layout.ensures c.code.ensures.value c.in-List.is), value_mark c.requires (λ z. c.if-b-at-eq0.false z)), c.requires))
 
 pub fill_row-fill_struct-requires : goal.fill_row-fill_struct-requires
-fill_row-fill_struct-requires t c = (omega (arith, c.decreases), ((struct_left c.requires (λ z. c.if-b-at-eq0.false z) (last_told c.args.s.now c.args.node (at_layouts (4 ∷ 6 ∷ 7 ∷ 8 ∷ 9 ∷ 10 ∷ 11 ∷ 12 ∷ []) true last_arm refl c.layout-layout.result (opened c.in_default.in_default-own.keys6)) c.layout-layout.ensures c.code.ensures.value), value_mark c.requires (λ z. c.if-b-at-eq0.false z)), c.requires))
+fill_row-fill_struct-requires t c = (omega (arith, c.decreases), ((struct_left c.requires (λ z. c.if-b-at-eq0.false z) (last_told c.args.node.image.now c.args.node.number (at_layouts (4 ∷ 6 ∷ 7 ∷ 8 ∷ 9 ∷ 10 ∷ 11 ∷ 12 ∷ []) true last_arm refl c.layout-layout.result (opened c.in_default.in_default-own.keys6)) c.layout-layout.ensures c.code.ensures.value), value_mark c.requires (λ z. c.if-b-at-eq0.false z)), c.requires))
 
 pub fill_row-shape_of-rows-in-Null : goal.fill_row-shape_of-rows-in-Null
-fill_row-shape_of-rows-in-Null t c = (empty_walked c.requires (λ z. c.if-b-at-eq0.false z) (layout_told c.args.s.now c.args.node c.layout-layout.ensures c.code.ensures.value c.in-Null.is) c.put_gap.ensures).done.filled.rows_long
+fill_row-shape_of-rows-in-Null t c = (empty_walked c.requires (λ z. c.if-b-at-eq0.false z) (layout_told c.args.node.image.now c.args.node.number c.layout-layout.ensures c.code.ensures.value c.in-Null.is) c.put_gap.ensures).done.filled.rows_long
 
 pub fill_row-shape_of-spans-in-Null : goal.fill_row-shape_of-spans-in-Null
-fill_row-shape_of-spans-in-Null t c = (empty_walked c.requires (λ z. c.if-b-at-eq0.false z) (layout_told c.args.s.now c.args.node c.layout-layout.ensures c.code.ensures.value c.in-Null.is) c.put_gap.ensures).done.filled.spans_long
+fill_row-shape_of-spans-in-Null t c = (empty_walked c.requires (λ z. c.if-b-at-eq0.false z) (layout_told c.args.node.image.now c.args.node.number c.layout-layout.ensures c.code.ensures.value c.in-Null.is) c.put_gap.ensures).done.filled.spans_long
 
 pub fill_row-shape_of-out-in-Null : goal.fill_row-shape_of-out-in-Null
-fill_row-shape_of-out-in-Null t c = (empty_walked c.requires (λ z. c.if-b-at-eq0.false z) (layout_told c.args.s.now c.args.node c.layout-layout.ensures c.code.ensures.value c.in-Null.is) c.put_gap.ensures).done.filled.long
+fill_row-shape_of-out-in-Null t c = (empty_walked c.requires (λ z. c.if-b-at-eq0.false z) (layout_told c.args.node.image.now c.args.node.number c.layout-layout.ensures c.code.ensures.value c.in-Null.is) c.put_gap.ensures).done.filled.long
 
 pub fill_row-returns-in-Null : goal.fill_row-returns-in-Null
-fill_row-returns-in-Null t c = empty_walked c.requires (λ z. c.if-b-at-eq0.false z) (layout_told c.args.s.now c.args.node c.layout-layout.ensures c.code.ensures.value c.in-Null.is) c.put_gap.ensures
+fill_row-returns-in-Null t c = empty_walked c.requires (λ z. c.if-b-at-eq0.false z) (layout_told c.args.node.image.now c.args.node.number c.layout-layout.ensures c.code.ensures.value c.in-Null.is) c.put_gap.ensures
 
 pub fill_row-shape_of-rows-in-Boolean : goal.fill_row-shape_of-rows-in-Boolean
-fill_row-shape_of-rows-in-Boolean t c = (bit_walked c.requires (λ z. c.if-b-at-eq0.false z) (layout_told c.args.s.now c.args.node c.layout-layout.ensures c.code.ensures.value c.in-Boolean.is) c.put_boolean.ensures).done.filled.rows_long
+fill_row-shape_of-rows-in-Boolean t c = (bit_walked c.requires (λ z. c.if-b-at-eq0.false z) (layout_told c.args.node.image.now c.args.node.number c.layout-layout.ensures c.code.ensures.value c.in-Boolean.is) c.put_boolean.ensures).done.filled.rows_long
 
 pub fill_row-shape_of-spans-in-Boolean : goal.fill_row-shape_of-spans-in-Boolean
-fill_row-shape_of-spans-in-Boolean t c = (bit_walked c.requires (λ z. c.if-b-at-eq0.false z) (layout_told c.args.s.now c.args.node c.layout-layout.ensures c.code.ensures.value c.in-Boolean.is) c.put_boolean.ensures).done.filled.spans_long
+fill_row-shape_of-spans-in-Boolean t c = (bit_walked c.requires (λ z. c.if-b-at-eq0.false z) (layout_told c.args.node.image.now c.args.node.number c.layout-layout.ensures c.code.ensures.value c.in-Boolean.is) c.put_boolean.ensures).done.filled.spans_long
 
 pub fill_row-shape_of-out-in-Boolean : goal.fill_row-shape_of-out-in-Boolean
-fill_row-shape_of-out-in-Boolean t c = (bit_walked c.requires (λ z. c.if-b-at-eq0.false z) (layout_told c.args.s.now c.args.node c.layout-layout.ensures c.code.ensures.value c.in-Boolean.is) c.put_boolean.ensures).done.filled.long
+fill_row-shape_of-out-in-Boolean t c = (bit_walked c.requires (λ z. c.if-b-at-eq0.false z) (layout_told c.args.node.image.now c.args.node.number c.layout-layout.ensures c.code.ensures.value c.in-Boolean.is) c.put_boolean.ensures).done.filled.long
 
 pub fill_row-returns-in-Boolean : goal.fill_row-returns-in-Boolean
-fill_row-returns-in-Boolean t c = bit_walked c.requires (λ z. c.if-b-at-eq0.false z) (layout_told c.args.s.now c.args.node c.layout-layout.ensures c.code.ensures.value c.in-Boolean.is) c.put_boolean.ensures
+fill_row-returns-in-Boolean t c = bit_walked c.requires (λ z. c.if-b-at-eq0.false z) (layout_told c.args.node.image.now c.args.node.number c.layout-layout.ensures c.code.ensures.value c.in-Boolean.is) c.put_boolean.ensures
 
 pub fill_row-shape_of-rows-in-FixedWidth : goal.fill_row-shape_of-rows-in-FixedWidth
-fill_row-shape_of-rows-in-FixedWidth t c = (fixed_done c.requires (λ z. c.if-b-at-eq0.false z) (layout_told c.args.s.now c.args.node c.layout-layout.ensures c.code.ensures.value c.in-FixedWidth.is) c.element_width-width.ensures c.put_fixed.ensures).done.filled.rows_long
+fill_row-shape_of-rows-in-FixedWidth t c = (fixed_done c.requires (λ z. c.if-b-at-eq0.false z) (layout_told c.args.node.image.now c.args.node.number c.layout-layout.ensures c.code.ensures.value c.in-FixedWidth.is) c.element_width-width.ensures c.put_fixed.ensures).done.filled.rows_long
 
 pub fill_row-shape_of-spans-in-FixedWidth : goal.fill_row-shape_of-spans-in-FixedWidth
-fill_row-shape_of-spans-in-FixedWidth t c = (fixed_done c.requires (λ z. c.if-b-at-eq0.false z) (layout_told c.args.s.now c.args.node c.layout-layout.ensures c.code.ensures.value c.in-FixedWidth.is) c.element_width-width.ensures c.put_fixed.ensures).done.filled.spans_long
+fill_row-shape_of-spans-in-FixedWidth t c = (fixed_done c.requires (λ z. c.if-b-at-eq0.false z) (layout_told c.args.node.image.now c.args.node.number c.layout-layout.ensures c.code.ensures.value c.in-FixedWidth.is) c.element_width-width.ensures c.put_fixed.ensures).done.filled.spans_long
 
 pub fill_row-shape_of-out-in-FixedWidth : goal.fill_row-shape_of-out-in-FixedWidth
-fill_row-shape_of-out-in-FixedWidth t c = (fixed_done c.requires (λ z. c.if-b-at-eq0.false z) (layout_told c.args.s.now c.args.node c.layout-layout.ensures c.code.ensures.value c.in-FixedWidth.is) c.element_width-width.ensures c.put_fixed.ensures).done.filled.long
+fill_row-shape_of-out-in-FixedWidth t c = (fixed_done c.requires (λ z. c.if-b-at-eq0.false z) (layout_told c.args.node.image.now c.args.node.number c.layout-layout.ensures c.code.ensures.value c.in-FixedWidth.is) c.element_width-width.ensures c.put_fixed.ensures).done.filled.long
 
 pub fill_row-returns-in-FixedWidth : goal.fill_row-returns-in-FixedWidth
-fill_row-returns-in-FixedWidth t c = fixed_done c.requires (λ z. c.if-b-at-eq0.false z) (layout_told c.args.s.now c.args.node c.layout-layout.ensures c.code.ensures.value c.in-FixedWidth.is) c.element_width-width.ensures c.put_fixed.ensures
+fill_row-returns-in-FixedWidth t c = fixed_done c.requires (λ z. c.if-b-at-eq0.false z) (layout_told c.args.node.image.now c.args.node.number c.layout-layout.ensures c.code.ensures.value c.in-FixedWidth.is) c.element_width-width.ensures c.put_fixed.ensures
 
 pub fill_row-shape_of-rows-in-VariableSize : goal.fill_row-shape_of-rows-in-VariableSize
-fill_row-shape_of-rows-in-VariableSize t c = (text_done c.requires (λ z. c.if-b-at-eq0.false z) (layout_told c.args.s.now c.args.node c.layout-layout.ensures c.code.ensures.value c.in-VariableSize.is) c.le32-n.ensures.value c.put_text.ensures).done.filled.rows_long
+fill_row-shape_of-rows-in-VariableSize t c = (text_done c.requires (λ z. c.if-b-at-eq0.false z) (layout_told c.args.node.image.now c.args.node.number c.layout-layout.ensures c.code.ensures.value c.in-VariableSize.is) c.le-n.ensures.value c.put_text.ensures).done.filled.rows_long
 
 pub fill_row-shape_of-spans-in-VariableSize : goal.fill_row-shape_of-spans-in-VariableSize
-fill_row-shape_of-spans-in-VariableSize t c = (text_done c.requires (λ z. c.if-b-at-eq0.false z) (layout_told c.args.s.now c.args.node c.layout-layout.ensures c.code.ensures.value c.in-VariableSize.is) c.le32-n.ensures.value c.put_text.ensures).done.filled.spans_long
+fill_row-shape_of-spans-in-VariableSize t c = (text_done c.requires (λ z. c.if-b-at-eq0.false z) (layout_told c.args.node.image.now c.args.node.number c.layout-layout.ensures c.code.ensures.value c.in-VariableSize.is) c.le-n.ensures.value c.put_text.ensures).done.filled.spans_long
 
 pub fill_row-shape_of-out-in-VariableSize : goal.fill_row-shape_of-out-in-VariableSize
-fill_row-shape_of-out-in-VariableSize t c = (text_done c.requires (λ z. c.if-b-at-eq0.false z) (layout_told c.args.s.now c.args.node c.layout-layout.ensures c.code.ensures.value c.in-VariableSize.is) c.le32-n.ensures.value c.put_text.ensures).done.filled.long
+fill_row-shape_of-out-in-VariableSize t c = (text_done c.requires (λ z. c.if-b-at-eq0.false z) (layout_told c.args.node.image.now c.args.node.number c.layout-layout.ensures c.code.ensures.value c.in-VariableSize.is) c.le-n.ensures.value c.put_text.ensures).done.filled.long
 
 pub fill_row-returns-in-VariableSize : goal.fill_row-returns-in-VariableSize
-fill_row-returns-in-VariableSize t c = text_done c.requires (λ z. c.if-b-at-eq0.false z) (layout_told c.args.s.now c.args.node c.layout-layout.ensures c.code.ensures.value c.in-VariableSize.is) c.le32-n.ensures.value c.put_text.ensures
+fill_row-returns-in-VariableSize t c = text_done c.requires (λ z. c.if-b-at-eq0.false z) (layout_told c.args.node.image.now c.args.node.number c.layout-layout.ensures c.code.ensures.value c.in-VariableSize.is) c.le-n.ensures.value c.put_text.ensures
 
 pub fill_row-shape_of-rows-in-List : goal.fill_row-shape_of-rows-in-List
 fill_row-shape_of-rows-in-List t c = c.fill_list.ensures.done.filled.rows_long
@@ -195,12 +196,6 @@ fill_rows-loop-i-init t c = rows_start c.requires
 pub fill_rows-fill_row-next-requires : goal.fill_rows-fill_row-next-requires
 fill_rows-fill_row-next-requires t c = (omega (arith, c.decreases), rows_row c.loop-i.invariant c.loop-i-test.true)
 
-pub fill_rows-overflow_add-i : goal.fill_rows-overflow_add-i
-fill_rows-overflow_add-i t c = omega (arith, c.loop-i-test.true, c.ranges)
-
-pub fill_rows-loop-i-smaller : goal.fill_rows-loop-i-smaller
-fill_rows-loop-i-smaller t c = omega (arith, c.loop-i-test.true)
-
 pub fill_rows-loop-i-preserved : goal.fill_rows-loop-i-preserved
 fill_rows-loop-i-preserved t c = rows_more c.loop-i.invariant c.loop-i-test.true c.fill_row-next.ensures
 
@@ -223,34 +218,25 @@ pub fill_struct-overflow_add-next : goal.fill_struct-overflow_add-next
 fill_struct-overflow_add-next t c = omega (arith, row_inside c.requires.row_walk, c.well_formed.1.1.1.0.1)
 
 pub fill_struct-loop-c-init : goal.fill_struct-loop-c-init
-fill_struct-loop-c-init t c = fields_start c.requires.row_walk c.requires.node_value.0 c.requires.node_value.1 c.first_child-first.ensures.value c.child_count-n.ensures.value c.put_struct.ensures
-
-pub fill_struct-overflow_add-first : goal.fill_struct-overflow_add-first
-fill_struct-overflow_add-first t c = omega (arith, c.first_child-first.ensures.small, c.child_count-n.ensures.small, c.loop-c-test.true)
+fill_struct-loop-c-init t c = fields_start c.requires.row_walk c.requires.node_value.0 c.requires.node_value.1 refl c.child_count-n.ensures.value c.put_struct.ensures
 
 pub fill_struct-overflow_sub-depth : goal.fill_struct-overflow_sub-depth
 fill_struct-overflow_sub-depth t c = omega (arith, row_deep c.requires.row_walk)
 
 pub fill_struct-fill_row-next-requires : goal.fill_struct-fill_row-next-requires
-fill_struct-fill_row-next-requires t c = (omega (arith, c.decreases, row_deep c.requires.row_walk), field_walk c.requires.row_walk c.requires.node_value.0 c.requires.node_value.1 c.first_child-first.ensures.value c.child_count-n.ensures.value c.put_struct.ensures c.loop-c.invariant c.loop-c-test.true)
-
-pub fill_struct-overflow_add-c : goal.fill_struct-overflow_add-c
-fill_struct-overflow_add-c t c = omega (arith, c.child_count-n.ensures.small, c.loop-c-test.true)
-
-pub fill_struct-loop-c-smaller : goal.fill_struct-loop-c-smaller
-fill_struct-loop-c-smaller t c = omega (arith, c.loop-c-test.true)
+fill_struct-fill_row-next-requires t c = (omega (arith, c.decreases, row_deep c.requires.row_walk), rw (c.child.ensures.image, c.child.ensures.number) (field_walk c.requires.row_walk c.requires.node_value.0 c.requires.node_value.1 refl c.child_count-n.ensures.value c.put_struct.ensures c.loop-c.invariant c.loop-c-test.true))
 
 pub fill_struct-loop-c-preserved : goal.fill_struct-loop-c-preserved
-fill_struct-loop-c-preserved t c = field_more c.loop-c.invariant c.loop-c-test.true c.fill_row-next.ensures
+fill_struct-loop-c-preserved t c = field_more c.loop-c.invariant c.loop-c-test.true (rw (c.child.ensures.image, c.child.ensures.number) at c.fill_row-next.ensures)
 
 pub fill_struct-shape_of-rows : goal.fill_struct-shape_of-rows
-fill_struct-shape_of-rows t c = (fields_done c.requires.row_walk c.requires.node_value.0 c.requires.node_value.1 c.first_child-first.ensures.value c.child_count-n.ensures.value c.put_struct.ensures c.loop-c.invariant c.loop-c-test.false).done.filled.rows_long
+fill_struct-shape_of-rows t c = (fields_done c.requires.row_walk c.requires.node_value.0 c.requires.node_value.1 refl c.child_count-n.ensures.value c.put_struct.ensures c.loop-c.invariant c.loop-c-test.false).done.filled.rows_long
 
 pub fill_struct-shape_of-spans : goal.fill_struct-shape_of-spans
-fill_struct-shape_of-spans t c = (fields_done c.requires.row_walk c.requires.node_value.0 c.requires.node_value.1 c.first_child-first.ensures.value c.child_count-n.ensures.value c.put_struct.ensures c.loop-c.invariant c.loop-c-test.false).done.filled.spans_long
+fill_struct-shape_of-spans t c = (fields_done c.requires.row_walk c.requires.node_value.0 c.requires.node_value.1 refl c.child_count-n.ensures.value c.put_struct.ensures c.loop-c.invariant c.loop-c-test.false).done.filled.spans_long
 
 pub fill_struct-shape_of-out : goal.fill_struct-shape_of-out
-fill_struct-shape_of-out t c = (fields_done c.requires.row_walk c.requires.node_value.0 c.requires.node_value.1 c.first_child-first.ensures.value c.child_count-n.ensures.value c.put_struct.ensures c.loop-c.invariant c.loop-c-test.false).done.filled.long
+fill_struct-shape_of-out t c = (fields_done c.requires.row_walk c.requires.node_value.0 c.requires.node_value.1 refl c.child_count-n.ensures.value c.put_struct.ensures c.loop-c.invariant c.loop-c-test.false).done.filled.long
 
 pub fill_struct-returns : goal.fill_struct-returns
-fill_struct-returns t c = fields_done c.requires.row_walk c.requires.node_value.0 c.requires.node_value.1 c.first_child-first.ensures.value c.child_count-n.ensures.value c.put_struct.ensures c.loop-c.invariant c.loop-c-test.false
+fill_struct-returns t c = fields_done c.requires.row_walk c.requires.node_value.0 c.requires.node_value.1 refl c.child_count-n.ensures.value c.put_struct.ensures c.loop-c.invariant c.loop-c-test.false

@@ -1,6 +1,7 @@
 -- The measures and the invariants of the cycle.
-use Prim.Native.Nat.{◌+◌, ◌-◌, ◌*◌}
+use Prim.Native.Nat.{◌+◌, ◌*◌}
 use Rattle.fill.proofs.Arms.{FieldsLeft}
+use Rattle.image.specs.Record.{first_child}
 use Rattle.fill.specs.Filling.{filling}
 use Rattle.fill.proofs.Walks.{RowsLeft}
 use Rattle.fill.proofs.+fill_list_fill_row_fill_rows_fill_struct.Given as goal
@@ -18,13 +19,7 @@ abbrev pub decreases-fill_struct : goal.decreases-fill_struct
 decreases-fill_struct l = 3 * l.depth + 1
 
 abbrev pub invariant-fill_rows-loop-i : goal.invariant-fill_rows-loop-i
-invariant-fill_rows-loop-i l = RowsLeft l.s l.places l.b l.depth l.node l.n l.at (filling l.initial.out l.initial.rows l.initial.spans) (filling l.out l.rows l.spans) l.next l.i
-
-abbrev pub decreases-fill_rows-loop-i : goal.decreases-fill_rows-loop-i
-decreases-fill_rows-loop-i l = l.n - l.i
+invariant-fill_rows-loop-i l = RowsLeft l.node.image.now l.places l.b l.depth l.node.number l.n l.at (filling l.initial.out l.initial.rows l.initial.spans) (filling l.out l.rows l.spans) l.next l.i
 
 abbrev pub invariant-fill_struct-loop-c : goal.invariant-fill_struct-loop-c
-invariant-fill_struct-loop-c l = FieldsLeft l.s l.places l.b l.depth l.node l.at l.first l.n (filling l.initial.out l.initial.rows l.initial.spans) (filling l.out l.rows l.spans) l.next l.c
-
-abbrev pub decreases-fill_struct-loop-c : goal.decreases-fill_struct-loop-c
-decreases-fill_struct-loop-c l = l.n - l.c
+invariant-fill_struct-loop-c l = FieldsLeft l.node.image.now l.places l.b l.depth l.node.number l.at (first_child l.node.image.now l.node.number) l.n (filling l.initial.out l.initial.rows l.initial.spans) (filling l.out l.rows l.spans) l.next l.c

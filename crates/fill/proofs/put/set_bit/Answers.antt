@@ -7,10 +7,10 @@ use Rattle.fill.proofs.BitsSet.{bit_small, bit_value}
 use Rattle.fill.proofs.put.set_bit.Goals as goal
 
 pub overflow_add-out : goal.overflow_add-out
-overflow_add-out c = omega (arith, bit_small c.args.j, bit_value c.args.j, c.wide.ensures.small)
+overflow_add-out c = omega (arith, bit_small c.args.j, bit_value c.args.j, c.from.ensures, c.requires.j_bound)
 
 pub overflow_cast-out : goal.overflow_cast-out
-overflow_cast-out c = omega (arith, bit_small c.args.j, bit_value c.args.j, c.wide.ensures.value, c.requires.j_bound)
+overflow_cast-out c = omega (arith, bit_small c.args.j, bit_value c.args.j, c.from.ensures, c.requires.j_bound)
 
 pub returns : goal.returns
-returns c = rw (bit_value c.args.j, c.wide.ensures.value) (over_one c.args.out.now (c.args.place + c.args.j / 8) _ c.requires.j_in_bounds)
+returns c = rw (bit_value c.args.j, c.from.ensures) (over_one c.args.out.now (c.args.place + c.args.j / 8) _ c.requires.j_in_bounds)
