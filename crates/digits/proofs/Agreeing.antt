@@ -6,7 +6,6 @@ use mathlib.Core.List.{List}
 use mathlib.Core.Logic.{◌⊎◌, inl, inr, ⊎_elim}
 use Prim.Native.Nat.{ℕ, zero, suc, ◌+◌, ◌*◌, ◌-◌, ◌≤◌, ◌<◌, ◌^◌}
 use native.Mathlib.Omega.{arith}
-use native.Mathlib.Nat.{add-mul}
 use lib.ListN.{length}
 use lib.Dec.{eqb, ltb}
 use borrow.Author.Tests.{eqb-true, ne_eqb, ltb-false, lt-ltb, le-ltb}
@@ -16,7 +15,7 @@ use Rattle.image.specs.declared.type_code.Layout.TheVariants.{FixedWidth}
 use Rattle.image.specs.Ranges.{every}
 use Rattle.image.specs.Bytes.{byte_at, number_at, bytes_at}
 use Rattle.image.specs.Record.{max_depth, code_of, offset_of}
-use Rattle.image.specs.Reads.{Read, Packed, is_width}
+use Rattle.image.specs.Reads.{Read}
 use Rattle.image.specs.TypeCode.{entries, entry_of, layout_of, width_of}
 use Rattle.image.specs.Element.{valid, element_width, element_place, element_at}
 use Rattle.image.specs.Types.{same_bytes}

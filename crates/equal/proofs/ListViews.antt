@@ -9,7 +9,6 @@ use Rattle.image.specs.declared.type_code.Layout.TheVariants.{ListView}
 use Rattle.image.specs.Record.{code_of, length_of, first_child, child_count}
 use Rattle.image.specs.TypeCode.{layout_of}
 use Rattle.image.specs.Element.{element_width, element_at, size_at}
-use Rattle.image.specs.Reads.{Read}
 use Rattle.image.specs.Row.{Row, list_view_row, row_at}
 use Rattle.image.specs.Equality.{row_equal}
 use Rattle.values.specs.Pairs.{same_row, range_equal}

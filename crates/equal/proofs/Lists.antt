@@ -13,7 +13,6 @@ use Rattle.image.specs.declared.type_code.Layout.TheVariants.{List as Lists}
 use Rattle.image.specs.Record.{code_of, length_of, first_child, child_count, buffer_count}
 use Rattle.image.specs.TypeCode.{layout_of}
 use Rattle.image.specs.Element.{element_width, element_place, element_at}
-use Rattle.image.specs.Reads.{Read}
 use Rattle.image.specs.Row.{Row, list_row, row_at}
 use Rattle.image.specs.Equality.{row_equal}
 use Rattle.laws.proofs.Codes.{list_offset_width}

@@ -10,7 +10,6 @@ use Rattle.image.specs.declared.type_code.Layout.TheVariants.{Runs}
 use Rattle.image.specs.Record.{code_of, length_of, first_child, child_count}
 use Rattle.image.specs.TypeCode.{layout_of}
 use Rattle.image.specs.Element.{run_end_at, run_at}
-use Rattle.image.specs.Reads.{Read}
 use Rattle.image.specs.Row.{Row, range, run_row, row_at}
 use Rattle.image.specs.Equality.{row_equal}
 use Rattle.laws.specs.Accepted.{RunsCover}

@@ -16,7 +16,6 @@ use Rattle.image.specs.Ranges.{first}
 use Rattle.image.specs.Record.{code_of, id_of, length_of, elements_of, buffer_place, buffer_length, buffer_count, first_child, child_count}
 use Rattle.image.specs.TypeCode.{layout_of, is_union}
 use Rattle.image.specs.Element.{type_id_at, dense_offset_at, child_end, has_id, child_with_id}
-use Rattle.image.specs.Reads.{Read}
 use Rattle.image.specs.Row.{Row, union_row, dense_row, sparse_row, struct_row, row_at}
 use Rattle.image.specs.Equality.{row_equal}
 use Rattle.image.proofs.Ranges.{first_from}

@@ -1,19 +1,18 @@
 -- What `==` says of two parts of slices: that their bytes are the same.
 -- A part that lies inside is the bytes from its place on, by induction over its length.
-use mathlib.Core.Path.{◌≡◌, refl, ap, ap₂, sym, ◌∙◌}
-use mathlib.Core.Bool.{Bool, true, false, ◌&&◌}
+use mathlib.Core.Path.{◌≡◌, refl, ap, ◌∙◌}
+use mathlib.Core.Bool.{Bool, ◌&&◌}
 use mathlib.Core.List.{List, [], ◌∷◌}
 use Prim.Native.Nat.{ℕ, zero, suc, ◌+◌, ◌-◌, ◌<◌, ◌≤◌}
 use native.Mathlib.Omega.{arith}
-use native.Mathlib.Nat.{zero-add}
 use lib.Dec.{eqb}
-use lib.ListN.{length, get_or, take, drop}
+use lib.ListN.{length, take, drop}
 use lib.Seq.{drop-cons}
 use lib.Pointwise.{pointwise}
 use Rattle.image.specs.Bytes.{byte_at, bytes_at}
 use Rattle.image.specs.Types.{same_bytes}
 use Rattle.values.specs.Pairs.{all, same_byte}
-use Rattle.values.proofs.Steps.{by_bytes, all_moved}
+use Rattle.values.proofs.Steps.{all_moved}
 
 pub lists_same : (xs ys : List ℕ) → pointwise eqb xs ys ≡ same_bytes xs ys
 unfolding same_bytes

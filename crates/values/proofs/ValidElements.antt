@@ -11,7 +11,7 @@ use lib.ListN.{length, take, drop}
 use lib.Pointwise.{pointwise}
 use lib.Dec.{eqb}
 use Rattle.image.specs.declared.type_code.Layout.TheVariants.{FixedWidth}
-use Rattle.image.specs.Bytes.{byte_at, bytes_at}
+use Rattle.image.specs.Bytes.{bytes_at}
 use Rattle.image.specs.Record.{code_of, offset_of, has_bitmap, bitmap_place, first_bit, buffer_place}
 use Rattle.image.specs.TypeCode.{layout_of}
 use Rattle.image.specs.Element.{valid, element_width, element_place}
@@ -23,7 +23,7 @@ use Rattle.values.specs.Bits.{bits_at}
 use Rattle.values.specs.Pairs.{all, same_row, range_equal, same_byte, bit_of, valid_same, masked_row}
 use Rattle.accepted.specs.Parts.{Side, Elements}
 use Rattle.values.specs.Parts.{Masked, ColumnsAt}
-use Rattle.values.proofs.Steps.{by_rows, by_bytes, all_snoc, all_moved, and_true, passed_tail, front_fails}
+use Rattle.values.proofs.Steps.{by_rows, by_bytes, all_snoc, all_moved, passed_tail, front_fails}
 use Rattle.values.proofs.Slices.{part_pairs, parts_same}
 use Rattle.values.proofs.WordBits.{bit_of_bits}
 use Rattle.values.proofs.MaskedRows.{mask_at}

@@ -21,7 +21,7 @@ use Rattle.image.specs.Bytes.{bit_at}
 use Rattle.image.specs.Ranges.{every}
 use Rattle.values.specs.Bits.{bits_at, Leading}
 use Rattle.values.specs.Pairs.{first_unequal, same_bit, same_bit_of, bit_of}
-use Rattle.values.proofs.Words.{cut_off, halved, words_same, words_differ, full_result}
+use Rattle.values.proofs.Words.{cut_off, words_same, words_differ, full_result}
 use Rattle.values.proofs.Steps.{Passed, passed_more, all_by}
 use Rattle.values.proofs.FirstUnequal.{unequal_is, unequal_moved, unequal_some, unequal_among}
 use Rattle.values.proofs.Leads.{every_jump, leading_stops, leading_all}

@@ -1,11 +1,11 @@
 -- What contracts say of two nodes and of the rows that are compared of them.
 -- Each word here is one of Pairs, of Bits or of Parts, of the images and numbers that the structs hold.
-use Rattle.std.specs.Prelude.{◌≡◌, Bool, true, false, Option, None, Some, List, ℕ, suc, ◌+◌, ◌*◌, ◌-◌, ◌/◌, ◌≤◌, ◌<◌, ◌^◌, length}
+use Rattle.std.specs.Prelude.{◌≡◌, Bool, true, false, Option, None, Some, List, ℕ, ◌+◌, ◌*◌, ◌-◌, ◌/◌, ◌≤◌, ◌<◌, ◌^◌, length}
 use Rattle.image.specs.declared.record.Node.{Node}
 use Rattle.image.specs.declared.type_code.Layout.{Layout}
-use Rattle.image.specs.declared.type_code.Layout.TheVariants.{FixedWidth, VariableSize}
+use Rattle.image.specs.declared.type_code.Layout.TheVariants.{FixedWidth}
 use Rattle.image.specs.Bytes.{bytes_at}
-use Rattle.image.specs.Record.{code_of, offset_of, has_bitmap, bitmap_place, first_bit, first_child, first_buffer, entry_place, buffer_place}
+use Rattle.image.specs.Record.{code_of, offset_of, has_bitmap, bitmap_place, first_bit, first_child, first_buffer, entry_place}
 use Rattle.image.specs.TypeCode.{layout_of}
 use Rattle.image.specs.Element.{element_width, element_place, view_length, view_data, child_end, child_with_id}
 use Rattle.image.specs.Types.{same_bytes}

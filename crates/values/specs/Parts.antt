@@ -1,14 +1,13 @@
 -- What the comparison of ranges asks of its callers.
-use Rattle.std.specs.Prelude.{◌≡◌, true, false, ◌||◌, List, ◌⊎◌, ℕ, suc, ◌+◌, ◌-◌, ◌*◌, ◌≤◌, ◌<◌, ◌^◌, length}
+use Rattle.std.specs.Prelude.{◌≡◌, true, false, List, ◌⊎◌, ℕ, suc, ◌+◌, ◌-◌, ◌*◌, ◌≤◌, ◌<◌, ◌^◌, length}
 use Rattle.image.specs.Bytes.{number_at}
-use Rattle.image.specs.Record.{node_count, code_of, p1_of, length_of, offset_of, has_bitmap, first_child, buffer_place, bitmap_place, first_bit}
+use Rattle.image.specs.Record.{node_count, code_of, p1_of, length_of, offset_of, has_bitmap, first_child, buffer_place}
 use Rattle.image.specs.declared.type_code.Layout.{Layout}
-use Rattle.image.specs.declared.type_code.Layout.TheVariants.{FixedWidth, VariableSize, Runs}
+use Rattle.image.specs.declared.type_code.Layout.TheVariants.{VariableSize, Runs}
 use Rattle.image.specs.TypeCode.{layout_of}
 use Rattle.image.specs.Element.{element_width, element_place, element_at, run_end_at, run_at}
 use Rattle.laws.specs.Accepted.{AcceptedImage}
 use Rattle.laws.specs.Alike.{Alike}
-use Rattle.image.specs.Reads.{Read}
 use Rattle.accepted.specs.Parts.{Side, Part, RunPart, Elements}
 use Rattle.values.specs.declared.leaf.Columns.{Columns}
 use Rattle.values.specs.Pairs.{all, same_mask}

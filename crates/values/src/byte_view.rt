@@ -7,6 +7,7 @@ ghost use Rattle.values.specs.Pairs.{masked_row};
 ghost use Rattle.values.specs.Pair.{equal_rows, PartsIn, MaskedOf, ViewOf, view_bytes};
 
 use crate::pair::{Pair, Rows};
+use crate::utils::number_same;
 use accepted::byte_view::long_place;
 use image::bytes::load;
 use image::element::{INLINE_LENGTH, VIEW_SIZE};
@@ -33,7 +34,7 @@ fn view_equal(left: View, right: View) -> bool
         return false;
     }
     if len <= INLINE_LENGTH {
-        if a[x + 4..x + 4 + INLINE_LENGTH] == b[y + 4..y + 4 + INLINE_LENGTH] {
+        if number_same::<INLINE_LENGTH>(a, b, x + 4, y + 4) {
             return true;
         }
         return a[x + 4..x + 4 + len] == b[y + 4..y + 4 + len];

@@ -5,7 +5,7 @@ ghost use Rattle.image.specs.declared.type_code.Layout.TheVariants.{FixedWidth};
 ghost use Rattle.image.specs.Bytes.{bytes_at};
 ghost use Rattle.image.specs.Element.{element_width, element_place};
 ghost use Rattle.image.specs.Row.{fixed_row};
-ghost use Rattle.values.specs.Pairs.{all, same_byte, valid_same, masked_row};
+ghost use Rattle.values.specs.Pairs.{all, valid_same, masked_row};
 ghost use Rattle.values.specs.Pair.{equal_rows, from_offset, PartsIn, MaskedOf, FixedOf, ColumnsOf, MaskWord, BitsOf};
 ghost use Rattle.accepted.specs.Parts.{Elements};
 
@@ -13,7 +13,7 @@ use crate::bits::Bits;
 use crate::data::validity;
 use crate::leaf::{Columns, first_place};
 use crate::pair::{Pair, Rows};
-use image::bytes::load;
+use crate::utils::number_same;
 use image::record::Node;
 
 // Rows with nulls are compared so many at a time, as one block of bytes, and where the blocks differ so many as a word of
@@ -61,19 +61,6 @@ fn block_equal(pair: Pair, rows: Rows) -> bool
     elements_equal(pair, elements)
 }
 
-// The W bytes at a place of two slices are the same, as numbers: one, or the first eight bytes and the last, which may
-// share some.
-fn number_same<const W: usize>(x: &[u8], y: &[u8], i: usize) -> bool
-    requires { (W ≤ 16) × (i + W ≤ length x.now) × (i + W ≤ length y.now) }
-    ensures { result ≡ all (same_byte x.now y.now) i i W }
-{
-    if W <= 8 {
-        return load::<W>(x, i) == load::<W>(y, i);
-    }
-    let end = i + (W - 8);
-    (load::<8>(x, i) == load::<8>(y, i)) & (load::<8>(x, end) == load::<8>(y, end))
-}
-
 // Of n elements of W bytes, at most 64, those whose bit is set are the same. There is no way out of the loop.
 fn valid_same<const W: usize>(x: &[u8], y: &[u8], bits: usize, n: usize) -> bool
     requires { (W ≤ 16) × (n ≤ 64) × (n * W ≤ length x.now) × (n * W ≤ length y.now) }
@@ -82,7 +69,7 @@ fn valid_same<const W: usize>(x: &[u8], y: &[u8], bits: usize, n: usize) -> bool
     let mut same = true;
     for h in 0..n {
         let null = (bits >> h) % 2 != 1;
-        same = same & (null | number_same::<W>(x, y, h * W));
+        same = same & (null | number_same::<W>(x, y, h * W, h * W));
     }
     same
 }
@@ -110,8 +97,13 @@ fn valid_equal(x: &[u8], y: &[u8], w: usize, bits: usize, n: usize) -> bool
     match w {
         1 => valid_same::<1>(x, y, bits, n),
         2 => valid_same::<2>(x, y, bits, n),
+        3 => valid_same::<3>(x, y, bits, n),
         4 => valid_same::<4>(x, y, bits, n),
+        5 => valid_same::<5>(x, y, bits, n),
+        6 => valid_same::<6>(x, y, bits, n),
+        7 => valid_same::<7>(x, y, bits, n),
         8 => valid_same::<8>(x, y, bits, n),
+        12 => valid_same::<12>(x, y, bits, n),
         16 => valid_same::<16>(x, y, bits, n),
         _ => valid_bytes(x, y, w, bits, n),
     }

@@ -1,13 +1,27 @@
-// Null masks and types. Translated from src/equal/utils.rs of arrow-data 60.1.0 (Apache-2.0).
-ghost use Rattle.std.specs.Prelude.{◌≡◌, ◌&&◌, ◌+◌, ◌<◌, ◌^◌, eqb};
+// Numbers of a few bytes, null masks and types. Translated from src/equal/utils.rs of arrow-data 60.1.0 (Apache-2.0).
+ghost use Rattle.std.specs.Prelude.{◌≡◌, ◌&&◌, ◌+◌, ◌≤◌, length, eqb};
 ghost use Rattle.image.specs.Record.{length_of};
 ghost use Rattle.image.specs.Types.{types_agree};
+ghost use Rattle.values.specs.Pairs.{all, same_byte};
 ghost use Rattle.values.specs.Pair.{same_masks, first_null, FewRows};
 
 use crate::bits::first_unequal_bit;
 use crate::data::validity;
 use crate::pair::{Pair, Rows};
 use crate::types::same_types;
+use image::bytes::load;
+
+// The W bytes at two places are the same, as numbers: one, or the first eight bytes and the last, which may share some.
+pub fn number_same<const W: usize>(a: &[u8], b: &[u8], at: usize, bt: usize) -> bool
+    requires { (W ≤ 16) × (at + W ≤ length a.now) × (bt + W ≤ length b.now) }
+    ensures { result ≡ all (same_byte a.now b.now) at bt W }
+{
+    if W <= 8 {
+        return load::<W>(a, at) == load::<W>(b, bt);
+    }
+    let end = W - 8;
+    (load::<8>(a, at) == load::<8>(b, bt)) & (load::<8>(a, at + end) == load::<8>(b, bt + end))
+}
 
 // Of the pairs of rows the number of the first of which one is null and the other is not, or their count.
 pub fn first_unequal_null(pair: Pair, rows: Rows) -> usize

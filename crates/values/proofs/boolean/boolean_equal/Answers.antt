@@ -2,7 +2,6 @@
 -- A range of rows is equal exactly where none is the first unequal one; a Boolean row is its bit.
 use Rattle.values.proofs.Masks.{boolean_rows, few_bits}
 use Rattle.values.proofs.FirstUnequal.{unequal_rows}
-use native.Mathlib.Omega.{arith}
 use Rattle.values.proofs.boolean.boolean_equal.Goals as goal
 
 pub first_unequal_bit-requires : goal.first_unequal_bit-requires

@@ -1,6 +1,6 @@
 -- `distance_block` compares distances with no way out.
 -- The loop keeps that the answer so far is that of the first h pairs.
-use Rattle.values.proofs.Distances.{above_narrow, above_room, above_read, above_few, distance_more}
+use Rattle.values.proofs.Distances.{above_narrow, above_room, above_read, distance_more}
 use Rattle.values.proofs.Steps.{all_none}
 use mathlib.Core.Path.{◌≡◌}
 use native.Mathlib.Omega.{arith}

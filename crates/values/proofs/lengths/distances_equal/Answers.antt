@@ -1,6 +1,6 @@
 -- `distances_equal` compares distances block by block.
 -- The loop keeps that the pairs behind the blocks so far decide.
-use Rattle.values.proofs.Distances.{above_ahead, above_few}
+use Rattle.values.proofs.Distances.{above_ahead}
 use Rattle.values.proofs.Steps.{left_none, left_jump, jump_fails, left_rest}
 use mathlib.Core.Path.{◌≡◌, sym, ◌∙◌}
 use Prim.Native.Nat.{◌+◌, ◌*◌, ◌/◌}

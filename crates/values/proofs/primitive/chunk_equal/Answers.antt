@@ -15,7 +15,7 @@ pub returns-then-block_equal : goal.returns-then-block_equal
 returns-then-block_equal c = whole_block fixed_row c.requires (sym c.block_equal.ensures ∙ c.if-block_equal.true)
 
 pub validity-requires : goal.validity-requires
-validity-requires c = omega (arith, side_small _ _ _ _ c.requires.left)
+validity-requires c = omega (arith, side_small _ _ _ _ c.requires.left, side_small _ _ _ _ c.requires.right)
 
 pub returns-in-None : goal.returns-in-None
 returns-in-None c = sym (sym (whole_rows c.requires c.in-None.ensures) ∙ sym c.block_equal.ensures ∙ c.if-block_equal.false)

@@ -5,7 +5,6 @@ use native.Mathlib.Nat.{zero-add}
 use Rattle.values.proofs.Steps.{left_none, left_more, left_fails, left_done}
 use borrow.Author.Tests.{not-true, not-false}
 use Rattle.values.proofs.ValidElements.{part_test, passed_over, by_its_bytes}
-use native.Mathlib.Omega.{arith}
 use Rattle.values.proofs.primitive.valid_bytes.Goals as goal
 use Rattle.values.proofs.primitive.valid_bytes.Goals.{then-bits-h-eq1+else-ne, else-bits-h-eq1}
 

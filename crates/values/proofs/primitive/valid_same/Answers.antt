@@ -1,6 +1,6 @@
 -- `valid_same` compares the elements whose bit is set.
 -- The loop keeps that the answer so far is that of the first h pairs.
-use Rattle.values.proofs.ValidElements.{element_room, more_pairs, valid_test}
+use Rattle.values.proofs.ValidElements.{more_pairs, valid_test}
 use Rattle.values.proofs.Steps.{all_none}
 use mathlib.Core.Path.{◌≡◌}
 use native.Mathlib.Omega.{arith}
