@@ -9,14 +9,13 @@ use lib.ListN.{length, drop}
 use lib.Dec.{ltb}
 use borrow.Author.Tests.{lt-ltb, le-ltb}
 use Rattle.image.specs.Record.{max_depth}
-use Rattle.std.proofs.Common.{Ok, Err}
+use Rattle.std.proofs.Common.{Ok, Err, Some, None}
 use Rattle.image.specs.declared.answer.Fault.{Fault}
 use Rattle.answers.specs.declared.WriteRefusal.TheVariants.{Image, OutOfRange, TooLong}
 use Rattle.image.specs.Faults.{check_image}
 use Rattle.image.specs.Row.{row_at, range, table_rows}
 use Rattle.image.specs.RowBytes.{rows_bytes, range_bytes}
 use Rattle.answers.specs.Answers.{exceeds, write_range, write_answer, write_output}
-use Rattle.rows.specs.declared.measure.Room.TheVariants.{Left, Short}
 use Rattle.rows.specs.Output.{over, room_after, Fits}
 use Rattle.rows.proofs.Rooms.{left_told, short_told}
 use Rattle.accepted.specs.Parts.{Side}
@@ -43,17 +42,17 @@ module _ (s : List ℕ) (i n : ℕ) (out : List ℕ) where
     unfolding write_answer write_output
     write_out_of_range beyond = (rw (image, beyond), rw (image, beyond))
 
-    pub write_too_long : exceeds s i n ≡ false → room_after (length out) (length bytes) ≡ Short → (Err TooLong ≡ write_answer s i n out) × (out ≡ write_output s i n out)
+    pub write_too_long : exceeds s i n ≡ false → room_after (length out) (length bytes) ≡ None → (Err TooLong ≡ write_answer s i n out) × (out ≡ write_output s i n out)
     unfolding write_answer write_output write_range range_bytes table_rows
     write_too_long inside e =
         let long : ltb (length out) (length bytes) ≡ true = lt-ltb _ _ (short_told _ _ (sym e)) in
         (rw (image, inside, long), rw (image, inside, long))
 
-    pub write_fits : {rest : ℕ} → room_after (length out) (length bytes) ≡ Left rest → Fits out 0 bytes
+    pub write_fits : {rest : ℕ} → room_after (length out) (length bytes) ≡ Some rest → Fits out 0 bytes
     write_fits e =
         record { within = omega (arith, left_told _ _ _ (sym e)) }
 
-    pub write_bytes : {rest k : ℕ} {after : List ℕ} → exceeds s i n ≡ false → room_after (length out) (length bytes) ≡ Left rest → k ≡ 0 + length bytes → after ≡ over out 0 bytes
+    pub write_bytes : {rest k : ℕ} {after : List ℕ} → exceeds s i n ≡ false → room_after (length out) (length bytes) ≡ Some rest → k ≡ 0 + length bytes → after ≡ over out 0 bytes
         → (Ok k ≡ write_answer s i n out) × (after ≡ write_output s i n out)
     unfolding write_answer write_output write_range range_bytes table_rows over
     write_bytes {rest} inside e ek eo =

@@ -16,7 +16,7 @@ use equal::rows_equal;
 use image::answer::{Fault, Side};
 use image::record::{MAX_DEPTH, length};
 use names::maps_named;
-use rows::measure::{Room, measure_rows};
+use rows::measure::measure_rows;
 use rows::write::write_rows;
 use values::pair::Rows;
 use values::types::same_types;
@@ -216,7 +216,7 @@ pub fn write(
     }
     let room = out.len();
     let mut runs = [0usize; REMEMBERED];
-    let Room::Left(rest) = measure_rows(image, 0, start, count, MAX_DEPTH, &mut runs, room) else {
+    let Some(rest) = measure_rows(image, 0, start, count, MAX_DEPTH, &mut runs, room) else {
         return Err(WriteRefusal::TooLong);
     };
     Ok(write_rows(image, 0, start, count, MAX_DEPTH, &mut runs, out, 0))

@@ -5,7 +5,7 @@ use mathlib.Core.List.{List, [], ◌∷◌, ◌++◌, append_assoc}
 use Prim.Native.Nat.{ℕ, zero, suc, ◌+◌, ◌-◌, ◌/◌, ◌%◌, ◌≤◌, ◌<◌}
 use native.Mathlib.Omega.{arith}
 use Rattle.image.specs.Ranges.{pieces}
-use Rattle.image.specs.Bytes.{byte_at, number_bytes, bytes_at}
+use Rattle.image.specs.Bytes.{number_bytes}
 use Rattle.image.specs.Row.{Row, Rows, none, more, range, rows_then}
 use Rattle.image.specs.RowBytes.{row_bytes, rows_bytes}
 use Rattle.rows.specs.Value.{part_rows}
@@ -56,11 +56,6 @@ parts_joined sub c zero i n = refl
 parts_joined sub c (suc parts) i n =
     then_bytes (range (sub c) i n) (part_rows sub (suc c) parts i n)
     ∙ ap (λ (b : List ℕ). rows_bytes (range (sub c) i n) ++ b) (parts_joined sub (suc c) parts i n)
-
-pub bytes_joined : (s : List ℕ) (i n : ℕ) → bytes_at s i n ≡ pieces (λ j. byte_at s j ∷ []) i n
-unfolding pieces bytes_at
-bytes_joined s i zero = refl
-bytes_joined s i (suc n) = ap (λ (b : List ℕ). byte_at s i ∷ b) (bytes_joined s (suc i) n)
 
 -- the bytes of a number from byte k on, where rest is what is left of the number
 pub number_next : (w k rest : ℕ) → k < w → number_bytes (w - k) rest ≡ rest % 256 ∷ number_bytes (w - (k + 1)) (rest / 256)

@@ -5,7 +5,9 @@ use mathlib.Core.List.{List, [], ◌∷◌, ◌++◌, append_assoc}
 use Prim.Native.Nat.{ℕ, zero, suc, ◌+◌, ◌-◌, ◌/◌, ◌%◌, ◌≤◌, ◌<◌}
 use native.Mathlib.Omega.{arith}
 use lib.ListN.{length, take, drop, set, length-append, length-drop, take-append-drop, get_or-append}
-use lib.Seq.{length-take-le, take_at, drop_at, drop-cons, drop-drop, take-append_seam, get_or-take, set_split}
+use lib.Seq.{paste, length-take-le, take_at, drop_at, drop-cons, drop-drop, take-append_seam, get_or-take, set_split}
+use borrow.Rule.Slice.PartMut.{put_mid}
+use Rattle.std.specs.List.{between}
 use Rattle.image.specs.Ranges.{pieces}
 use Rattle.image.specs.Bytes.{byte_at, number_bytes, bytes_at}
 use Rattle.image.specs.Row.{row_at}
@@ -14,7 +16,7 @@ use Rattle.laws.proofs.Lengths.{number_length, bytes_length}
 use Rattle.rows.specs.declared.value.Value.{Value}
 use Rattle.rows.specs.Output.{over, Fits}
 use Rattle.rows.specs.Value.{front_bytes, own_bytes}
-use Rattle.rows.proofs.Joined.{joined_start, joined_next, joined_end, bytes_joined, number_next}
+use Rattle.rows.proofs.Joined.{joined_start, joined_next, joined_end, number_next}
 use Rattle.rows.proofs.RowParts.{RowValue, children_bytes, own_length}
 
 -- nothing, one byte
@@ -135,13 +137,6 @@ module _ {out₀ whole out : List ℕ} {at next : ℕ} where
     pub put_done : out ≡ over out₀ at whole
     put_done = sym (over_none out next) ∙ t.same
 
--- what stood before the bytes that are put stays
-before_kept : {out₀ whole out rest : List ℕ} {at next : ℕ} → ToPut out₀ at whole out next rest → (p : ℕ) → p < at → at ≤ next → byte_at out p ≡ byte_at out₀ p
-before_kept {out₀} {whole} {out} {rest} {at} {next} t p lt le =
-    sym (over_before out next rest t.fits p (omega arith))
-    ∙ ap (λ (b : List ℕ). byte_at b p) t.same
-    ∙ over_before out₀ at whole (omega (arith, t.ends, t.long, t.fits)) p lt
-
 -- Of n pieces from piece i on, those from piece k on are still to be put.
 pub record PiecesToPut (p : ℕ → List ℕ) (i n : ℕ) (out₀ : List ℕ) (at : ℕ) (out : List ℕ) (next k : ℕ) : Type 0 where
   pub put : ToPut out₀ at (pieces p i n) out next (pieces p (i + k) (n - k))
@@ -192,30 +187,20 @@ module _ {w x : ℕ} {out₀ : List ℕ} {at : ℕ} {out : List ℕ} {rest k : �
       let e : w - k ≡ 0 = omega arith in
       put_done (rw e at t.put)
 
--- Of n bytes of an image from a place on, those from byte k on are still to be put.
-abbrev one_byte_lem : List ℕ → ℕ → List ℕ
-one_byte_lem s j = byte_at s j ∷ []
+-- Bytes of an image, as the library copies them over a part of the buffer, and bytes of the buffer itself.
+module _ (out s : List ℕ) (at place n : ℕ) (inside : place + n ≤ length s) where
+  pub copied : {part : List ℕ} → part ≡ between place (place + n) s → put_mid at (at + n - at) out part ≡ over out at (bytes_at s place n)
+  unfolding over
+  copied e =
+      let a : at + n - at ≡ n = omega arith in
+      let b : place + n - place ≡ n = omega arith in
+      rw (e, a, b, bytes_length s place n, bytes_taken n place s inside, drop-drop n at out)
 
-pub record BytesToPut (s : List ℕ) (place n : ℕ) (out₀ : List ℕ) (at : ℕ) (out : List ℕ) (k : ℕ) : Type 0 where
-  pub put : PiecesToPut (one_byte_lem s) place n out₀ at out (at + k) k
-
-pub bytes_start : {s : List ℕ} {place n at : ℕ} {out : List ℕ} → at + n ≤ length out → BytesToPut s place n out at out 0
-bytes_start {s} {place} {n} {at} {out} fits =
-    let a : at + 0 ≡ at = omega arith in
-    let b : length (pieces (one_byte_lem s) place n) ≡ n = sym (ap length (bytes_joined s place n)) ∙ bytes_length s place n in
-    record { put = rw a (pieces_start (one_byte_lem s) place n (record { within = omega arith })) }
-
-module _ {s : List ℕ} {place n : ℕ} {out₀ : List ℕ} {at : ℕ} {out : List ℕ} {k : ℕ} (t : BytesToPut s place n out₀ at out k) where
-  pub bytes_more : k < n → BytesToPut s place n out₀ at (set out (at + k) (byte_at s (place + k))) (k + 1)
-  bytes_more lt = record { put = pieces_more t.put lt (over_one out (at + k) _ (omega (arith, (pieces_fit t.put lt).within))) (omega arith) }
-
-  pub bytes_done : n ≤ k → out ≡ over out₀ at (bytes_at s place n)
-  bytes_done le = pieces_done t.put le ∙ ap (over out₀ at) (sym (bytes_joined s place n))
-
--- The same of bytes of the buffer itself, which stand before the place where they are put.
-module _ {place n : ℕ} {out₀ : List ℕ} {at : ℕ} {out : List ℕ} {k : ℕ} (t : BytesToPut out₀ place n out₀ at out k) where
-  pub again_more : k < n → place + n ≤ at → BytesToPut out₀ place n out₀ at (set out (at + k) (byte_at out (place + k))) (k + 1)
-  again_more lt le = rw (before_kept t.put.put (place + k) (omega arith) (omega arith)) (bytes_more t lt)
+  pub pasted : {after : List ℕ} → after ≡ paste out at (drop place s) (place + n - place) → after ≡ over out at (bytes_at s place n)
+  unfolding over
+  pasted e =
+      let b : place + n - place ≡ n = omega arith in
+      rw (e, b, bytes_length s place n, bytes_taken n place s inside) (append_assoc (take at out) (take n (drop place s)) (drop (at + n) out))
 
 -- a null, one byte
 module _ {out bytes : List ℕ} {at : ℕ} (fits : Fits out at bytes) (e : bytes ≡ 0 ∷ []) where

@@ -5,6 +5,7 @@ use mathlib.Core.List.{List, [], ◌++◌, append_assoc}
 use Prim.Native.Nat.{ℕ, zero, suc, ◌+◌, ◌*◌, ◌-◌, ◌<◌, ◌≤◌}
 use native.Mathlib.Omega.{arith}
 use lib.ListN.{length, length-append}
+use Rattle.std.proofs.Common.{Some, None}
 use Rattle.image.specs.Ranges.{pieces}
 use Rattle.image.specs.Bytes.{bytes_at}
 use Rattle.image.specs.Row.{row_at, range}
@@ -14,13 +15,11 @@ use Rattle.accepted.specs.declared.column.Stay.{Stay}
 use Rattle.accepted.specs.Parts.{Side}
 use Rattle.accepted.specs.Runs.{Kept, Behind, Stays}
 use Rattle.accepted.proofs.Columns.{kept_behind, behind_kept, same_row_lem}
-use Rattle.rows.specs.declared.measure.Room.TheVariants.{Left, Short}
 use Rattle.rows.specs.Output.{over, repeated, room_after, Fits}
 use Rattle.rows.proofs.Joined.{joined_start, joined_first, rows_joined}
 use Rattle.rows.proofs.Over.{ToPut, put_start, put_place, put_done, PiecesToPut, pieces_start, pieces_fit, pieces_more, pieces_place, pieces_done, put_as, put_fits, put_more}
 use Rattle.rows.proofs.Repeats.{repeated_length, Stands, stands_put}
 use Rattle.rows.proofs.Rooms.{PiecesToMeasure, measuring_start, measuring_more, measuring_short, measuring_done, measure_more, measure_short, left_told, fits_left}
-use Rattle.rows.proofs.RowParts.{row_some}
 
 -- the bytes of row j
 abbrev pub bytes_of : ℕ → List ℕ → ℕ → ℕ → List ℕ
@@ -75,10 +74,10 @@ module _ (depth : ℕ) (s : List ℕ) (k i n : ℕ) (none : n ≡ 0) where
       let all : ToPut out at (rows_bytes (range (row_at depth s k) i n)) out at [] = put_as (put_start fits) none_bytes in
       (put_place all, put_done all)
 
-  pub none_measured : (room : ℕ) → Left room ≡ room_after room (length (rows_bytes (range (row_at depth s k) i n)))
+  pub none_measured : (room : ℕ) → Some room ≡ room_after room (length (rows_bytes (range (row_at depth s k) i n)))
   none_measured room =
       let e : room ≡ room - length (rows_bytes (range (row_at depth s k) i n)) = omega (arith, ap length none_bytes) in
-      ap Left e ∙ fits_left room (length (rows_bytes (range (row_at depth s k) i n))) (omega (arith, ap length none_bytes))
+      ap Some e ∙ fits_left room (length (rows_bytes (range (row_at depth s k) i n))) (omega (arith, ap length none_bytes))
 
 -- Of n rows from row i on, those before row h are put.
 pub record Writing (depth : ℕ) (s : List ℕ) (k : ℕ) (c : Column) (i n : ℕ) (out₀ : List ℕ) (at : ℕ) (out : List ℕ) (run next h : ℕ) : Type 0 where
@@ -150,15 +149,12 @@ module _ {depth : ℕ} {s : List ℕ} {k : ℕ} {c : Column} {i n room run left 
 
   -- the rows of a run: the first is measured, and then the others
   module _ (lt : h < n) where
-    pub row_short : Short ≡ room_after left (length (bytes_of depth s k (i + h))) → Short ≡ room_after room (length (rows_bytes (range (row_at depth s k) i n)))
+    pub row_short : None ≡ room_after left (length (bytes_of depth s k (i + h))) → None ≡ room_after room (length (rows_bytes (range (row_at depth s k) i n)))
     row_short f = measuring_short m.measure lt f ∙ as_rows
 
-    module _ {one : ℕ} (f : Left one ≡ room_after left (length (bytes_of depth s k (i + h)))) where
+    module _ {one : ℕ} (f : Some one ≡ room_after left (length (bytes_of depth s k (i + h)))) where
       pub row_took : left ≡ one + length (bytes_of depth s k (i + h))
       row_took = left_told left (length (bytes_of depth s k (i + h))) one f
-
-      pub row_takes : 0 < left - one
-      row_takes = omega (arith, row_took, row_some (row_at depth s k (i + h)))
 
       module _ {stay : Stay} (r : Side s k i n) (st : Stays s k c (i + h) (n - h) run stay) where
         others_measured : length (pieces (bytes_of depth s k) (i + (h + 1)) (n - (h + 1))) ≡ (stay.rows - 1) * (left - one) + length (pieces (bytes_of depth s k) (i + (h + stay.rows)) (n - (h + stay.rows)))
@@ -170,10 +166,10 @@ module _ {depth : ℕ} {s : List ℕ} {k : ℕ} {c : Column} {i n room run left 
             ∙ length-append (repeated (stay.rows - 1) (bytes_of depth s k (i + h))) (pieces (bytes_of depth s k) (i + (h + 1) + (stay.rows - 1)) (n - (h + 1) - (stay.rows - 1)))
             ∙ rw (repeated_length (stay.rows - 1) (bytes_of depth s k (i + h)), size, place, count)
 
-        pub others_short : Short ≡ room_after one ((stay.rows - 1) * (left - one)) → Short ≡ room_after room (length (rows_bytes (range (row_at depth s k) i n)))
+        pub others_short : None ≡ room_after one ((stay.rows - 1) * (left - one)) → None ≡ room_after room (length (rows_bytes (range (row_at depth s k) i n)))
         others_short g = measure_short (measuring_more m.measure lt f).measure _ _ others_measured g ∙ as_rows
 
-        pub measured_more : {all : ℕ} → Left all ≡ room_after one ((stay.rows - 1) * (left - one)) → Measuring depth s k c i n room stay.next all (h + stay.rows)
+        pub measured_more : {all : ℕ} → Some all ≡ room_after one ((stay.rows - 1) * (left - one)) → Measuring depth s k c i n room stay.next all (h + stay.rows)
         measured_more g =
             let behind : i + h + stay.rows ≡ i + (h + stay.rows) = omega arith in
             record {
@@ -182,5 +178,5 @@ module _ {depth : ℕ} {s : List ℕ} {k : ℕ} {c : Column} {i n room run left 
               measure = record { measure = measure_more (measuring_more m.measure lt f).measure _ _ others_measured g };
             }
 
-  pub measured_done : n ≤ h → Left left ≡ room_after room (length (rows_bytes (range (row_at depth s k) i n)))
+  pub measured_done : n ≤ h → Some left ≡ room_after room (length (rows_bytes (range (row_at depth s k) i n)))
   measured_done le = measuring_done m.measure le ∙ as_rows

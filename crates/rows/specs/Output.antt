@@ -1,15 +1,13 @@
 -- What a buffer holds after bytes were put into it, and the room that is left of a buffer.
-use Rattle.std.specs.Prelude.{cond, List, [], ◌++◌, ℕ, zero, suc, ◌+◌, ◌-◌, ◌≤◌, length, take, drop, ltb}
-use Rattle.rows.specs.declared.measure.Room.{Room}
-use Rattle.rows.specs.declared.measure.Room.TheVariants.{Left, Short}
+use Rattle.std.specs.Prelude.{cond, Option, Some, None, List, [], ◌++◌, ℕ, zero, suc, ◌+◌, ◌-◌, ◌≤◌, length, take, drop, ltb}
 
 -- a buffer with bytes put over what it held from a place on
 unfoldable pub over : List ℕ → ℕ → List ℕ → List ℕ
 over out at bytes = take at out ++ (bytes ++ drop (at + length bytes) out)
 
--- the room that is left after so many bytes
-unfoldable pub room_after : ℕ → ℕ → Room
-room_after room n = cond (ltb room n) Short (Left (room - n))
+-- the room that is left after so many bytes, if they fit
+unfoldable pub room_after : ℕ → ℕ → Option ℕ
+room_after room n = cond (ltb room n) None (Some (room - n))
 
 -- bytes so many times, one after the other
 unfoldable pub repeated : ℕ → List ℕ → List ℕ

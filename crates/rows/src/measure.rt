@@ -10,27 +10,11 @@ ghost use Rattle.rows.specs.Output.{room_after};
 use crate::value::{is_null, value_at};
 use accepted::column::{Column, column_of, first_run, remember, stay_of};
 
-// The room of an output after some bytes.
-#[derive(Clone, Copy)]
-pub enum Room {
-    // so many bytes are left
-    Left(usize),
-    // the bytes do not fit
-    Short,
-}
-
-// The room that is left after so many bytes, taken so many times. Nothing is multiplied that does not fit.
-fn room_after(room: usize, size: usize, times: usize) -> Room
-    requires { 0 < size }
+// The room that is left after so many bytes, taken so many times.
+fn room_after(room: usize, size: usize, times: usize) -> Option<usize>
     ensures { result ≡ room_after room (times * size) }
 {
-    if times == 0 {
-        return Room::Left(room);
-    }
-    if room / size < times {
-        return Room::Short;
-    }
-    Room::Left(room - times * size)
+    room.checked_sub(times.checked_mul(size)?)
 }
 
 // The room that is left after row i of a node, beside which a run is kept.
@@ -44,35 +28,22 @@ fn measure_row(
     depth: usize,
     runs: &mut [usize],
     room: usize,
-) -> Room
+) -> Option<usize>
     requires side { Side s.now node i 1 }
     requires kept { Kept s.now node column i run }
     requires remembered { Remembered s.now runs.old }
     ensures value { result ≡ room_after room (length (row_bytes (row_at depth s.now node i))) }
     ensures remembered_2 { Remembered s.now runs.new }
 {
-    if room == 0 {
-        return Room::Short;
-    }
     if is_null(s, node, i, depth) {
-        return Room::Left(room - 1);
+        return room.checked_sub(1);
     }
     let v = value_at(s, node, column.offset + i, run);
-    let own = 1 + v.width + v.size;
-    if room < own {
-        return Room::Short;
+    let mut left = room.checked_sub(1 + v.width + v.size)?;
+    for c in 0..v.parts {
+        left = measure_rows(s, v.child + c, v.start, v.count, depth - 1, runs, left)?;
     }
-    let mut left = room - own;
-    let mut c: u32 = 0;
-    while c < v.parts {
-        let Room::Left(rest) = measure_rows(s, v.child + c, v.start, v.count, depth - 1, runs, left)
-        else {
-            return Room::Short;
-        };
-        left = rest;
-        c += 1;
-    }
-    Room::Left(left)
+    Some(left)
 }
 
 // The room that is left after n rows of a node from row i on. The rows of one run are the same row, and take as much
@@ -86,14 +57,14 @@ pub fn measure_rows(
     depth: usize,
     runs: &mut [usize],
     room: usize,
-) -> Room
+) -> Option<usize>
     requires side { Side s.now node i n }
     requires remembered { Remembered s.now runs.old }
     ensures value { result ≡ room_after room (length (rows_bytes (range (row_at depth s.now node) i n))) }
     ensures remembered_2 { Remembered s.now runs.new }
 {
     if n == 0 {
-        return Room::Left(room);
+        return Some(room);
     }
     let column = column_of(s, node);
     let mut run = first_run(s, node, column, i, runs);
@@ -101,16 +72,11 @@ pub fn measure_rows(
     let mut k: usize = 0;
     while k < n {
         let stay = stay_of(s, node, column, i + k, n - k, run);
-        let Room::Left(one) = measure_row(s, node, column, i + k, run, depth, runs, left) else {
-            return Room::Short;
-        };
-        let Room::Left(all) = room_after(one, left - one, stay.rows - 1) else {
-            return Room::Short;
-        };
-        left = all;
+        let one = measure_row(s, node, column, i + k, run, depth, runs, left)?;
+        left = room_after(one, left - one, stay.rows - 1)?;
         run = stay.next;
         k += stay.rows;
     }
     remember(node, column, i + k, run, runs);
-    Room::Left(left)
+    Some(left)
 }

@@ -3,8 +3,6 @@ ghost use Rattle.std.specs.Prelude.{◌≡◌, ◌+◌, ◌*◌, ◌-◌, ◌<�
 ghost use Rattle.image.specs.Bytes.{number_bytes, bytes_at};
 ghost use Rattle.rows.specs.Output.{over, repeated};
 
-use accepted::runs::least;
-
 // The w bytes of a number, the lowest first.
 pub fn put_number(out: &mut [u8], at: usize, x: usize, w: usize) -> usize
     requires { at + w ≤ length out.old }
@@ -12,11 +10,9 @@ pub fn put_number(out: &mut [u8], at: usize, x: usize, w: usize) -> usize
     ensures out_after { out.new ≡ over out.old at (number_bytes w x) }
 {
     let mut rest = x;
-    let mut k: usize = 0;
-    while k < w {
+    for k in 0..w {
         out[at + k] = (rest % 256) as u8;
         rest = rest / 256;
-        k += 1;
     }
     at + w
 }
@@ -27,11 +23,7 @@ pub fn put_bytes(out: &mut [u8], at: usize, s: &[u8], place: usize, n: usize) ->
     ensures value { result ≡ at + n }
     ensures out_after { out.new ≡ over out.old at (bytes_at s.now place n) }
 {
-    let mut k: usize = 0;
-    while k < n {
-        out[at + k] = s[place + k];
-        k += 1;
-    }
+    out[at..at + n].copy_from_slice(&s[place..place + n]);
     at + n
 }
 
@@ -41,11 +33,7 @@ fn put_again(out: &mut [u8], at: usize, from: usize, size: usize) -> usize
     ensures value { result ≡ at + size }
     ensures out_after { out.new ≡ over out.old at (bytes_at out.old from size) }
 {
-    let mut k: usize = 0;
-    while k < size {
-        out[at + k] = out[from + k];
-        k += 1;
-    }
+    out.copy_within(from..from + size, at);
     at + size
 }
 
@@ -61,7 +49,7 @@ pub fn put_times(out: &mut [u8], at: usize, n: usize, times: usize) -> usize
     let mut there: usize = 1;
     let mut left = times;
     while left > 0 {
-        let m = least(there, left);
+        let m = there.min(left);
         next = put_again(out, next, from, m * n);
         there += m;
         left -= m;

@@ -5,23 +5,17 @@
 -- the runs that are remembered.
 use mathlib.Core.Path.{sym, ◌∙◌}
 use Rattle.rows.proofs.RowParts.{row_null, side_few, row_part, value_of_lem, side_row}
-use Rattle.rows.proofs.Rooms.{measuring_start, measuring_more, measuring_short, measuring_done, none_short, null_left, value_short, value_left}
+use Rattle.rows.proofs.Rooms.{measuring_start, measuring_more, measuring_short, measuring_done, null_left, value_short, value_left}
 use native.Mathlib.Omega.{arith}
 use Rattle.accepted.proofs.Columns.{node_few, remembered_now}
-use Rattle.rows.proofs.Stretches.{first_row, rows_from, row_kept, none_measured, measured_start, row_short, row_took, row_takes, others_short, measured_more, measured_done}
+use Rattle.rows.proofs.Stretches.{first_row, rows_from, row_kept, none_measured, measured_start, row_short, row_took, others_short, measured_more, measured_done}
 use Rattle.rows.proofs.measure.+measure_row_measure_rows.Goals as goal
-
-pub measure_row-returns-then-room-eq0 : goal.measure_row-returns-then-room-eq0
-measure_row-returns-then-room-eq0 t c = record { value = none_short _ _ c.if-room-eq0.true; remembered_2 = c.requires.remembered }
 
 pub measure_row-is_null-requires : goal.measure_row-is_null-requires
 measure_row-is_null-requires t c = omega (arith, side_few c.requires.side)
 
-pub measure_row-overflow_sub-result : goal.measure_row-overflow_sub-result
-measure_row-overflow_sub-result t c = omega (arith, c.if-room-eq0.false)
-
 pub measure_row-returns-then-is_null : goal.measure_row-returns-then-is_null
-measure_row-returns-then-is_null t c = record { value = null_left _ _ (row_null _ _ _ _ (sym c.is_null.ensures ∙ c.if-is_null.true)) c.if-room-eq0.false; remembered_2 = c.requires.remembered }
+measure_row-returns-then-is_null t c = record { value = null_left _ (row_null _ _ _ _ (sym c.is_null.ensures ∙ c.if-is_null.true)) c.checked_sub.ensures; remembered_2 = c.requires.remembered }
 
 pub measure_row-overflow_add-column : goal.measure_row-overflow_add-column
 measure_row-overflow_add-column t c = omega (arith, side_few c.requires.side, c.requires.kept.column.offset.value)
@@ -29,20 +23,20 @@ measure_row-overflow_add-column t c = omega (arith, side_few c.requires.side, c.
 pub measure_row-value_at-v-requires : goal.measure_row-value_at-v-requires
 measure_row-value_at-v-requires t c = record { part = row_part _ c.requires.side c.is_null.ensures c.if-is_null.false c.requires.kept.column.offset; run_value = c.requires.kept.same }
 
-pub measure_row-overflow_add-own : goal.measure_row-overflow_add-own
-measure_row-overflow_add-own t c = omega (arith, (value_of_lem _ c.requires.side c.is_null.ensures c.if-is_null.false c.requires.kept.column.offset c.value_at-v.ensures).placed.narrow)
+pub measure_row-overflow_add-v : goal.measure_row-overflow_add-v
+measure_row-overflow_add-v t c = omega (arith, (value_of_lem _ c.requires.side c.is_null.ensures c.if-is_null.false c.requires.kept.column.offset c.value_at-v.ensures).placed.narrow)
 
-pub measure_row-overflow_add-own-2 : goal.measure_row-overflow_add-own-2
-measure_row-overflow_add-own-2 t c = omega (arith, (value_of_lem _ c.requires.side c.is_null.ensures c.if-is_null.false c.requires.kept.column.offset c.value_at-v.ensures).placed.narrow, (value_of_lem _ c.requires.side c.is_null.ensures c.if-is_null.false c.requires.kept.column.offset c.value_at-v.ensures).placed.inside, c.well_formed.0.1)
+pub measure_row-overflow_add-v-2 : goal.measure_row-overflow_add-v-2
+measure_row-overflow_add-v-2 t c = omega (arith, (value_of_lem _ c.requires.side c.is_null.ensures c.if-is_null.false c.requires.kept.column.offset c.value_at-v.ensures).placed.narrow, (value_of_lem _ c.requires.side c.is_null.ensures c.if-is_null.false c.requires.kept.column.offset c.value_at-v.ensures).placed.inside, c.well_formed.0.1)
 
-pub measure_row-returns-then-room-own : goal.measure_row-returns-then-room-own
-measure_row-returns-then-room-own t c = record { value = value_short (value_of_lem _ c.requires.side c.is_null.ensures c.if-is_null.false c.requires.kept.column.offset c.value_at-v.ensures) c.args.room c.if-room-own.true; remembered_2 = c.requires.remembered }
+pub measure_row-returns-in_err-left : goal.measure_row-returns-in_err-left
+measure_row-returns-in_err-left t c = record { value = c.from_residual.ensures ∙ value_short (value_of_lem _ c.requires.side c.is_null.ensures c.if-is_null.false c.requires.kept.column.offset c.value_at-v.ensures) c.args.room c.in_err-left.ensures; remembered_2 = c.requires.remembered }
 
 pub measure_row-loop-c-init : goal.measure_row-loop-c-init
 measure_row-loop-c-init t c = ((value_of_lem _ c.requires.side c.is_null.ensures c.if-is_null.false c.requires.kept.column.offset c.value_at-v.ensures), (measuring_start _ _ _, c.requires.remembered))
 
-pub measure_row-overflow_add-v : goal.measure_row-overflow_add-v
-measure_row-overflow_add-v t c = omega (arith, c.loop-c.invariant.0.placed.few, c.loop-c-test.true)
+pub measure_row-overflow_add-v-in-loop-c : goal.measure_row-overflow_add-v-in-loop-c
+measure_row-overflow_add-v-in-loop-c t c = omega (arith, c.loop-c.invariant.0.placed.few, c.loop-c-test.true)
 
 pub measure_row-overflow_sub-depth : goal.measure_row-overflow_sub-depth
 measure_row-overflow_sub-depth t c = omega (arith, c.loop-c.invariant.0.deep)
@@ -50,23 +44,17 @@ measure_row-overflow_sub-depth t c = omega (arith, c.loop-c.invariant.0.deep)
 pub measure_row-measure_rows-requires : goal.measure_row-measure_rows-requires
 measure_row-measure_rows-requires t c = (omega (arith, c.decreases, c.loop-c.invariant.0.deep), (c.loop-c.invariant.0.placed.parts c.loop-c.c c.loop-c-test.true, c.loop-c.invariant.1.1))
 
-pub measure_row-shape_of-runs-in_default : goal.measure_row-shape_of-runs-in_default
-measure_row-shape_of-runs-in_default t c = c.measure_rows.ensures.remembered_2.sized ∙ sym c.requires.remembered.sized
-
-pub measure_row-returns-in_default : goal.measure_row-returns-in_default
-measure_row-returns-in_default t c = record { value = measuring_short c.loop-c.invariant.1.0 c.loop-c-test.true (sym c.in_default.is ∙ c.measure_rows.ensures.value) ∙ value_left c.loop-c.invariant.0 c.args.room c.if-room-own.false; remembered_2 = c.measure_rows.ensures.remembered_2 }
-
-pub measure_row-overflow_add-c : goal.measure_row-overflow_add-c
-measure_row-overflow_add-c t c = omega (arith, c.loop-c.invariant.0.placed.few, c.loop-c-test.true)
+pub measure_row-returns-in_err-left-2 : goal.measure_row-returns-in_err-left-2
+measure_row-returns-in_err-left-2 t c = record { value = c.from_residual-in_err-left-2.ensures ∙ measuring_short c.loop-c.invariant.1.0 c.loop-c-test.true (sym c.in_err-left-2.was ∙ c.measure_rows.ensures.value) ∙ value_left c.loop-c.invariant.0 c.args.room c.in_ok-left.ensures; remembered_2 = c.measure_rows.ensures.remembered_2 }
 
 pub measure_row-loop-c-preserved : goal.measure_row-loop-c-preserved
-measure_row-loop-c-preserved t c = (c.loop-c.invariant.0, (measuring_more c.loop-c.invariant.1.0 c.loop-c-test.true (sym c.in-Left.is ∙ c.measure_rows.ensures.value), c.measure_rows.ensures.remembered_2))
+measure_row-loop-c-preserved t c = (c.loop-c.invariant.0, (measuring_more c.loop-c.invariant.1.0 c.loop-c-test.true (sym c.in_ok-left-2.was ∙ c.measure_rows.ensures.value), c.measure_rows.ensures.remembered_2))
 
 pub measure_row-shape_of-runs : goal.measure_row-shape_of-runs
 measure_row-shape_of-runs t c = c.loop-c.invariant.1.1.sized ∙ sym c.requires.remembered.sized
 
 pub measure_row-returns : goal.measure_row-returns
-measure_row-returns t c = record { value = measuring_done c.loop-c.invariant.1.0 c.loop-c-test.false ∙ value_left c.loop-c.invariant.0 c.args.room c.if-room-own.false; remembered_2 = c.loop-c.invariant.1.1 }
+measure_row-returns t c = record { value = measuring_done c.loop-c.invariant.1.0 c.loop-c-test.false ∙ value_left c.loop-c.invariant.0 c.args.room c.in_ok-left.ensures; remembered_2 = c.loop-c.invariant.1.1 }
 
 pub measure_rows-returns-then-n-eq0 : goal.measure_rows-returns-then-n-eq0
 measure_rows-returns-then-n-eq0 t c = record { value = none_measured _ _ _ _ _ c.if-n-eq0.true _; remembered_2 = c.requires.remembered }
@@ -92,26 +80,17 @@ measure_rows-overflow_add-i-in-loop-k t c = omega (arith, side_few c.requires.si
 pub measure_rows-measure_row-requires : goal.measure_rows-measure_row-requires
 measure_rows-measure_row-requires t c = (omega (arith, c.decreases), (side_row c.requires.side c.loop-k-test.true, (row_kept c.requires.side _ c.loop-k-test.true c.loop-k.invariant.0.kept, c.loop-k.invariant.1)))
 
-pub measure_rows-shape_of-runs-in_default : goal.measure_rows-shape_of-runs-in_default
-measure_rows-shape_of-runs-in_default t c = c.measure_row.ensures.remembered_2.sized ∙ sym c.requires.remembered.sized
-
-pub measure_rows-returns-in_default : goal.measure_rows-returns-in_default
-measure_rows-returns-in_default t c = record { value = row_short c.loop-k.invariant.0 c.loop-k-test.true (sym c.in_default.is ∙ c.measure_row.ensures.value); remembered_2 = c.measure_row.ensures.remembered_2 }
+pub measure_rows-returns-in_err-one : goal.measure_rows-returns-in_err-one
+measure_rows-returns-in_err-one t c = record { value = c.from_residual.ensures ∙ row_short c.loop-k.invariant.0 c.loop-k-test.true (sym c.in_err-one.was ∙ c.measure_row.ensures.value); remembered_2 = c.measure_row.ensures.remembered_2 }
 
 pub measure_rows-overflow_sub-left : goal.measure_rows-overflow_sub-left
-measure_rows-overflow_sub-left t c = omega (arith, row_took c.loop-k.invariant.0 c.loop-k-test.true (sym c.in-Left.is ∙ c.measure_row.ensures.value))
+measure_rows-overflow_sub-left t c = omega (arith, row_took c.loop-k.invariant.0 c.loop-k-test.true (sym c.in_ok-one.was ∙ c.measure_row.ensures.value))
 
 pub measure_rows-overflow_sub-stay : goal.measure_rows-overflow_sub-stay
 measure_rows-overflow_sub-stay t c = omega (arith, c.stay_of-stay.ensures.some)
 
-pub measure_rows-room_after-requires : goal.measure_rows-room_after-requires
-measure_rows-room_after-requires t c = row_takes c.loop-k.invariant.0 c.loop-k-test.true (sym c.in-Left.is ∙ c.measure_row.ensures.value)
-
-pub measure_rows-shape_of-runs-in_default-room_after : goal.measure_rows-shape_of-runs-in_default-room_after
-measure_rows-shape_of-runs-in_default-room_after t c = c.measure_row.ensures.remembered_2.sized ∙ sym c.requires.remembered.sized
-
-pub measure_rows-returns-in_default-room_after : goal.measure_rows-returns-in_default-room_after
-measure_rows-returns-in_default-room_after t c = record { value = others_short c.loop-k.invariant.0 c.loop-k-test.true (sym c.in-Left.is ∙ c.measure_row.ensures.value) c.requires.side c.stay_of-stay.ensures (sym c.in_default-room_after.is ∙ c.room_after.ensures); remembered_2 = c.measure_row.ensures.remembered_2 }
+pub measure_rows-returns-in_err-left : goal.measure_rows-returns-in_err-left
+measure_rows-returns-in_err-left t c = record { value = c.from_residual-in_err-left.ensures ∙ others_short c.loop-k.invariant.0 c.loop-k-test.true (sym c.in_ok-one.was ∙ c.measure_row.ensures.value) c.requires.side c.stay_of-stay.ensures (sym c.in_err-left.was ∙ c.room_after.ensures); remembered_2 = c.measure_row.ensures.remembered_2 }
 
 pub measure_rows-overflow_add-k : goal.measure_rows-overflow_add-k
 measure_rows-overflow_add-k t c = omega (arith, c.stay_of-stay.ensures.within, side_few c.requires.side, c.loop-k-test.true)
@@ -120,7 +99,7 @@ pub measure_rows-loop-k-smaller : goal.measure_rows-loop-k-smaller
 measure_rows-loop-k-smaller t c = omega (arith, c.stay_of-stay.ensures.some, c.stay_of-stay.ensures.within, c.loop-k-test.true)
 
 pub measure_rows-loop-k-preserved : goal.measure_rows-loop-k-preserved
-measure_rows-loop-k-preserved t c = (measured_more c.loop-k.invariant.0 c.loop-k-test.true (sym c.in-Left.is ∙ c.measure_row.ensures.value) c.requires.side c.stay_of-stay.ensures (sym c.in-Left-room_after.is ∙ c.room_after.ensures), c.measure_row.ensures.remembered_2)
+measure_rows-loop-k-preserved t c = (measured_more c.loop-k.invariant.0 c.loop-k-test.true (sym c.in_ok-one.was ∙ c.measure_row.ensures.value) c.requires.side c.stay_of-stay.ensures (sym c.in_ok-left.was ∙ c.room_after.ensures), c.measure_row.ensures.remembered_2)
 
 pub measure_rows-overflow_add-i-2 : goal.measure_rows-overflow_add-i-2
 measure_rows-overflow_add-i-2 t c = omega (arith, side_few c.requires.side, c.loop-k.invariant.0.few)

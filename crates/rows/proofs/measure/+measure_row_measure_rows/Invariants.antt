@@ -17,9 +17,6 @@ decreases-measure_rows l = 2 * l.depth + 1
 abbrev pub invariant-measure_row-loop-c : goal.invariant-measure_row-loop-c
 invariant-measure_row-loop-c l = RowValue l.depth l.s l.node l.i l.v × (PiecesToMeasure (child_bytes (row_at (l.depth - 1) l.s) l.v) l.v.child l.v.parts l.initial.left l.left l.c × Remembered l.s l.runs)
 
-abbrev pub decreases-measure_row-loop-c : goal.decreases-measure_row-loop-c
-decreases-measure_row-loop-c l = l.v.parts - l.c
-
 abbrev pub invariant-measure_rows-loop-k : goal.invariant-measure_rows-loop-k
 invariant-measure_rows-loop-k l = Measuring l.depth l.s l.node l.column l.i l.n l.room l.run l.left l.k × Remembered l.s l.runs
 

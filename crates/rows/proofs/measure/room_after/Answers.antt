@@ -1,23 +1,13 @@
 -- `room_after` takes bytes off the room so many times, where they fit.
--- They fit where the quotient is not below the times.
-use Rattle.rows.proofs.Rooms.{fits_left, times_none, times_short, times_fit}
+-- Where the product fits no number it is past every room.
+use mathlib.Core.Path.{◌∙◌, ap}
 use native.Mathlib.Omega.{arith}
+use Rattle.rows.proofs.Rooms.{past_short, room_checked}
+use Rattle.rows.specs.Output.{room_after}
 use Rattle.rows.proofs.measure.room_after.Goals as goal
 
-pub returns-then-times-eq0 : goal.returns-then-times-eq0
-returns-then-times-eq0 c = times_none _ _ _ c.requires c.if-times-eq0.true
-
-pub nonzero_div-room : goal.nonzero_div-room
-nonzero_div-room c = omega (arith, c.requires)
-
-pub returns-then-room-size : goal.returns-then-room-size
-returns-then-room-size c = times_short _ _ _ c.requires c.if-room-size.true
-
-pub overflow_mul-result : goal.overflow_mul-result
-overflow_mul-result c = omega (arith, times_fit _ _ _ c.requires c.if-room-size.false)
-
-pub overflow_sub-result : goal.overflow_sub-result
-overflow_sub-result c = omega (arith, times_fit _ _ _ c.requires c.if-room-size.false)
+pub returns-in_err-checked_mul : goal.returns-in_err-checked_mul
+returns-in_err-checked_mul c = c.from_residual.ensures ∙ past_short _ _ (omega (arith, c.in_err-checked_mul.ensures, c.ranges.room.fits))
 
 pub returns : goal.returns
-returns c = fits_left _ _ (times_fit _ _ _ c.requires c.if-room-size.false)
+returns c = room_checked _ _ _ c.checked_sub.ensures ∙ ap (room_after c.args.room) c.in_ok-checked_mul.ensures.1

@@ -11,22 +11,22 @@ pub loop-left-init : goal.loop-left-init
 loop-left-init c = repeating_start c.requires.n_le_at.0 c.requires.n_le_at.1
 
 pub overflow_mul-m : goal.overflow_mul-m
-overflow_mul-m c = omega (arith, (again_requires c.loop-left.invariant c.least-m.ensures).1, c.loop-left.invariant.put.long, c.well_formed.0)
+overflow_mul-m c = omega (arith, (again_requires c.loop-left.invariant c.min-m.ensures).1, c.loop-left.invariant.put.long, c.well_formed.0)
 
 pub put_again-next-requires : goal.put_again-next-requires
-put_again-next-requires c = again_requires c.loop-left.invariant c.least-m.ensures
+put_again-next-requires c = again_requires c.loop-left.invariant c.min-m.ensures
 
 pub overflow_add-there : goal.overflow_add-there
-overflow_add-there c = omega (arith, c.least-m.ensures, c.loop-left.invariant.all, c.requires.times_bound)
+overflow_add-there c = omega (arith, c.min-m.ensures, c.loop-left.invariant.all, c.requires.times_bound)
 
 pub overflow_sub-left : goal.overflow_sub-left
-overflow_sub-left c = omega (arith, c.least-m.ensures)
+overflow_sub-left c = omega (arith, c.min-m.ensures)
 
 pub loop-left-smaller : goal.loop-left-smaller
-loop-left-smaller c = omega (arith, c.least-m.ensures, c.loop-left.invariant.some, c.loop-left-test.true)
+loop-left-smaller c = omega (arith, c.min-m.ensures, c.loop-left.invariant.some, c.loop-left-test.true)
 
 pub loop-left-preserved : goal.loop-left-preserved
-loop-left-preserved c = again_more c.loop-left.invariant c.least-m.ensures (c.put_again-next.ensures.value, c.put_again-next.ensures.out_after)
+loop-left-preserved c = again_more c.loop-left.invariant c.min-m.ensures (c.put_again-next.ensures.value, c.put_again-next.ensures.out_after)
 
 pub shape_of-out : goal.shape_of-out
 shape_of-out c = c.loop-left.invariant.put.long
