@@ -1,72 +1,83 @@
--- Values without a child, scanned at a place of a string.
--- The tests that the code makes are those of the definition: whether the bytes lie inside, and whether they are allowed.
+-- Values without a child, scanned at the front of a string.
+-- The tests that the code makes are those of the definition: whether there are so many bytes, and whether they are allowed.
 use mathlib.Core.Path.{◌≡◌, refl, sym, ◌∙◌}
 use mathlib.Core.Bool.{Bool, true, false, cond, ◌||◌}
-use mathlib.Core.Logic.{◌⊎◌, inl, inr}
-use mathlib.Core.List.{List}
-use Prim.Native.Nat.{ℕ, ◌+◌, ◌-◌, ◌≤◌, ◌<◌}
+use mathlib.Core.List.{List, [], ◌∷◌}
+use Prim.Native.Nat.{ℕ, ◌+◌, ◌≤◌, ◌<◌}
 use native.Mathlib.Nat.{add-zero}
 use native.Mathlib.Omega.{arith}
 use lib.Dec.{eqb, leb}
-use lib.ListN.{length, get_or, drop, set, length-set}
-use lib.Seq.{get_or-drop, get_or-set_same, get_or-set_other}
-use borrow.Author.Tests.{le-leb, lt-leb, eqb-true, eqb-false, ne_eqb}
-use Rattle.image.specs.Bytes.{byte_at, number_at, bytes_at}
+use lib.ListN.{length, get_or}
+use borrow.Author.Tests.{le-leb, lt-leb, lt-ltb, le-ltb}
+use Rattle.std.proofs.Common.{Some, None}
+use Rattle.std.specs.List.{IsSplitAt}
+use Rattle.image.specs.Bytes.{byte_at, number_at}
 use Rattle.image.specs.Reads.{Read}
 use Rattle.image.specs.Utf8.{well_formed}
-use Rattle.image.specs.Parse.{Parsed, failed, parsed, bytes_in, checked_text}
-use Rattle.laws.proofs.Lengths.{bytes_length}
+use Rattle.image.specs.Parse.{Parsed, failed, parsed, bytes_in, number_in, checked_text}
 use Rattle.built.specs.Typed.{text_fits}
-use Rattle.parse.specs.Scan.{not_rows, boolean_in, text_in, nothing, sized_adds, Begun, Scans, Leaves, Grown}
-use Rattle.parse.proofs.Places.{bytes_here, bytes_short, number_here, number_short}
+use Rattle.parse.specs.Scan.{boolean_in, text_in, nothing, sized_adds, largest, Counted, Begun, Scans, Leaves, Grown}
 use Rattle.parse.proofs.Scans.{stopped, reached}
 
-module _ (b : List ℕ) (at : ℕ) where
-  -- w bytes
-  pub bytes_stop : (w answer : ℕ) → length b - at < w → length b < answer → Leaves b at (bytes_in w (drop at b)) answer
-  bytes_stop w answer lt past spans = stopped refl past (bytes_short w at b lt)
+-- n bytes in front, or fewer
+module _ (n : ℕ) (b : List ℕ) where
+  few_bytes : length b < n → bytes_in n b ≡ failed
+  unfolding bytes_in
+  few_bytes lt = rw (lt-ltb (length b) n lt)
 
-  pub bytes_go : (w : ℕ) → at + w ≤ length b → Leaves b at (bytes_in w (drop at b)) (at + w)
-  unfolding nothing
-  bytes_go w le spans =
-      reached refl (record {
-        what = bytes_at b at w;
-        is = bytes_here w at b le;
-        inside = le;
-        spans = λ j lt. sym (add-zero (get_or spans j 0));
-        took = λ j. omega arith;
-      })
+  split_bytes : (front back : List ℕ) → IsSplitAt b n front back → bytes_in n b ≡ parsed front back
+  unfolding bytes_in
+  split_bytes front back cut = rw (le-ltb (length b) n cut.0, cut.1, cut.2)
 
-  -- the byte that is first at the place
-  first_byte : byte_at (drop at b) 0 ≡ byte_at b at
-  first_byte = rw (add-zero at) at (get_or-drop at b 0 0)
+-- w bytes
+pub bytes_stop : (b : List ℕ) (w : ℕ) → length b < w → Leaves b (bytes_in w b) None
+bytes_stop b w lt spans = stopped refl (few_bytes w b lt)
 
+pub bytes_go : (b : List ℕ) (w : ℕ) (front back : List ℕ) → IsSplitAt b w front back → Leaves b (bytes_in w b) (Some back)
+unfolding nothing
+bytes_go b w front back cut spans =
+    reached refl (record {
+      what = front;
+      is = split_bytes w b front back cut;
+      spans = λ j lt. sym (add-zero (get_or spans j 0));
+      took = λ j. omega (arith, cut.4);
+    })
+
+-- a Boolean
+module _ (b : List ℕ) where
   either_fails : (t : Bool) (p : Parsed (List ℕ)) → p ≡ failed → cond t p failed ≡ failed
   either_fails true p e = e
   either_fails false p e = refl
 
-  pub boolean_none : (answer : ℕ) → length b ≤ at → length b < answer → Leaves b at (boolean_in (drop at b)) answer
+  pub boolean_none : length b ≡ 0 → Leaves b (boolean_in b) None
   unfolding boolean_in
-  boolean_none answer le past spans =
-      stopped refl past (either_fails (leb (byte_at (drop at b) 0) 1) (bytes_in 1 (drop at b)) (bytes_short 1 at b (omega arith)))
+  boolean_none e spans = stopped refl (either_fails (leb (byte_at b 0) 1) (bytes_in 1 b) (few_bytes 1 b (omega arith)))
 
-  pub boolean_other : (answer : ℕ) → 1 < byte_at b at → length b < answer → Leaves b at (boolean_in (drop at b)) answer
-  unfolding boolean_in
-  boolean_other answer lt past spans = stopped refl past (rw (first_byte, lt-leb (byte_at b at) 1 lt))
+  module _ (x : ℕ) (rest : List ℕ) (is : b ≡ x ∷ rest) where
+    pub boolean_other : 1 < x → Leaves b (boolean_in b) None
+    unfolding boolean_in
+    boolean_other lt spans = stopped refl (rw (is, lt-leb x 1 lt))
 
-  pub boolean_go : at < length b → byte_at b at ≤ 1 → Leaves b at (boolean_in (drop at b)) (at + 1)
-  unfolding boolean_in
-  boolean_go lt le spans =
-      let test : leb (byte_at (drop at b) 0) 1 ≡ true = rw first_byte (le-leb (byte_at b at) 1 le) in
-      rw test (bytes_go 1 (omega arith) spans)
+    pub boolean_go : x ≤ 1 → Leaves b (boolean_in b) (Some rest)
+    unfolding boolean_in nothing
+    boolean_go le spans =
+        let long : length b ≡ length rest + 1 = rw is (omega arith) in
+        reached refl (record {
+          what = x ∷ [];
+          is = rw (is, le-leb x 1 le) (split_bytes 1 (x ∷ rest) (x ∷ []) rest (omega arith, refl, refl, refl, omega arith));
+          spans = λ j lt. sym (add-zero (get_or spans j 0));
+          took = λ j. omega (arith, long);
+        })
 
--- an entry that is set to n more
-pub set_grows : (l : List ℕ) (k n : ℕ) → k < length l → Grown l (set l k (get_or l k 0 + n)) k n
-set_grows l k n lt = record { sized = length-set l k (get_or l k 0 + n); spans = λ j. cases j (eqb k j) refl }
-  where
-    cases : (j : ℕ) (t : Bool) → eqb k j ≡ t → get_or (set l k (get_or l k 0 + n)) j 0 ≡ get_or l j 0 + cond t n 0
-    cases j true e = rw (← eqb-true k j e) (get_or-set_same l k (get_or l k 0 + n) 0 lt)
-    cases j false e = get_or-set_other l k j (get_or l k 0 + n) 0 (λ q. eqb-false k j e (sym q)) ∙ sym (add-zero (get_or l j 0))
+-- a length or a count
+module _ (b : List ℕ) where
+  pub count_none : length b < 4 → number_in b ≡ failed
+  unfolding number_in
+  count_none lt = rw (few_bytes 4 b lt)
+
+  pub count_some : (front back : List ℕ) {n : ℕ} → IsSplitAt b 4 front back → Read (number_at 4 front 0) 32 n → Counted b n back
+  unfolding number_in
+  count_some front back {n} cut number = record { is = rw (split_bytes 4 b front back cut, ← number.value); took = cut.4 }
 
 -- a text that was read is allowed, or the reader fails
 checked_is : (code : ℕ) (x rest : List ℕ) → checked_text code x rest ≡ cond (text_fits code x) (parsed x rest) failed
@@ -76,55 +87,40 @@ checked_is code x rest = cases (eqb code 26 || eqb code 28)
     cases true = refl
     cases false = refl
 
--- a code of characters, and any other
-pub of_characters : (code : ℕ) (x : List ℕ) → (code ≡ 26) ⊎ (code ≡ 28) → text_fits code x ≡ well_formed x
-of_characters code x (inl e) = rw e
-of_characters code x (inr e) = rw e
-
-pub of_others : (code : ℕ) (x : List ℕ) → (code ≡ 26 → ⊥) → (code ≡ 28 → ⊥) → text_fits code x ≡ true
-of_others code x not-utf8 not-large = rw (ne_eqb code 26 not-utf8, ne_eqb code 28 not-large)
-
--- the text of node k at a place, whose length n stands there
-module _ (code k : ℕ) (b : List ℕ) (at : ℕ) {before : List ℕ} (begun : Begun b at before) where
-  text_stop : text_in code (drop at b) ≡ failed → Scans b at 0 (text_in code (drop at b)) (sized_adds k) before before not_rows
-  text_stop e = stopped refl begun.short e
-
-  pub text_short : length b - at < 4 → Scans b at 0 (text_in code (drop at b)) (sized_adds k) before before not_rows
+-- the text of node k in front of b
+module _ (code k : ℕ) (b : List ℕ) where
+  pub text_short : {before : List ℕ} → number_in b ≡ failed → Scans b 0 (text_in code b) (sized_adds k) before before None
   unfolding text_in
-  text_short lt = text_stop (rw (number_short at b lt))
+  text_short e = stopped refl (rw e)
 
-  module _ {n : ℕ} (number : Read (number_at 4 b at) 32 n) (some : 4 ≤ length b - at) where
-    four : at + 4 ≤ length b
-    four = omega (arith, begun.inside)
-
-    pub text_cut : length b - (at + 4) < n → Scans b at 0 (text_in code (drop at b)) (sized_adds k) before before not_rows
+  module _ {n : ℕ} {bytes : List ℕ} (number : Counted b n bytes) where
+    pub text_cut : {before : List ℕ} → length bytes < n → Scans b 0 (text_in code b) (sized_adds k) before before None
     unfolding text_in
-    text_cut lt = text_stop (rw (number_here at b four, ← number.value, bytes_short n (at + 4) b lt))
+    text_cut lt = stopped refl (rw (number.is, few_bytes n bytes lt))
 
-    module _ (rest : n ≤ length b - (at + 4)) where
-      -- the length and the bytes lie inside
-      pub text_inside : at + 4 + n ≤ length b
-      text_inside = omega (arith, four)
-
-      text_is : text_in code (drop at b) ≡ cond (text_fits code (bytes_at b (at + 4) n)) (parsed (bytes_at b (at + 4) n) (drop (at + 4 + n) b)) failed
+    module _ {x rest : List ℕ} (cut : IsSplitAt bytes n x rest) where
+      text_is : text_in code b ≡ cond (text_fits code x) (parsed x rest) failed
       unfolding text_in
-      text_is = rw (number_here at b four, ← number.value, bytes_here n (at + 4) b text_inside) (checked_is code (bytes_at b (at + 4) n) (drop (at + 4 + n) b))
+      text_is = rw (number.is, split_bytes n bytes x rest cut) (checked_is code x rest)
 
-      pub text_ill : text_fits code (bytes_at b (at + 4) n) ≡ false → Scans b at 0 (text_in code (drop at b)) (sized_adds k) before before not_rows
-      text_ill e = text_stop (text_is ∙ rw e)
+      pub text_ill : {before : List ℕ} → text_fits code x ≡ false → Scans b 0 (text_in code b) (sized_adds k) before before None
+      text_ill e = stopped refl (text_is ∙ rw e)
 
-      pub text_go : {after : List ℕ} → text_fits code (bytes_at b (at + 4) n) ≡ true → Grown before after k n → Scans b at 0 (text_in code (drop at b)) (sized_adds k) before after (at + 4 + n)
+      -- the length can be added to the span of the node
+      pub text_room : {before : List ℕ} → Begun b before → k < 256 → (k < length before) × (get_or before k 0 + n ≤ largest)
+      text_room {before} begun few = (omega (arith, begun.sized), omega (arith, begun.room k few, number.took, cut.0))
+
+      pub text_go : {before after : List ℕ} → text_fits code x ≡ true → Grown before after k n → Scans b 0 (text_in code b) (sized_adds k) before after (Some rest)
       unfolding sized_adds
-      text_go {after} e grown =
-          let long : length (bytes_at b (at + 4) n) ≡ n = bytes_length b (at + 4) n in
+      text_go {before} {after} e grown =
+          let long : length x ≡ n = cut.3 in
           reached grown.sized (record {
-            what = bytes_at b (at + 4) n;
+            what = x;
             is = text_is ∙ rw e;
-            inside = text_inside;
             spans = λ j lt. rw long (grown.spans j);
             took = λ j. rw long (few (eqb k j));
           })
         where
-          few : (t : Bool) → at + 0 + cond t n 0 ≤ at + 4 + n
-          few true = omega arith
-          few false = omega arith
+          few : (t : Bool) → length rest + 0 + cond t n 0 ≤ length b
+          few true = omega (arith, number.took, cut.4)
+          few false = omega (arith, number.took, cut.4)

@@ -1,4 +1,3 @@
-pub mod Arms
 pub mod Totals
 pub mod Places
 pub mod Scans

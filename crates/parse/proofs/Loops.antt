@@ -1,15 +1,14 @@
 -- A loop over rows: those of one node, or one of each child.
--- It keeps that a scan of the rows that are left, from the place reached on, tells what a scan of all rows tells.
+-- It keeps that a scan of the rows that are left, of what is left of the string, tells what a scan of all rows tells.
 use mathlib.Core.Path.{◌≡◌, refl, ◌∙◌}
 use mathlib.Core.List.{List}
 use Prim.Native.Nat.{ℕ, suc, ◌+◌, ◌-◌, ◌≤◌, ◌<◌}
 use native.Mathlib.Omega.{arith}
-use lib.ListN.{length, drop}
-use Rattle.image.specs.Reads.{Read}
+use Rattle.std.proofs.Common.{Option, Some, None}
 use Rattle.image.specs.Record.{first_child, child_count}
 use Rattle.image.specs.Row.{Row, Rows, none, more}
 use Rattle.image.specs.Parse.{Parsed, parsed, row_then, rows_of, row_of_each, row_in}
-use Rattle.parse.specs.Scan.{row_adds, rows_add, each_adds, Scans}
+use Rattle.parse.specs.Scan.{struct_of, row_adds, rows_add, each_adds, joined_adds, Scans}
 use Rattle.parse.proofs.Totals.{no_rows_add, more_rows_add, no_child_adds, more_children_add}
 use Rattle.parse.proofs.Scans.{stopped, reached, rows_scan}
 
@@ -28,32 +27,31 @@ pub record Turns : Type 0 where
   pub ended : (i : ℕ) → turns ≤ i → least i ≡ 0
   pub no_sum : (i j : ℕ) → rest_adds i none j ≡ 0
 
--- What is left of them at row i, from a place on, tells what all tell, which p reads from place `at` on.
-pub record Left (w : Turns) (b : List ℕ) (at m : ℕ) (p : Parsed Rows) (adds : Rows → ℕ → ℕ) (before : List ℕ) (i next : ℕ) (spans : List ℕ) : Type 0 where
-  pub whole : (after : List ℕ) (answer : ℕ) → Scans b next (w.least i) (w.rest i (drop next b)) (w.rest_adds i) spans after answer → Scans b at m p adds before after answer
+-- What is left of them at row i, of a string whose rest stands there, tells what all tell, which p reads from b.
+pub record Left (w : Turns) (b : List ℕ) (m : ℕ) (p : Parsed Rows) (adds : Rows → ℕ → ℕ) (before : List ℕ) (i : ℕ) (rest spans : List ℕ) : Type 0 where
+  pub whole : (after : List ℕ) (answer : Option (List ℕ)) → Scans rest (w.least i) (w.rest i rest) (w.rest_adds i) spans after answer → Scans b m p adds before after answer
 
-module _ {w : Turns} {b : List ℕ} {at m : ℕ} {p : Parsed Rows} {adds : Rows → ℕ → ℕ} {before : List ℕ} {i next : ℕ} {spans : List ℕ} (h : Left w b at m p adds before i next spans) where
-  pub left_done : w.turns ≤ i → next ≤ length b → Scans b at m p adds before spans next
-  left_done le inside =
-      h.whole spans next
+module _ {w : Turns} {b : List ℕ} {m : ℕ} {p : Parsed Rows} {adds : Rows → ℕ → ℕ} {before : List ℕ} {i : ℕ} {rest spans : List ℕ} (h : Left w b m p adds before i rest spans) where
+  pub left_done : w.turns ≤ i → Scans b m p adds before spans (Some rest)
+  left_done le =
+      h.whole spans (Some rest)
       (reached refl (record {
         what = none;
-        is = w.ends i le (drop next b);
-        inside = inside;
+        is = w.ends i le rest;
         spans = λ j lt. omega (arith, w.no_sum i j);
         took = λ j. omega (arith, w.no_sum i j, w.ended i le);
       }))
 
   -- the scan of row i
-  module _ {mid : List ℕ} {place : ℕ} (lt : i < w.turns) (row : Scans b next 1 (w.row i (drop next b)) (w.adds i) spans mid place) where
-    pub left_stop : length b < place → Scans b at m p adds before mid place
-    left_stop past = h.whole mid place (stopped row.sized past (w.reads i lt (drop next b) ∙ rw (row.stops past)))
+  module _ {mid : List ℕ} (lt : i < w.turns) where
+    pub left_stop : Scans rest 1 (w.row i rest) (w.adds i) spans mid None → Scans b m p adds before mid None
+    left_stop row = h.whole mid None (stopped row.sized (w.reads i lt rest ∙ rw row.tells))
 
-    pub left_next : place ≤ length b → Left w b at m p adds before (i + 1) place mid
-    left_next le = record {
+    pub left_next : {place : List ℕ} → Scans rest 1 (w.row i rest) (w.adds i) spans mid (Some place) → Left w b m p adds before (i + 1) place mid
+    left_next {place} row = record {
       whole = λ after answer later.
           h.whole after answer
-          (rw (w.reads i lt (drop next b)) (rows_scan (w.row i (drop next b)) (w.rest (i + 1)) (w.sums i) (w.fewer i) row.sized (row.goes le) later));
+          (rw (w.reads i lt rest) (rows_scan (w.row i rest) (w.rest (i + 1)) (w.sums i) (w.fewer i) row later));
     }
 
 -- n rows of node k
@@ -85,8 +83,8 @@ row_turns d s k n = record {
   no_sum = λ i. no_rows_add d s k;
 }
 
-pub rows_begin : (d : ℕ) (s : List ℕ) (k n : ℕ) (b : List ℕ) (at : ℕ) (spans : List ℕ) → Left (row_turns d s k n) b at n (rows_of (row_in d s k) n (drop at b)) (rows_add d s k) spans 0 at spans
-rows_begin d s k n b at spans =
+pub rows_begin : (d : ℕ) (s : List ℕ) (k n : ℕ) (b spans : List ℕ) → Left (row_turns d s k n) b n (rows_of (row_in d s k) n b) (rows_add d s k) spans 0 b spans
+rows_begin d s k n b spans =
     let e : n - 0 ≡ n = omega arith in
     record { whole = λ after answer h. rw e at h }
 
@@ -125,10 +123,8 @@ child_turns d s c n = record {
   no_sum = λ i. no_child_adds d s (c + i);
 }
 
--- those of node k, as their numbers were read
-pub children_begin : (d : ℕ) (s : List ℕ) (k : ℕ) {first many : ℕ} (b : List ℕ) (at : ℕ) (spans : List ℕ) → Read (first_child s k) 16 first → Read (child_count s k) 16 many
-    → Left (child_turns d s first many) b at 0 (row_of_each (row_in d s) (first_child s k) (child_count s k) (drop at b)) (each_adds d s (first_child s k)) spans 0 at spans
-children_begin d s k {first} {many} b at spans child count =
-    let e : many - 0 ≡ many = omega arith in
-    let f : first + 0 ≡ first = omega arith in
-    record { whole = λ after answer h. rw (← child.value, ← count.value) (rw (e, f) at h) }
+pub children_begin : (d : ℕ) (s : List ℕ) (k : ℕ) (b spans : List ℕ) → Left (child_turns d s (first_child s k) (child_count s k)) b 0 (struct_of d s k b) (joined_adds d s k) spans 0 b spans
+children_begin d s k b spans =
+    let e : child_count s k - 0 ≡ child_count s k = omega arith in
+    let f : first_child s k + 0 ≡ first_child s k = omega arith in
+    record { whole = λ after answer h. rw (e, f) at h }

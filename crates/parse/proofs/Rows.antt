@@ -2,24 +2,26 @@
 -- Behind the mark stands the value; behind the count of a list stand so many rows.
 use mathlib.Core.Path.{◌≡◌, refl, ap, ◌∙◌}
 use mathlib.Core.Bool.{Bool, true, false, cond}
-use mathlib.Core.List.{List, ◌∷◌}
+use mathlib.Core.List.{List, [], ◌∷◌}
 use Prim.Native.Nat.{ℕ, zero, suc, ◌+◌, ◌-◌, ◌≤◌, ◌<◌}
 use native.Mathlib.Omega.{arith}
 use lib.Dec.{eqb}
-use lib.ListN.{length, get_or, drop, drop_of_length-le}
-use lib.Seq.{drop-cons}
-use Rattle.image.specs.Bytes.{byte_at, number_at}
-use Rattle.image.specs.Reads.{Read}
+use lib.ListN.{length, get_or}
+use Rattle.std.proofs.Common.{Option, Some, None}
+use Rattle.std.specs.List.{IsFirstAndRest}
 use Rattle.image.specs.Record.{code_of, first_child}
 use Rattle.image.specs.TypeCode.{layout_of, takes_bitmap}
 use Rattle.image.specs.Row.{Row, Rows, null, none, more}
 use Rattle.image.specs.RowBytes.{count}
-use Rattle.image.specs.Parse.{Parsed, failed, parsed, made, rows_of, marked, value_in, row_in}
+use Rattle.image.specs.Parse.{Parsed, failed, parsed, made, number_in, rows_of, marked, row_in}
 use Rattle.built.proofs.Parsed.{then_back, made_back}
-use Rattle.parse.specs.Scan.{not_rows, list_in, row_adds, rows_add, counted_adds, Begun, Scans, Grown}
+use Rattle.parse.specs.Scan.{value_of, list_of, row_adds, rows_add, counted_adds, largest, Counted, Begun, Scans, Grown}
 use Rattle.parse.proofs.Totals.{null_adds}
-use Rattle.parse.proofs.Places.{number_here, number_short}
 use Rattle.parse.proofs.Scans.{stopped, reached}
+
+length-zero : (b : List ℕ) → length b ≡ 0 → b ≡ []
+length-zero [] e = refl
+length-zero (x ∷ b) e = absurd (omega (arith, e))
 
 -- a mark that is neither 00 nor 01
 other_mark : (bitmap : Bool) (value : List ℕ → Parsed Row) (x : ℕ) (rest : List ℕ) → (x ≡ 0 → ⊥) → (x ≡ 1 → ⊥) → marked bitmap value (x ∷ rest) ≡ failed
@@ -27,67 +29,50 @@ other_mark bitmap value zero rest no-null no_value = absurd (no-null refl)
 other_mark bitmap value (suc zero) rest no-null no_value = absurd (no_value refl)
 other_mark bitmap value (suc (suc x)) rest no-null no_value = refl
 
--- a row of node k at a place
-module _ (d : ℕ) (s : List ℕ) (k : ℕ) (b : List ℕ) (at : ℕ) {before : List ℕ} (begun : Begun b at before) where
-  row_stop : row_in d s k (drop at b) ≡ failed → Scans b at 1 (row_in d s k (drop at b)) (row_adds d s k) before before not_rows
-  row_stop e = stopped refl begun.short e
-
-  pub row_too_deep : d ≡ 0 → Scans b at 1 (row_in d s k (drop at b)) (row_adds d s k) before before not_rows
+-- a row of node k in front of b
+module _ (d : ℕ) (s : List ℕ) (k : ℕ) (b : List ℕ) where
+  pub row_too_deep : {before : List ℕ} → d ≡ 0 → Scans b 1 (row_in d s k b) (row_adds d s k) before before None
   unfolding row_in
-  row_too_deep end = row_stop (rw end)
+  row_too_deep end = stopped refl (rw end)
 
   module _ (deep : d ≡ 0 → ⊥) where
     below : d ≡ suc (d - 1)
     below = omega (arith, deep)
 
-    row_is : row_in d s k (drop at b) ≡ marked (takes_bitmap (layout_of (code_of s k))) (value_in (layout_of (code_of s k)) (row_in (d - 1) s) s k) (drop at b)
+    row_is : row_in d s k b ≡ marked (takes_bitmap (layout_of (code_of s k))) (value_of (d - 1) s k) b
     unfolding row_in
     row_is =
-        let e : row_in d s k (drop at b) ≡ row_in (suc (d - 1)) s k (drop at b) = ap (λ (n : ℕ). row_in n s k (drop at b)) below in
+        let e : row_in d s k b ≡ row_in (suc (d - 1)) s k b = ap (λ (n : ℕ). row_in n s k b) below in
         e
 
-    pub row_none : length b ≤ at → Scans b at 1 (row_in d s k (drop at b)) (row_adds d s k) before before not_rows
-    row_none le = row_stop (row_is ∙ rw (drop_of_length-le b le))
+    pub row_none : {before : List ℕ} → length b ≡ 0 → Scans b 1 (row_in d s k b) (row_adds d s k) before before None
+    row_none e = stopped refl (row_is ∙ rw (length-zero b e))
 
-    module _ (some : at < length b) where
-      -- the mark, and what stands behind it
-      front : (x : ℕ) → byte_at b at ≡ x → drop at b ≡ x ∷ drop (at + 1) b
-      front x mark =
-          let behind : suc at ≡ at + 1 = omega arith in
-          drop-cons b at 0 some ∙ rw (mark, behind)
+    module _ {x : ℕ} {rest : List ℕ} (front : IsFirstAndRest b x rest) where
+      pub row_other : {before : List ℕ} → (x ≡ 0 → ⊥) → (x ≡ 1 → ⊥) → Scans b 1 (row_in d s k b) (row_adds d s k) before before None
+      row_other no-null no_value = stopped refl (row_is ∙ rw front.0 (other_mark _ _ x rest no-null no_value))
 
-      pub row_other : (byte_at b at ≡ 0 → ⊥) → (byte_at b at ≡ 1 → ⊥) → Scans b at 1 (row_in d s k (drop at b)) (row_adds d s k) before before not_rows
-      row_other no-null no_value = row_stop (row_is ∙ rw (front (byte_at b at) refl) (other_mark _ _ (byte_at b at) (drop (at + 1) b) no-null no_value))
+      pub row_no_null : {before : List ℕ} → x ≡ 0 → takes_bitmap (layout_of (code_of s k)) ≡ false → Scans b 1 (row_in d s k b) (row_adds d s k) before before None
+      row_no_null mark bitmap = stopped refl (row_is ∙ rw (front.0, mark, bitmap))
 
-      pub row_no_null : byte_at b at ≡ 0 → takes_bitmap (layout_of (code_of s k)) ≡ false → Scans b at 1 (row_in d s k (drop at b)) (row_adds d s k) before before not_rows
-      row_no_null mark bitmap = row_stop (row_is ∙ rw (front 0 mark, bitmap))
-
-      pub row_null : byte_at b at ≡ 0 → takes_bitmap (layout_of (code_of s k)) ≡ true → Scans b at 1 (row_in d s k (drop at b)) (row_adds d s k) before before (at + 1)
+      pub row_null : {before : List ℕ} → x ≡ 0 → takes_bitmap (layout_of (code_of s k)) ≡ true → Scans b 1 (row_in d s k b) (row_adds d s k) before before (Some rest)
       row_null mark bitmap =
           reached refl (record {
             what = null;
-            is = row_is ∙ rw (front 0 mark, bitmap);
-            inside = omega arith;
+            is = row_is ∙ rw (front.0, mark, bitmap);
             spans = λ j lt. omega (arith, null_adds d s k j);
-            took = λ j. omega (arith, null_adds d s k j);
+            took = λ j. omega (arith, null_adds d s k j, front.1);
           })
 
-      pub row_value : {after : List ℕ} {answer : ℕ} → byte_at b at ≡ 1 → Scans b (at + 1) 0 (value_in (layout_of (code_of s k)) (row_in (d - 1) s) s k (drop (at + 1) b)) (row_adds (suc (d - 1)) s k) before after answer → Scans b at 1 (row_in d s k (drop at b)) (row_adds d s k) before after answer
-      row_value {after} {answer} mark h =
-          let value : row_in d s k (drop at b) ≡ value_in (layout_of (code_of s k)) (row_in (d - 1) s) s k (drop (at + 1) b) = row_is ∙ rw (front 1 mark) in
-          record {
-            sized = h.sized;
-            stops = λ lt. value ∙ h.stops lt;
-            goes = λ le.
-                let r = h.goes le in
-                record {
-                  what = r.what;
-                  is = value ∙ r.is;
-                  inside = r.inside;
-                  spans = λ j lt. omega (arith, r.spans j lt, same r.what j);
-                  took = λ j. omega (arith, r.took j, same r.what j);
-                };
-          }
+      pub row_value : {before after : List ℕ} {answer : Option (List ℕ)} → x ≡ 1 → Scans rest 0 (value_of (d - 1) s k rest) (row_adds (suc (d - 1)) s k) before after answer → Scans b 1 (row_in d s k b) (row_adds d s k) before after answer
+      row_value {answer = None} mark h = stopped h.sized (row_is ∙ rw (front.0, mark) h.tells)
+      row_value {answer = Some left} mark h =
+          reached h.sized (record {
+            what = h.tells.what;
+            is = row_is ∙ rw (front.0, mark) h.tells.is;
+            spans = λ j lt. omega (arith, h.tells.spans j lt, same h.tells.what j);
+            took = λ j. omega (arith, h.tells.took j, same h.tells.what j, front.1);
+          })
         where
           same : (r : Row) (j : ℕ) → row_adds d s k r j ≡ row_adds (suc (d - 1)) s k r j
           same r j = ap (λ (n : ℕ). row_adds n s k r j) below
@@ -103,48 +88,36 @@ rows_many row (suc n) x rs rest e =
     let m = made_back (more t.0) (rows_of row n t.1) rs rest t.3 in
     rw (← m.2) (ap suc (rows_many row n t.1 m.0 rest m.1))
 
--- the list of node k at a place, whose count n stands there
-module _ (d : ℕ) (s : List ℕ) (k : ℕ) (b : List ℕ) (at : ℕ) {before : List ℕ} (begun : Begun b at before) where
-  pub list_short : length b - at < 4 → Scans b at 0 (list_in (row_in d s (first_child s k)) (drop at b)) (counted_adds d s k) before before not_rows
-  unfolding list_in
-  list_short lt = stopped refl begun.short (rw (number_short at b lt))
+-- the list of node k in front of b
+module _ (d : ℕ) (s : List ℕ) (k : ℕ) (b : List ℕ) where
+  pub list_none : {before : List ℕ} → number_in b ≡ failed → Scans b 0 (list_of d s k b) (counted_adds d s k) before before None
+  unfolding list_of
+  list_none e = stopped refl (rw e)
 
-  module _ {n : ℕ} (number : Read (number_at 4 b at) 32 n) (some : 4 ≤ length b - at) where
-    four : at + 4 ≤ length b
-    four = omega (arith, begun.inside)
+  module _ {n : ℕ} {bytes : List ℕ} (number : Counted b n bytes) where
+    list_is : list_of d s k b ≡ rows_of (row_in d s (first_child s k)) n bytes
+    unfolding list_of
+    list_is = rw number.is
 
-    list_is : list_in (row_in d s (first_child s k)) (drop at b) ≡ rows_of (row_in d s (first_child s k)) n (drop (at + 4) b)
-    unfolding list_in
-    list_is = rw (number_here at b four, ← number.value)
+    pub list_stop : {before mid : List ℕ} → Scans bytes n (rows_of (row_in d s (first_child s k)) n bytes) (rows_add d s (first_child s k)) before mid None → Scans b 0 (list_of d s k b) (counted_adds d s k) before mid None
+    list_stop h = stopped h.sized (list_is ∙ h.tells)
 
-    -- so many rows of the child, as its number was read
-    module _ {child : ℕ} {mid : List ℕ} {next : ℕ} (read : Read (first_child s k) 16 child) (rows : Scans b (at + 4) n (rows_of (row_in d s child) n (drop (at + 4) b)) (rows_add d s child) before mid next) where
-      h : Scans b (at + 4) n (rows_of (row_in d s (first_child s k)) n (drop (at + 4) b)) (rows_add d s (first_child s k)) before mid next
-      h = rw (← read.value) rows
+    module _ {before mid rest : List ℕ} (h : Scans bytes n (rows_of (row_in d s (first_child s k)) n bytes) (rows_add d s (first_child s k)) before mid (Some rest)) where
+      -- the count can be added to the span of the node
+      pub list_room : Begun b before → k < 256 → (k < length mid) × (get_or mid k 0 + n ≤ largest)
+      list_room begun few = (omega (arith, h.sized, begun.sized), omega (arith, h.tells.spans k few, h.tells.took k, begun.room k few, number.took))
 
-      pub list_stop : length b < next → Scans b at 0 (list_in (row_in d s (first_child s k)) (drop at b)) (counted_adds d s k) before mid next
-      list_stop past = stopped h.sized past (list_is ∙ h.stops past)
-
-      module _ (le : next ≤ length b) where
-        -- the count can be added to the span of the node
-        pub list_room : k < 256 → (k < length mid) × (get_or mid k 0 + n ≤ not_rows)
-        list_room few =
-            let r = h.goes le in
-            (omega (arith, h.sized, begun.sized), omega (arith, r.spans k few, r.took k, r.inside, begun.low k few, begun.short))
-
-        pub list_go : {after : List ℕ} → Grown mid after k n → Scans b at 0 (list_in (row_in d s (first_child s k)) (drop at b)) (counted_adds d s k) before after next
-        unfolding counted_adds
-        list_go {after} grown =
-            let r = h.goes le in
-            let many : count r.what ≡ n = rows_many (row_in d s (first_child s k)) n (drop (at + 4) b) r.what (drop next b) r.is in
-            reached (grown.sized ∙ h.sized) (record {
-              what = r.what;
-              is = list_is ∙ r.is;
-              inside = r.inside;
-              spans = λ j lt. rw many (omega (arith, grown.spans j, r.spans j lt));
-              took = λ j. rw many (few (eqb k j) (rows_add d s (first_child s k) r.what j) (r.took j));
-            })
-          where
-            few : (t : Bool) (x : ℕ) → at + 4 + n + x ≤ next → at + 0 + (cond t n 0 + x) ≤ next
-            few true x le = omega arith
-            few false x le = omega arith
+      pub list_go : {after : List ℕ} → Grown mid after k n → Scans b 0 (list_of d s k b) (counted_adds d s k) before after (Some rest)
+      unfolding counted_adds
+      list_go {after} grown =
+          let many : count h.tells.what ≡ n = rows_many (row_in d s (first_child s k)) n bytes h.tells.what rest h.tells.is in
+          reached (grown.sized ∙ h.sized) (record {
+            what = h.tells.what;
+            is = list_is ∙ h.tells.is;
+            spans = λ j lt. rw many (omega (arith, grown.spans j, h.tells.spans j lt));
+            took = λ j. rw many (few (eqb k j) (rows_add d s (first_child s k) h.tells.what j) (h.tells.took j));
+          })
+        where
+          few : (t : Bool) (x : ℕ) → length rest + n + x ≤ length bytes → length rest + 0 + (cond t n 0 + x) ≤ length b
+          few true x le = omega (arith, number.took)
+          few false x le = omega (arith, number.took)

@@ -70,9 +70,9 @@ pub counted_adds_lem : (d : ℕ) (s : List ℕ) (k : ℕ) (rs : Rows) (j : ℕ) 
 unfolding row_adds gives counted_adds rows_add
 counted_adds_lem d s k rs j = own_total (eqb k j) (counted rs) (from_each (λ r. gives d s (first_child s k) r j) rs)
 
-pub joined_adds : (d : ℕ) (s : List ℕ) (k : ℕ) (rs : Rows) (j : ℕ) → row_adds (suc d) s k (joined rs) j ≡ each_adds d s (first_child s k) rs j
+pub joined_adds_lem : (d : ℕ) (s : List ℕ) (k : ℕ) (rs : Rows) (j : ℕ) → row_adds (suc d) s k (joined rs) j ≡ each_adds d s (first_child s k) rs j
 unfolding row_adds gives each_adds
-joined_adds d s k rs j = own_none (eqb k j) (joined rs) (over_each (λ c r. gives d s c r j) (first_child s k) rs) refl
+joined_adds_lem d s k rs j = own_none (eqb k j) (joined rs) (over_each (λ c r. gives d s c r j) (first_child s k) rs) refl
 
 pub no_rows_add : (d : ℕ) (s : List ℕ) (k j : ℕ) → rows_add d s k none j ≡ 0
 unfolding rows_add from_each total

@@ -11,17 +11,19 @@ ghost use Rattle.image.specs.Parse.{readable, rows_in};
 ghost use Rattle.parse.specs.Answer.{are_rows, Spanned};
 
 use crate::scan::scan_rows;
-
-// The remaining depth at the root.
-const MAX_DEPTH: usize = 16;
+use image::record::{MAX_DEPTH, Node};
 
 // Whether the string b is so many rows of the type that the image has, and nothing more. Where it is, entry j of spans is
 // how far the offsets of node j go on.
-pub fn is_rows(s: &[u8], count: usize, b: &[u8], spans: &mut [usize]) -> bool
-    requires s_value { (check_image s.now ≡ Ok tt) × (readable s.now ≡ true) }
+pub fn is_rows(image: &[u8], count: usize, b: &[u8], spans: &mut [usize]) -> bool
+    requires s_value { (check_image image.now ≡ Ok tt) × (readable image.now ≡ true) }
     requires spans_value { spans.old ≡ replicate 256 0 }
-    ensures value { result ≡ are_rows (rows_in s.now count b.now) }
-    ensures spanned { Spanned s.now (rows_in s.now count b.now) spans.new }
+    ensures value { result ≡ are_rows (rows_in image.now count b.now) }
+    ensures spanned { Spanned image.now (rows_in image.now count b.now) spans.new }
 {
-    scan_rows(s, 0, MAX_DEPTH, count, b, 0, spans) == b.len()
+    let root = Node { image, number: 0 };
+    match scan_rows(root, MAX_DEPTH, count, b, spans) {
+        Some(rest) => rest.is_empty(),
+        None => false,
+    }
 }

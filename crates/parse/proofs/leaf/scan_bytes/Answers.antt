@@ -1,11 +1,9 @@
--- `scan_bytes` reads w bytes, where they lie inside.
--- Its test is that of the definition.
+-- `scan_bytes` reads w bytes, where there are so many.
 use Rattle.parse.proofs.Leaves.{bytes_stop, bytes_go}
-use native.Mathlib.Omega.{arith}
 use Rattle.parse.proofs.leaf.scan_bytes.Goals as goal
 
-pub returns-then-b-at : goal.returns-then-b-at
-returns-then-b-at c = bytes_stop _ _ _ _ c.if-b-at.true (omega (arith, c.well_formed.0.1))
+pub returns-in_err-rest : goal.returns-in_err-rest
+returns-in_err-rest c = rw c.from_residual.ensures (bytes_stop _ _ c.in_err-rest.ensures.cases)
 
 pub returns : goal.returns
-returns c = bytes_go _ _ _ (omega (arith, c.requires, c.if-b-at.false))
+returns c = bytes_go _ _ _ _ c.in_ok-rest.ensures.cases
