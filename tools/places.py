@@ -33,10 +33,11 @@ def functions(text):
             depth += {'(': 1, ')': -1}.get(text[at], 0)
             at += 1
         params = re.sub(r'\s+', ' ', text[m.end():at - 1])
-        body = re.compile(r'^( *)\{$', re.M).search(text, at)
-        if not body:
+        body = re.compile(r'[{;]$', re.M).search(text, at)
+        if body[0] == ';':
             continue
-        end = text.index('\n' + body[1] + '}', body.end())
+        indent = re.compile(r' *').match(text, text.rindex('\n', 0, m.start()) + 1)[0]
+        end = text.index('\n' + indent + '}', body.end())
         yield m[1], params, text[body.end():end], m.start()
 
 

@@ -10,11 +10,46 @@ pub fn byte(s: &[u8], i: usize) -> u8
     if i < s.len() { s[i] } else { 0 }
 }
 
+// Numbers of two, four and eight bytes are written out: made in a loop over their bytes, they are read byte by byte where a
+// loop over rows takes many rows at once.
+fn two(s: &[u8], i: usize) -> usize
+    requires { i + 2 ≤ length s.now }
+    ensures { Read (number_at 2 s.now i) 16 result }
+{
+    usize::from(s[i]) + 256 * usize::from(s[i + 1])
+}
+
+fn four(s: &[u8], i: usize) -> usize
+    requires { i + 4 ≤ length s.now }
+    ensures { Read (number_at 4 s.now i) 32 result }
+{
+    usize::from(s[i])
+        + 256 * usize::from(s[i + 1])
+        + 65536 * usize::from(s[i + 2])
+        + 16777216 * usize::from(s[i + 3])
+}
+
+fn eight(s: &[u8], i: usize) -> usize
+    requires { i + 8 ≤ length s.now }
+    ensures { Read (number_at 8 s.now i) 64 result }
+{
+    four(s, i) + 4294967296 * four(s, i + 4)
+}
+
 // The number that the W bytes at a place make, which lie inside: one load.
 pub fn load<const W: usize>(s: &[u8], i: usize) -> usize
     requires { (W ≤ 8) × (i + W ≤ length s.now) }
     ensures { Read (number_at W s.now i) (8 * W) result }
 {
+    if W == 2 {
+        return two(s, i);
+    }
+    if W == 4 {
+        return four(s, i);
+    }
+    if W == 8 {
+        return eight(s, i);
+    }
     let mut x: usize = 0;
     for k in (0..W).rev() {
         x = usize::from(s[i + k]) + 256 * x;

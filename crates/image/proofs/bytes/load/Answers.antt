@@ -19,3 +19,12 @@ loop-k-preserved g c = read_more _ _ _ _ c.loop-k-test.true c.loop-k.auto.k c.lo
 
 pub returns : goal.returns
 returns g c = read_all _ _ _ _ c.loop-k-test.false c.loop-k.invariant
+
+pub returns-then-this-eq2 : goal.returns-then-this-eq2
+returns-then-this-eq2 g c = rw (c.if-this-eq2.true) c.two.ensures
+
+pub returns-then-this-eq4 : goal.returns-then-this-eq4
+returns-then-this-eq4 g c = rw (c.if-this-eq4.true) c.four.ensures
+
+pub returns-then-this-eq8 : goal.returns-then-this-eq8
+returns-then-this-eq8 g c = rw (c.if-this-eq8.true) c.eight.ensures
