@@ -41,7 +41,7 @@ impl Count {
 
 // The width in bytes of an element of the first buffer, for each code from 0 to 43. It is 0 where the code has no such
 // buffer, where elements are bits, and where p1 gives the width.
-const WIDTHS: [usize; 44] = [
+static WIDTHS: [usize; 44] = [
     // Null, Boolean
     0, 0,
     // Int8 to Int64, UInt8 to UInt64

@@ -52,6 +52,21 @@ fn scan_value<'a>(node: Node, depth: usize, text: &'a [u8], spans: &mut [usize])
     if TypeCode::INT8 <= code && code <= TypeCode::INTERVAL_MONTH_DAY_NANO {
         return scan_bytes(text, node.element_width());
     }
+    scan_by_layout(node, depth, text, spans)
+}
+
+// The same for any layout. It is a call of its own: the loops over rows are slower where all of it is part of them.
+#[cycle(rows)]
+fn scan_by_layout<'a>(
+    node: Node,
+    depth: usize,
+    text: &'a [u8],
+    spans: &mut [usize],
+) -> Option<&'a [u8]>
+    requires { (Within of node) × Begun text.now spans.old }
+    ensures { Scans text.now 0 ((value_of depth of node.entry) text.now) (row_adds (suc depth) of node.entry) spans.old spans.new (option_copied result) }
+{
+    let code = node.code();
     match TypeCode::layout(code) {
         Layout::Null => Some(text),
         Layout::Boolean => scan_boolean(text),

@@ -7,19 +7,22 @@ use Rattle.parse.proofs.Loops.{Left, row_turns, child_turns}
 use Rattle.parse.proofs.scan.+rows.Given as goal
 
 abbrev pub decreases-scan_row : goal.decreases-scan_row
-decreases-scan_row l = 4 * l.depth
+decreases-scan_row l = 5 * l.depth
 
 abbrev pub decreases-scan_rows : goal.decreases-scan_rows
-decreases-scan_rows l = 4 * l.depth + 1
+decreases-scan_rows l = 5 * l.depth + 1
 
 abbrev pub decreases-scan_struct : goal.decreases-scan_struct
-decreases-scan_struct l = 4 * l.depth + 1
+decreases-scan_struct l = 5 * l.depth + 1
 
 abbrev pub decreases-scan_list : goal.decreases-scan_list
-decreases-scan_list l = 4 * l.depth + 2
+decreases-scan_list l = 5 * l.depth + 2
 
 abbrev pub decreases-scan_value : goal.decreases-scan_value
-decreases-scan_value l = 4 * l.depth + 3
+decreases-scan_value l = 5 * l.depth + 4
+
+abbrev pub decreases-scan_by_layout : goal.decreases-scan_by_layout
+decreases-scan_by_layout l = 5 * l.depth + 3
 
 abbrev pub invariant-scan_rows-loop : goal.invariant-scan_rows-loop
 invariant-scan_rows-loop l =

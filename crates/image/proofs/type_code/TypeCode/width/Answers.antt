@@ -2,17 +2,14 @@
 -- The code's tests are the definition's; the table of widths and the entries' widths are the same list.
 use borrow.Author.Tests.{ne_eqb}
 use native.Mathlib.Omega.{arith}
-use mathlib.Core.List.{List, [], ◌∷◌}
+use mathlib.Core.List.{[]}
 use mathlib.Core.Path.{refl}
 use Prim.Native.Nat.{ℕ}
 use lib.ListN.{get_or}
 use Rattle.image.specs.TypeCode.{entries, entry_of, width_of}
+use Rattle.image.specs.declared.type_code.TheConstants.{WIDTHS}
 use Rattle.image.proofs.CodeTable.{agree, constant}
 use Rattle.image.proofs.type_code.TypeCode.width.Goals as goal
-
-abbrev widths : List ℕ
-widths =
-    0 ∷ 0 ∷ 1 ∷ 2 ∷ 4 ∷ 8 ∷ 1 ∷ 2 ∷ 4 ∷ 8 ∷ 2 ∷ 4 ∷ 8 ∷ 4 ∷ 8 ∷ 4 ∷ 8 ∷ 16 ∷ 32 ∷ 4 ∷ 8 ∷ 8 ∷ 8 ∷ 4 ∷ 8 ∷ 16 ∷ 4 ∷ 4 ∷ 8 ∷ 8 ∷ 0 ∷ 16 ∷ 16 ∷ 4 ∷ 8 ∷ 4 ∷ 8 ∷ 0 ∷ 0 ∷ 1 ∷ 1 ∷ 0 ∷ 4 ∷ 0 ∷ []
 
 pub returns-then-code-eq-FIXED_SIZE_BINARY : goal.returns-then-code-eq-FIXED_SIZE_BINARY
 unfolding width_of
@@ -32,4 +29,4 @@ pub returns : goal.returns
 unfolding width_of entry_of entries
 returns c =
     rw (ne_eqb _ _ c.if-code-eq-FIXED_SIZE_BINARY.false, ne_eqb _ _ c.if-code-eq-DICTIONARY.false)
-    (agree (λ (k : ℕ). get_or widths k 0) (λ (k : ℕ). (entry_of k).width) 0 44 refl c.args.code (omega arith) (omega arith))
+    (agree (λ (k : ℕ). get_or WIDTHS k 0) (λ (k : ℕ). (entry_of k).width) 0 44 refl c.args.code (omega arith) (omega arith))
