@@ -14,7 +14,7 @@ use builder::is_readable;
 use digits::{digits_equal, not_digits};
 use equal::rows_equal;
 use image::answer::{Fault, Side};
-use image::record::{MAX_DEPTH, length};
+use image::record::{MAX_DEPTH, Node, length};
 use names::maps_named;
 use rows::measure::measure_rows;
 use rows::write::write_rows;
@@ -216,10 +216,14 @@ pub fn write(
     }
     let room = out.len();
     let mut runs = [0usize; REMEMBERED];
-    let Some(rest) = measure_rows(image, 0, start, count, MAX_DEPTH, &mut runs, room) else {
+    let table = Node {
+        image: image,
+        number: 0,
+    };
+    let Some(rest) = measure_rows(table, start, count, MAX_DEPTH, &mut runs, room) else {
         return Err(WriteRefusal::TooLong);
     };
-    Ok(write_rows(image, 0, start, count, MAX_DEPTH, &mut runs, out, 0))
+    Ok(write_rows(table, start, count, MAX_DEPTH, &mut runs, out, 0))
 }
 
 // Builds the table of `count` rows of the type that an image has, which `rows` is by the row rule; its image goes to the front

@@ -1,6 +1,7 @@
 // How many bytes rows take. Measuring stops once the room of the output is used up: each row takes at least one byte, so
 // its cost is bounded by the room and not by the table.
 ghost use Rattle.std.specs.Prelude.{◌≡◌, ◌*◌, ◌<◌, length};
+ghost use Rattle.image.specs.Of.{◌of◌};
 ghost use Rattle.image.specs.Row.{row_at, range};
 ghost use Rattle.image.specs.RowBytes.{row_bytes, rows_bytes};
 ghost use Rattle.accepted.specs.Parts.{Side};
@@ -9,6 +10,7 @@ ghost use Rattle.rows.specs.Output.{room_after};
 
 use crate::value::{is_null, value_at};
 use accepted::column::{Column, column_of, first_run, remember, stay_of};
+use image::record::Node;
 
 // The room that is left after so many bytes, taken so many times.
 fn room_after(room: usize, size: usize, times: usize) -> Option<usize>
@@ -20,8 +22,7 @@ fn room_after(room: usize, size: usize, times: usize) -> Option<usize>
 // The room that is left after row i of a node, beside which a run is kept.
 #[cycle(measure_row_measure_rows)]
 fn measure_row(
-    s: &[u8],
-    node: u32,
+    node: Node,
     column: Column,
     i: usize,
     run: usize,
@@ -29,19 +30,23 @@ fn measure_row(
     runs: &mut [usize],
     room: usize,
 ) -> Option<usize>
-    requires side { Side s.now node i 1 }
-    requires kept { Kept s.now node column i run }
-    requires remembered { Remembered s.now runs.old }
-    ensures value { result ≡ room_after room (length (row_bytes (row_at depth s.now node i))) }
-    ensures remembered_2 { Remembered s.now runs.new }
+    requires side { (Side of node) i 1 }
+    requires kept { (Kept of node) column i run }
+    requires remembered { Remembered node.image.now runs.old }
+    ensures value { result ≡ room_after room (length (row_bytes ((row_at depth of node.entry) i))) }
+    ensures remembered_2 { Remembered node.entry.image.now runs.new }
 {
-    if is_null(s, node, i, depth) {
+    if is_null(node, i, depth) {
         return room.checked_sub(1);
     }
-    let v = value_at(s, node, column.offset + i, run);
+    let v = value_at(node, column.offset + i, run);
     let mut left = room.checked_sub(1 + v.width + v.size)?;
     for c in 0..v.parts {
-        left = measure_rows(s, v.child + c, v.start, v.count, depth - 1, runs, left)?;
+        let child = Node {
+            image: node.image,
+            number: v.child + c,
+        };
+        left = measure_rows(child, v.start, v.count, depth - 1, runs, left)?;
     }
     Some(left)
 }
@@ -50,33 +55,32 @@ fn measure_row(
 // each.
 #[cycle(measure_row_measure_rows)]
 pub fn measure_rows(
-    s: &[u8],
-    node: u32,
+    node: Node,
     i: usize,
     n: usize,
     depth: usize,
     runs: &mut [usize],
     room: usize,
 ) -> Option<usize>
-    requires side { Side s.now node i n }
-    requires remembered { Remembered s.now runs.old }
-    ensures value { result ≡ room_after room (length (rows_bytes (range (row_at depth s.now node) i n))) }
-    ensures remembered_2 { Remembered s.now runs.new }
+    requires side { (Side of node) i n }
+    requires remembered { Remembered node.image.now runs.old }
+    ensures value { result ≡ room_after room (length (rows_bytes (range (row_at depth of node.entry) i n))) }
+    ensures remembered_2 { Remembered node.entry.image.now runs.new }
 {
     if n == 0 {
         return Some(room);
     }
-    let column = column_of(s, node);
-    let mut run = first_run(s, node, column, i, runs);
+    let column = column_of(node.image, node.number);
+    let mut run = first_run(node.image, node.number, column, i, runs);
     let mut left = room;
     let mut k: usize = 0;
     while k < n {
-        let stay = stay_of(s, node, column, i + k, n - k, run);
-        let one = measure_row(s, node, column, i + k, run, depth, runs, left)?;
+        let stay = stay_of(node.image, node.number, column, i + k, n - k, run);
+        let one = measure_row(node, column, i + k, run, depth, runs, left)?;
         left = room_after(one, left - one, stay.rows - 1)?;
         run = stay.next;
         k += stay.rows;
     }
-    remember(node, column, i + k, run, runs);
+    remember(node.number, column, i + k, run, runs);
     Some(left)
 }

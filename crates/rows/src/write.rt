@@ -1,5 +1,6 @@
 // The bytes of rows, put into a lent buffer that has room for them.
 ghost use Rattle.std.specs.Prelude.{◌≡◌, ◌+◌, ◌≤◌, length};
+ghost use Rattle.image.specs.Of.{◌of◌};
 ghost use Rattle.image.specs.Row.{row_at, range};
 ghost use Rattle.image.specs.RowBytes.{row_bytes, rows_bytes};
 ghost use Rattle.accepted.specs.Parts.{Side};
@@ -10,6 +11,7 @@ ghost use Rattle.rows.specs.Value.{own_bytes};
 use crate::output::{put_bytes, put_number, put_times};
 use crate::value::{Value, is_null, value_at};
 use accepted::column::{Column, column_of, first_run, remember, stay_of};
+use image::record::Node;
 
 // The first byte of a row.
 const MARK_WIDTH: usize = 1;
@@ -33,8 +35,7 @@ fn put_own(s: &[u8], v: Value, out: &mut [u8], at: usize) -> usize
 // Row i of a node, beside which a run is kept, put at a place of the buffer; the answer is the place after it.
 #[cycle(write_row_write_rows)]
 fn write_row(
-    s: &[u8],
-    node: u32,
+    node: Node,
     column: Column,
     i: usize,
     run: usize,
@@ -43,23 +44,25 @@ fn write_row(
     out: &mut [u8],
     at: usize,
 ) -> usize
-    requires side { Side s.now node i 1 }
-    requires kept { Kept s.now node column i run }
-    requires remembered { Remembered s.now runs.old }
-    requires fits { Fits out.old at (row_bytes (row_at depth s.now node i)) }
-    ensures value { result ≡ at + length (row_bytes (row_at depth s.now node i)) }
-    ensures out_after { out.new ≡ over out.old at (row_bytes (row_at depth s.now node i)) }
-    ensures remembered_2 { Remembered s.now runs.new }
+    requires side { (Side of node) i 1 }
+    requires kept { (Kept of node) column i run }
+    requires remembered { Remembered node.image.now runs.old }
+    requires fits { Fits out.old at (row_bytes ((row_at depth of node) i)) }
+    ensures value { result ≡ at + length (row_bytes ((row_at depth of node.entry) i)) }
+    ensures out_after { out.new ≡ over out.old at (row_bytes ((row_at depth of node.entry) i)) }
+    ensures remembered_2 { Remembered node.entry.image.now runs.new }
 {
-    if is_null(s, node, i, depth) {
+    if is_null(node, i, depth) {
         return put_number(out, at, NULL, MARK_WIDTH);
     }
-    let v = value_at(s, node, column.offset + i, run);
-    let mut next = put_own(s, v, out, at);
-    let mut c: u32 = 0;
-    while c < v.parts {
-        next = write_rows(s, v.child + c, v.start, v.count, depth - 1, runs, out, next);
-        c += 1;
+    let v = value_at(node, column.offset + i, run);
+    let mut next = put_own(node.image, v, out, at);
+    for c in 0..v.parts {
+        let child = Node {
+            image: node.image,
+            number: v.child + c,
+        };
+        next = write_rows(child, v.start, v.count, depth - 1, runs, out, next);
     }
     next
 }
@@ -68,8 +71,7 @@ fn write_row(
 // run are the same row, whose bytes are put again.
 #[cycle(write_row_write_rows)]
 pub fn write_rows(
-    s: &[u8],
-    node: u32,
+    node: Node,
     i: usize,
     n: usize,
     depth: usize,
@@ -77,27 +79,27 @@ pub fn write_rows(
     out: &mut [u8],
     at: usize,
 ) -> usize
-    requires side { Side s.now node i n }
-    requires remembered { Remembered s.now runs.old }
-    requires fits { Fits out.old at (rows_bytes (range (row_at depth s.now node) i n)) }
-    ensures value { result ≡ at + length (rows_bytes (range (row_at depth s.now node) i n)) }
-    ensures out_after { out.new ≡ over out.old at (rows_bytes (range (row_at depth s.now node) i n)) }
-    ensures remembered_2 { Remembered s.now runs.new }
+    requires side { (Side of node) i n }
+    requires remembered { Remembered node.image.now runs.old }
+    requires fits { Fits out.old at (rows_bytes (range (row_at depth of node) i n)) }
+    ensures value { result ≡ at + length (rows_bytes (range (row_at depth of node.entry) i n)) }
+    ensures out_after { out.new ≡ over out.old at (rows_bytes (range (row_at depth of node.entry) i n)) }
+    ensures remembered_2 { Remembered node.entry.image.now runs.new }
 {
     if n == 0 {
         return at;
     }
-    let column = column_of(s, node);
-    let mut run = first_run(s, node, column, i, runs);
+    let column = column_of(node.image, node.number);
+    let mut run = first_run(node.image, node.number, column, i, runs);
     let mut next = at;
     let mut k: usize = 0;
     while k < n {
-        let stay = stay_of(s, node, column, i + k, n - k, run);
-        let end = write_row(s, node, column, i + k, run, depth, runs, out, next);
+        let stay = stay_of(node.image, node.number, column, i + k, n - k, run);
+        let end = write_row(node, column, i + k, run, depth, runs, out, next);
         next = put_times(out, end, end - next, stay.rows - 1);
         run = stay.next;
         k += stay.rows;
     }
-    remember(node, column, i + k, run, runs);
+    remember(node.number, column, i + k, run, runs);
     next
 }

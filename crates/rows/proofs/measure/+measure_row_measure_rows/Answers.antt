@@ -35,9 +35,6 @@ measure_row-returns-in_err-left t c = record { value = c.from_residual.ensures â
 pub measure_row-loop-c-init : goal.measure_row-loop-c-init
 measure_row-loop-c-init t c = ((value_of_lem _ c.requires.side c.is_null.ensures c.if-is_null.false c.requires.kept.column.offset c.value_at-v.ensures), (measuring_start _ _ _, c.requires.remembered))
 
-pub measure_row-overflow_add-v-in-loop-c : goal.measure_row-overflow_add-v-in-loop-c
-measure_row-overflow_add-v-in-loop-c t c = omega (arith, c.loop-c.invariant.0.placed.few, c.loop-c-test.true)
-
 pub measure_row-overflow_sub-depth : goal.measure_row-overflow_sub-depth
 measure_row-overflow_sub-depth t c = omega (arith, c.loop-c.invariant.0.deep)
 

@@ -1,15 +1,11 @@
 -- `dense_value` gives the id and the row of the child that it names, at the stored offset.
 -- The id of a row names a child.
-use native.Mathlib.Omega.{arith}
-use Rattle.accepted.proofs.Nodes.{dense_offset_read, part_small}
+use Rattle.accepted.proofs.Nodes.{dense_offset_read}
 use Rattle.accepted.proofs.ChildRows.{dense_known}
 use Rattle.rows.proofs.value.dense_value.Goals as goal
-
-pub nth-requires : goal.nth-requires
-nth-requires c = record { near = omega (arith, c.buffer_place.ensures.small); narrow = omega arith; few = omega (arith, part_small c.requires.part) }
 
 pub union_value-requires : goal.union_value-requires
 union_value-requires c = record { part = c.requires.part; id_known = dense_known c.requires.part c.requires.node_value }
 
 pub returns : goal.returns
-returns c = rw (← dense_offset_read _ _ _ c.buffer_place.ensures c.nth.ensures) c.union_value.ensures
+returns c = rw (← dense_offset_read _ _ _ c.buffer_place.ensures c.le.ensures) c.union_value.ensures

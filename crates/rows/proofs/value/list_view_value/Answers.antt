@@ -7,12 +7,12 @@ use Rattle.rows.proofs.value.list_view_value.Goals as goal
 pub offset_at-from-requires : goal.offset_at-from-requires
 offset_at-from-requires c = ((part_node c.requires.part).widths.list_view c.requires.node_value, omega (arith, part_small c.requires.part))
 
-pub nth-count-requires : goal.nth-count-requires
-nth-count-requires c = record {
+pub at-count-requires : goal.at-count-requires
+at-count-requires c = record {
   near = omega (arith, c.buffer_place.ensures.small);
   narrow = omega (arith, c.element_width.ensures, (part_node c.requires.part).widths.list_view c.requires.node_value);
   few = omega (arith, part_small c.requires.part);
 }
 
 pub returns : goal.returns
-returns c = rw (c.nested.ensures, c.offset_at-from.ensures, size_read _ _ _ c.element_width.ensures c.buffer_place.ensures c.nth-count.ensures, c.first_child.ensures.value)
+returns c = rw (c.nested.ensures, c.offset_at-from.ensures, size_read _ _ _ c.element_width.ensures c.buffer_place.ensures c.at-count.ensures, c.first_child.ensures.value)

@@ -73,5 +73,5 @@ returns-in-Dictionary c = rw (layout_is c.code.ensures c.layout-layout.ensures (
 
 pub returns-in-Runs : goal.returns-in-Runs
 returns-in-Runs c =
-    let runs : layout_of (code_of c.args.s.now c.args.node) ≡ Runs = layout_is c.code.ensures c.layout-layout.ensures (sym c.in-Runs.is) in
+    let runs : layout_of (code_of c.args.node.image.now c.args.node.number) ≡ Runs = layout_is c.code.ensures c.layout-layout.ensures (sym c.in-Runs.is) in
     rw (runs, ← kept_run_lem _ _ _ (layout_runs _ _ runs), ← c.requires.run_value) c.run_value.ensures

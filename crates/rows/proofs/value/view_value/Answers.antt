@@ -12,9 +12,9 @@ overflow_mul-view c = omega (arith, part_small c.requires.part)
 pub overflow_add-view : goal.overflow_add-view
 overflow_add-view c = omega (arith, part_small c.requires.part, c.buffer_place.ensures.small)
 
-pub data_place-requires : goal.data_place-requires
-data_place-requires c = viewed c.requires.part c.requires.node_value c.buffer_place.ensures.value c.le32-size.ensures.value
+pub view_bytes-requires : goal.view_bytes-requires
+view_bytes-requires c = viewed c.requires.part c.requires.node_value c.buffer_place.ensures.value c.le-size.ensures.value
 
 pub returns : goal.returns
 unfolding view_length
-returns c = rw (c.leaf.ensures, c.data_place.ensures.place, c.le32-size.ensures.value, view_place_lem c.requires.part c.requires.node_value c.buffer_place.ensures.value)
+returns c = rw (c.leaf.ensures, c.view_bytes.ensures.place, c.le-size.ensures.value, view_place_lem c.requires.part c.requires.node_value c.buffer_place.ensures.value)

@@ -31,17 +31,11 @@ write_row-put_own-next-requires t c = record { size_in_bounds = (value_of_lem _ 
 pub write_row-loop-c-init : goal.write_row-loop-c-init
 write_row-loop-c-init t c = ((value_of_lem _ c.requires.side c.is_null.ensures c.if-is_null.false c.requires.kept.column.offset c.value_at-v.ensures), (pieces_from (value_put (value_of_lem _ c.requires.side c.is_null.ensures c.if-is_null.false c.requires.kept.column.offset c.value_at-v.ensures) c.requires.fits c.put_own-next.ensures.out_after c.put_own-next.ensures.value), c.requires.remembered))
 
-pub write_row-overflow_add-v : goal.write_row-overflow_add-v
-write_row-overflow_add-v t c = omega (arith, c.loop-c.invariant.0.placed.few, c.loop-c-test.true)
-
 pub write_row-overflow_sub-depth : goal.write_row-overflow_sub-depth
 write_row-overflow_sub-depth t c = omega (arith, c.loop-c.invariant.0.deep)
 
 pub write_row-write_rows-next-requires : goal.write_row-write_rows-next-requires
 write_row-write_rows-next-requires t c = (omega (arith, c.decreases, c.loop-c.invariant.0.deep), (c.loop-c.invariant.0.placed.parts c.loop-c.c c.loop-c-test.true, (c.loop-c.invariant.1.1, pieces_fit c.loop-c.invariant.1.0 c.loop-c-test.true)))
-
-pub write_row-overflow_add-c : goal.write_row-overflow_add-c
-write_row-overflow_add-c t c = omega (arith, c.loop-c.invariant.0.placed.few, c.loop-c-test.true)
 
 pub write_row-loop-c-preserved : goal.write_row-loop-c-preserved
 write_row-loop-c-preserved t c = (c.loop-c.invariant.0, (pieces_more c.loop-c.invariant.1.0 c.loop-c-test.true c.write_rows-next.ensures.out_after c.write_rows-next.ensures.value, c.write_rows-next.ensures.remembered_2))
