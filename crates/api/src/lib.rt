@@ -14,7 +14,7 @@ use builder::is_readable;
 use digits::{digits_equal, not_digits};
 use equal::rows_equal;
 use image::answer::{Fault, Side};
-use image::record::{MAX_DEPTH, Node, length};
+use image::record::{MAX_DEPTH, Node};
 use names::maps_named;
 use rows::measure::measure_rows;
 use rows::write::write_rows;
@@ -37,7 +37,11 @@ fn compare_accepted(left: &[u8], right: &[u8]) -> bool
     if !base_equal(left, right) {
         return false;
     }
-    let rows = length(left, 0);
+    let rows = Node {
+        image: left,
+        number: 0,
+    }
+    .length();
     let whole = Rows {
         left: 0,
         right: 0,
@@ -101,7 +105,7 @@ fn paired(left: &[u8], right: &[u8]) -> Result<(), RangeRefusal>
 fn out_of_range(image: &[u8], start: usize, count: usize) -> bool
     ensures { result ≡ exceeds image.now start count }
 {
-    let rows = length(image, 0);
+    let rows = Node { image, number: 0 }.length();
     if rows < start {
         return true;
     }

@@ -3,7 +3,7 @@ ghost use Rattle.std.specs.Prelude.{◌≡◌};
 ghost use Rattle.session.specs.Frames.{of_length, side_in, piece_frame, close_frame, compare_frame, range_frame, write_frame, empty_frame, frame_of};
 
 use image::answer::Side;
-use image::bytes::{byte, le32};
+use image::bytes::{byte, le};
 
 #[derive(Clone, Copy, Debug, PartialEq, Eq)]
 pub enum Frame {
@@ -80,7 +80,7 @@ fn range_frame(frame: &[u8]) -> Result<Frame, FrameFault>
     ensures { result ≡ range_frame frame.now }
 {
     of_length(frame, 13)?;
-    Ok(Frame::CompareRange(le32(frame, 1), le32(frame, 5), le32(frame, 9)))
+    Ok(Frame::CompareRange(le::<4>(frame, 1), le::<4>(frame, 5), le::<4>(frame, 9)))
 }
 
 // "06 side, u32 start, u32 count, write"
@@ -89,7 +89,7 @@ fn write_frame(frame: &[u8]) -> Result<Frame, FrameFault>
 {
     of_length(frame, 10)?;
     let side = side_in(frame)?;
-    Ok(Frame::Write(side, le32(frame, 2), le32(frame, 6)))
+    Ok(Frame::Write(side, le::<4>(frame, 2), le::<4>(frame, 6)))
 }
 
 // "07 side, empty and open"

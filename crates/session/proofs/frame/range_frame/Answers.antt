@@ -12,4 +12,4 @@ returns-in_err-of_length c =
 
 pub returns : goal.returns
 unfolding range_frame
-returns c = rw (← c.of_length.ensures, c.in_ok-of_length.was, ← c.le32.ensures.value, ← c.le32-2.ensures.value, ← c.le32-3.ensures.value)
+returns c = rw (← c.of_length.ensures, c.in_ok-of_length.was, ← c.le.ensures.value, ← c.le-2.ensures.value, ← c.le-3.ensures.value)

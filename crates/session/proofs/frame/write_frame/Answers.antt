@@ -18,4 +18,4 @@ returns-in_err-side c =
 
 pub returns : goal.returns
 unfolding write_frame
-returns c = rw (← c.of_length.ensures, c.in_ok-of_length.was, ← c.side_in.ensures, c.in_ok-side.was, ← c.le32.ensures.value, ← c.le32-2.ensures.value)
+returns c = rw (← c.of_length.ensures, c.in_ok-of_length.was, ← c.side_in.ensures, c.in_ok-side.was, ← c.le.ensures.value, ← c.le-2.ensures.value)
