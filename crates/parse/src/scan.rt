@@ -3,6 +3,7 @@
 ghost use Rattle.std.specs.Prelude.{◌≡◌, suc, option_copied};
 ghost use Rattle.image.specs.Of.{◌of◌};
 ghost use Rattle.image.specs.declared.type_code.Layout.TheVariants.{List as Lists};
+ghost use Rattle.image.specs.Reads.{Read};
 ghost use Rattle.image.specs.Record.{code_of, first_child};
 ghost use Rattle.image.specs.TypeCode.{layout_of};
 ghost use Rattle.image.specs.Parse.{rows_of, row_in};
@@ -52,21 +53,22 @@ fn scan_value<'a>(node: Node, depth: usize, text: &'a [u8], spans: &mut [usize])
     if TypeCode::INT8 <= code && code <= TypeCode::INTERVAL_MONTH_DAY_NANO {
         return scan_bytes(text, node.element_width());
     }
-    scan_by_layout(node, depth, text, spans)
+    scan_by_layout(node, code, depth, text, spans)
 }
 
-// The same for any layout. It is a call of its own: the loops over rows are slower where all of it is part of them.
+// The same for any layout, of a node of that code. It is a call of its own: the loops over rows are slower where all of it is part of them.
 #[cycle(rows)]
 fn scan_by_layout<'a>(
     node: Node,
+    code: u8,
     depth: usize,
     text: &'a [u8],
     spans: &mut [usize],
 ) -> Option<&'a [u8]>
-    requires { (Within of node) × Begun text.now spans.old }
+    requires within { (Within of node) × Begun text.now spans.old }
+    requires code_value { Read (code_of of node) 8 code }
     ensures { Scans text.now 0 ((value_of depth of node.entry) text.now) (row_adds (suc depth) of node.entry) spans.old spans.new (option_copied result) }
 {
-    let code = node.code();
     match TypeCode::layout(code) {
         Layout::Null => Some(text),
         Layout::Boolean => scan_boolean(text),

@@ -39,32 +39,35 @@ scan_row-returns t c = row_null _ _ _ _ c.if-depth-eq0.false c.in_ok-mark.ensure
 pub scan_value-returns-then-code-le-INTERVAL_MONTH_DAY_NANO : goal.scan_value-returns-then-code-le-INTERVAL_MONTH_DAY_NANO
 scan_value-returns-then-code-le-INTERVAL_MONTH_DAY_NANO t c = bytes_value _ _ _ _ _ _ (fixed_codes c.code-code.ensures c.if-code-ge-INT8.true c.if-code-le-INTERVAL_MONTH_DAY_NANO.true) c.element_width.ensures c.scan_bytes.ensures
 
+pub scan_value-scan_by_layout-requires : goal.scan_value-scan_by_layout-requires
+scan_value-scan_by_layout-requires t c = (omega (arith, c.decreases), ((c.requires.0, c.requires.1), c.code-code.ensures))
+
 pub scan_by_layout-returns-in-Null : goal.scan_by_layout-returns-in-Null
-scan_by_layout-returns-in-Null t c = null_value _ _ _ _ _ (layout_told c.code-code.ensures c.layout.ensures c.in-Null.is)
+scan_by_layout-returns-in-Null t c = null_value _ _ _ _ _ (layout_told c.requires.code_value c.layout.ensures c.in-Null.is)
 
 pub scan_by_layout-returns-in-Boolean : goal.scan_by_layout-returns-in-Boolean
-scan_by_layout-returns-in-Boolean t c = boolean_value _ _ _ _ _ (layout_told c.code-code.ensures c.layout.ensures c.in-Boolean.is) c.scan_boolean.ensures
+scan_by_layout-returns-in-Boolean t c = boolean_value _ _ _ _ _ (layout_told c.requires.code_value c.layout.ensures c.in-Boolean.is) c.scan_boolean.ensures
 
 pub scan_by_layout-returns-in-FixedWidth : goal.scan_by_layout-returns-in-FixedWidth
-scan_by_layout-returns-in-FixedWidth t c = bytes_value _ _ _ _ _ _ (layout_told c.code-code.ensures c.layout.ensures c.in-FixedWidth.is) c.element_width.ensures c.scan_bytes.ensures
+scan_by_layout-returns-in-FixedWidth t c = bytes_value _ _ _ _ _ _ (layout_told c.requires.code_value c.layout.ensures c.in-FixedWidth.is) c.element_width.ensures c.scan_bytes.ensures
 
 pub scan_by_layout-scan_text-requires : goal.scan_by_layout-scan_text-requires
-scan_by_layout-scan_text-requires t c = (c.requires.1, node_few c.requires.0)
+scan_by_layout-scan_text-requires t c = (c.requires.within.1, node_few c.requires.within.0)
 
 pub scan_by_layout-returns-in-VariableSize : goal.scan_by_layout-returns-in-VariableSize
-scan_by_layout-returns-in-VariableSize t c = text_value _ _ _ _ c.code-code.ensures (layout_told c.code-code.ensures c.layout.ensures c.in-VariableSize.is) c.scan_text.ensures
+scan_by_layout-returns-in-VariableSize t c = text_value _ _ _ _ c.requires.code_value (layout_told c.requires.code_value c.layout.ensures c.in-VariableSize.is) c.scan_text.ensures
 
 pub scan_by_layout-scan_list-requires : goal.scan_by_layout-scan_list-requires
-scan_by_layout-scan_list-requires t c = (omega (arith, c.decreases), ((c.requires.0, c.requires.1), layout_told c.code-code.ensures c.layout.ensures c.in-List.is))
+scan_by_layout-scan_list-requires t c = (omega (arith, c.decreases), ((c.requires.within.0, c.requires.within.1), layout_told c.requires.code_value c.layout.ensures c.in-List.is))
 
 pub scan_by_layout-returns-in-List : goal.scan_by_layout-returns-in-List
-scan_by_layout-returns-in-List t c = list_value _ _ _ _ (layout_told c.code-code.ensures c.layout.ensures c.in-List.is) c.scan_list.ensures
+scan_by_layout-returns-in-List t c = list_value _ _ _ _ (layout_told c.requires.code_value c.layout.ensures c.in-List.is) c.scan_list.ensures
 
 pub scan_by_layout-returns-in-Struct : goal.scan_by_layout-returns-in-Struct
-scan_by_layout-returns-in-Struct t c = struct_value _ _ _ _ (layout_told c.code-code.ensures c.layout.ensures c.in-Struct.is) c.scan_struct.ensures
+scan_by_layout-returns-in-Struct t c = struct_value _ _ _ _ (layout_told c.requires.code_value c.layout.ensures c.in-Struct.is) c.scan_struct.ensures
 
 pub scan_by_layout-returns-in_default : goal.scan_by_layout-returns-in_default
-scan_by_layout-returns-in_default t c = other_value _ _ _ _ _ _ (layout_is c.code-code.ensures c.layout.ensures) (opened c.in_default.in_default-own.keys7)
+scan_by_layout-returns-in_default t c = other_value _ _ _ _ _ _ (layout_is c.requires.code_value c.layout.ensures) (opened c.in_default.in_default-own.keys7)
 
 pub scan_list-returns-in_err-n : goal.scan_list-returns-in_err-n
 scan_list-returns-in_err-n t c = rw c.from_residual.ensures (list_none _ _ _ _ c.in_err-n.ensures)
