@@ -386,7 +386,7 @@ dictionary::long_equal-returns t c = rows_done c.loop-row.invariant.1 c.loop-row
 pub dictionary::long_equal-loop-row-preserved : goal.dictionary::long_equal-loop-row-preserved
 dictionary::long_equal-loop-row-preserved t c =
     elim c.if-kept-place.branch [
-      dictionary::long_equal-then-kept-place+else-not-equal_row w ↦
+      | dictionary::long_equal-then-kept-place+else-not-equal_row w ↦
           let same = rw c.child-child.ensures.same at w.equal_row.ensures in
           rw w.kept-is
           (kept_more c.loop-row.invariant.0 _ _ (omega (arith, key_small c.requires.parts c.requires.layout c.loop-row.row c.loop-row-test.true (add-zero _) (add-zero _) (element_read _ _ _ c.element_width-width.ensures c.buffer_place.ensures c.at-x.ensures) (element_read _ _ _ (c.element_width-width.ensures ∙ widths_same c.requires.parts) c.buffer_place-2.ensures c.at-y.ensures))) (sym (one_row _ _ _ _) ∙ sym same ∙ w.if-not-equal_row.false), rows_more c.loop-row.invariant.1 c.loop-row-test.true (sym (key_answer c.requires.parts c.requires.layout c.loop-row.row c.loop-row-test.true (add-zero _) (add-zero _) (element_read _ _ _ c.element_width-width.ensures c.buffer_place.ensures c.at-x.ensures) (element_read _ _ _ (c.element_width-width.ensures ∙ widths_same c.requires.parts) c.buffer_place-2.ensures c.at-y.ensures)) ∙ sym same ∙ w.if-not-equal_row.false))

@@ -6,7 +6,7 @@ use native.Mathlib.Omega.{arith}
 use Rattle.accepted.proofs.runs.run_of.Goals as goal
 
 pub loop-low-init : goal.loop-low-init
-loop-low-init c = 
+loop-low-init c =
     let length = rw c.child.ensures.image at c.length-high.ensures in
     bisect_start c.requires c.child.ensures.number length
 

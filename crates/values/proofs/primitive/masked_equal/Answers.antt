@@ -24,18 +24,18 @@ pub chunk_equal-requires-2 : goal.chunk_equal-requires-2
 chunk_equal-requires-2 c = rw c.part-2.ensures (masked_part c.requires _ _ (omega arith))
 
 pub returns-then-not-chunk_equal : goal.returns-then-not-chunk_equal
-returns-then-not-chunk_equal c = 
+returns-then-not-chunk_equal c =
     let same = rw c.part.ensures at c.chunk_equal.ensures in
     jump_fails _ _ _ _ _ 1024 (omega (arith, c.loop-h-test.true)) c.loop-h.invariant (by_rows _ _ _ _ _ ∙ sym same ∙ c.if-not-chunk_equal.true) ∙ by_rows _ _ _ _ _
 
 pub loop-h-preserved : goal.loop-h-preserved
-loop-h-preserved c = 
+loop-h-preserved c =
     let same = rw c.part.ensures at c.chunk_equal.ensures in
     let next : 1024 * (c.loop-h.h + 1) ≡ 1024 * c.loop-h.h + 1024 = omega arith in
     rw next (left_jump _ _ _ _ _ 1024 (omega (arith, c.loop-h-test.true)) (omega (arith, c.loop-h-test.true)) c.loop-h.invariant (by_rows _ _ _ _ _ ∙ sym same ∙ c.if-not-chunk_equal.false))
 
 pub returns : goal.returns
-returns c = 
+returns c =
     let all_blocks : c.loop-h.h ≡ c.args.rows.count / 1024 = omega (arith, c.loop-h-test.false, c.loop-h.auto.h-end) in
     let last = rw all_blocks at c.loop-h.invariant in
     let same = rw c.part-2.ensures at c.chunk_equal-2.ensures in

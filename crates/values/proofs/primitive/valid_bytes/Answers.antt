@@ -20,7 +20,7 @@ pub loop-h-preserved : goal.loop-h-preserved
 loop-h-preserved c =
     left_more _ _ _ _ _ c.loop-h-test.true c.loop-h.invariant
     (elim c.if-bits-h-eq1.branch [
-      then-bits-h-eq1+else-ne w ↦ rw zero-add (by_its_bytes _ _ _ _ _ w.if-bits-h-eq1.true (part_test _ _ _ _ _ c.loop-h-test.true c.requires.1 c.requires.2) ∙ not-false _ (sym w.if-ne.ensures))
+      | then-bits-h-eq1+else-ne w ↦ rw zero-add (by_its_bytes _ _ _ _ _ w.if-bits-h-eq1.true (part_test _ _ _ _ _ c.loop-h-test.true c.requires.1 c.requires.2) ∙ not-false _ (sym w.if-ne.ensures))
       | else-bits-h-eq1 w ↦ rw zero-add (passed_over _ _ _ _ _ w.if-bits-h-eq1.false)
     ])
 

@@ -37,6 +37,6 @@ pub valid_equal-requires : goal.valid_equal-requires
 valid_equal-requires c = (c.requires.masked.0, rw (part_length _ _ _ (left_inside c.requires.masked.1 c.requires.columns)) (omega arith), rw (part_length _ _ _ (right_inside c.requires.masked.1 c.requires.columns)) (omega arith))
 
 pub returns : goal.returns
-returns c = 
+returns c =
     let same = rw (part_bytes _ _ _ (left_inside c.requires.masked.1 c.requires.columns), part_bytes _ _ _ (right_inside c.requires.masked.1 c.requires.columns)) at c.valid_equal.ensures in
     same ∙ word_rows c.requires.masked.1 c.requires.columns c.requires.bits.is_there c.requires.bits.word c.requires.masked.0

@@ -34,18 +34,18 @@ pub word_equal-requires-2 : goal.word_equal-requires-2
 word_equal-requires-2 c = rw c.part-2.ensures (record { masked = (omega arith, masked_part c.requires.masked _ _ (omega arith)); columns = c.columns_of-columns.ensures; bits = mask_word c.args.pair.left _ _ c.requires.mask c.word-2.ensures })
 
 pub returns-then-not-word_equal : goal.returns-then-not-word_equal
-returns-then-not-word_equal c = 
+returns-then-not-word_equal c =
     let same = rw c.part.ensures at c.word_equal.ensures in
     jump_fails _ _ _ _ _ 64 (omega (arith, c.loop-h-test.true)) c.loop-h.invariant (by_rows _ _ _ _ _ ∙ sym same ∙ c.if-not-word_equal.true) ∙ by_rows _ _ _ _ _
 
 pub loop-h-preserved : goal.loop-h-preserved
-loop-h-preserved c = 
+loop-h-preserved c =
     let same = rw c.part.ensures at c.word_equal.ensures in
     let next : 64 * (c.loop-h.h + 1) ≡ 64 * c.loop-h.h + 64 = omega arith in
     rw next (left_jump _ _ _ _ _ 64 (omega (arith, c.loop-h-test.true)) (omega (arith, c.loop-h-test.true)) c.loop-h.invariant (by_rows _ _ _ _ _ ∙ sym same ∙ c.if-not-word_equal.false))
 
 pub returns : goal.returns
-returns c = 
+returns c =
     let all_blocks : c.loop-h.h ≡ c.args.rows.count / 64 = omega (arith, c.loop-h-test.false, c.loop-h.auto.h-end) in
     let last = rw all_blocks at c.loop-h.invariant in
     let same = rw c.part-2.ensures at c.word_equal-2.ensures in
