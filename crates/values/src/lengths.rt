@@ -47,7 +47,7 @@ fn distance_block<const W: usize>(left: Offsets, right: Offsets, k: usize, n: us
     same
 }
 
-// The same of any n, block by block.
+// The same of any n, block by block. What is left is said by a remainder, whose bound the compiler sees.
 fn distances_equal<const W: usize>(left: Offsets, right: Offsets, n: usize) -> bool
     requires { AboveOf W left 0 n × AboveOf W right 0 n }
     ensures { result ≡ same_distances W left.entry right.entry 0 n }
@@ -58,7 +58,7 @@ fn distances_equal<const W: usize>(left: Offsets, right: Offsets, n: usize) -> b
         }
     }
     let k = 64 * (n / BLOCK);
-    distance_block::<W>(left, right, k, n - k)
+    distance_block::<W>(left, right, k, n % BLOCK)
 }
 
 // The texts or lists at the elements of two ranges are equally long, in turn. Where the offsets are the same, so are the

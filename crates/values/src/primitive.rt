@@ -61,13 +61,14 @@ fn block_equal(pair: Pair, rows: Rows) -> bool
     elements_equal(pair, elements)
 }
 
-// Of n elements of W bytes, at most 64, those whose bit is set are the same. There is no way out of the loop.
+// Of n elements of W bytes, at most 64, those whose bit is set are the same. There is no way out of the loop, and its end is
+// said to be at most 64 for the compiler, which then compares more of them at once.
 fn valid_same<const W: usize>(x: &[u8], y: &[u8], bits: usize, n: usize) -> bool
     requires { (W ≤ 16) × (n ≤ 64) × (n * W ≤ length x.now) × (n * W ≤ length y.now) }
     ensures { result ≡ all (valid_same bits x.now y.now W) 0 0 n }
 {
     let mut same = true;
-    for h in 0..n {
+    for h in 0..n.min(WORD) {
         let null = (bits >> h) % 2 != 1;
         same = same & (null | number_same::<W>(x, y, h * W, h * W));
     }

@@ -3,7 +3,7 @@
 use Rattle.values.proofs.Distances.{above_ahead}
 use Rattle.values.proofs.Steps.{left_none, left_jump, jump_fails, left_rest}
 use mathlib.Core.Path.{◌≡◌, sym, ◌∙◌}
-use Prim.Native.Nat.{◌+◌, ◌*◌, ◌/◌}
+use Prim.Native.Nat.{◌+◌, ◌-◌, ◌*◌, ◌/◌, ◌%◌}
 use native.Mathlib.Nat.{add-zero}
 use native.Mathlib.Omega.{arith}
 use Rattle.values.proofs.lengths.distances_equal.Goals as goal
@@ -35,4 +35,5 @@ pub returns : goal.returns
 returns g c =
     let all_blocks : c.loop-h.h ≡ c.args.n / 64 = omega (arith, c.loop-h-test.false, c.loop-h.auto.h-end) in
     let last = rw all_blocks at c.loop-h.invariant in
-    rw (add-zero, add-zero) (left_rest _ _ _ _ _ last c.distance_block-2.ensures)
+    let rest : c.args.n % 64 ≡ c.args.n - 64 * (c.args.n / 64) = omega arith in
+    rw (add-zero, add-zero) (left_rest _ _ _ _ _ last (rw rest at c.distance_block-2.ensures))
