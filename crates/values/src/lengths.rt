@@ -47,7 +47,7 @@ fn distance_block<const W: usize>(left: Offsets, right: Offsets, k: usize, n: us
     same
 }
 
-// The same of any n, block by block. What is left is said by a remainder, whose bound the compiler sees.
+// The same of any n, block by block.
 fn distances_equal<const W: usize>(left: Offsets, right: Offsets, n: usize) -> bool
     requires { AboveOf W left 0 n × AboveOf W right 0 n }
     ensures { result ≡ same_distances W left.entry right.entry 0 n }
