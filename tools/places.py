@@ -3,8 +3,10 @@
 
     python3 tools/places.py POINT [FOLDER]
 
-POINT is 1 to 8, FOLDER the top of a checkout, by default this one. The last line has the count. What a point looks for is said
-in words beside its function; a place that it finds need not be wrong, and the page says which are kept and why.
+POINT is 1 to 8, FOLDER the top of a checkout, by default this one. What a point looks for is said in words beside its
+function. A place that stays as it is has a comment with 'Kept:' beside it that says why: in its line, in the comment over it,
+over the function, type or impl that it stands in, or at the head of the file where it holds for all of it. A place without one
+is still to do. The last line has the count, and how many have a reason.
 """
 import glob
 import os
@@ -39,6 +41,34 @@ def functions(text):
         indent = re.compile(r' *').match(text, text.rindex('\n', 0, m.start()) + 1)[0]
         end = text.index('\n' + indent + '}', body.end())
         yield m[1], params, text[body.end():end], m.start()
+
+
+def comment_over(lines, n):
+    """The comment that ends right over line n, counted from 0."""
+    top = n
+    while top and lines[top - 1].strip().startswith(('//', '#[')):
+        top -= 1
+    return lines[top:n]
+
+
+def is_kept(path, line):
+    with open(os.path.join(TOP, path)) as f:
+        lines = f.read().split('\n')
+    n = line - 1
+    beside = [lines[n]] + comment_over(lines, n)
+    head = 0
+    while lines[head].startswith('//'):
+        head += 1
+    beside += lines[:head]
+    depth = len(lines[n]) - len(lines[n].lstrip())
+    for k in range(n - 1, -1, -1):
+        indent = len(lines[k]) - len(lines[k].lstrip())
+        if lines[k].strip() and indent < depth and not lines[k].strip().startswith(('//', ')', '}', 'requires', 'ensures', '{')):
+            beside += comment_over(lines, k)
+            depth = indent
+        if not depth:
+            break
+    return any('Kept:' in b for b in beside)
 
 
 FOUND = 'Accepted|Yes|Agreed|Within|Nowhere|Bytes|Left|Done|Compare|Fits'
@@ -167,10 +197,14 @@ def main():
     if sys.argv[1] == '8':
         for crate in sorted({p for p, _, _ in places}):
             print(crate, sum(1 for p, _, _ in places if p == crate))
-    else:
-        for path, line, what in places:
-            print(f'{path}:{line}: {what}')
-    print(len(places))
+        print(len(places))
+        return
+    kept = 0
+    for path, line, what in places:
+        has = is_kept(path, line)
+        kept += has
+        print(f'{path}:{line}: {what}' + (', kept' if has else ''))
+    print(f'{len(places)}, {kept} kept with a reason')
 
 
 main()

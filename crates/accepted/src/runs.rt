@@ -7,6 +7,7 @@ ghost use Rattle.accepted.specs.Runs.{next_run};
 use image::record::Node;
 
 // The run that holds element j: the first whose end lies above it, found by bisection.
+// Kept: the library's `partition_point` takes a slice, and the ends are bytes of the image, of three widths.
 pub fn run_of(node: Node, j: usize) -> usize
     requires { RunPart node.image.now node.number j }
     ensures { result ≡ run_at node.entry.image.now node.entry.number j }

@@ -1,4 +1,5 @@
 // The numbers of an answer, and these as one number of 64 bits.
+// Kept: refusals are numbers here, since the papers number them and C hosts are given the numbers.
 ghost use Rattle.std.specs.Prelude.{◌≡◌, ℕ, ◌<◌, ◌^◌};
 ghost use Rattle.image.specs.declared.answer.Side.TheVariants.{Left};
 ghost use Rattle.answers.specs.declared.numbers.Numbers.{Numbers};
@@ -40,12 +41,14 @@ pub trait Found: Drop {
         ensures { result ≡ found_value self };
 }
 
+// Kept: as an `impl From<Side> for u8` it would have to stand in `image`, which knows nothing of what answers return.
 pub fn side_number(side: Side) -> u8
     ensures { result ≡ side_number side }
 {
     side as u8
 }
 
+// Kept: it spares each of the answers below a line for each of the four.
 fn numbers_of(number: u8, side: u8, node: u16, value: usize) -> Numbers
     ensures { result ≡ numbers number side node value }
 {

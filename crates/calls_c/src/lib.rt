@@ -26,6 +26,7 @@ pub extern "C" fn editions_compare_range(
 }
 
 // The first of these rows that is not equal.
+// Kept: C calls each of these by a name of its own, with arguments of C's types.
 #[unsafe(no_mangle)]
 pub extern "C" fn editions_first_difference(
     left: &[u8],

@@ -8,6 +8,7 @@ pub enum Side {
 }
 
 // A fault of an image: its number, 10 to 19, and the node that has it.
+// Kept: the papers have no names for the faults, only numbers, in whose order they are looked for.
 #[derive(Clone, Copy, Debug, PartialEq, Eq)]
 pub struct Fault {
     pub number: u8,

@@ -84,6 +84,7 @@ pub fn le<const W: usize>(s: &[u8], i: usize) -> usize
 }
 
 // The same, of w bytes.
+// Kept: the width is read from an image, and these two are the ones that most columns have; any other is read as well.
 pub fn number(s: &[u8], i: usize, w: usize) -> usize
     requires { w ≤ 8 }
     ensures { Read (number_at w s.now i) (8 * w) result }
@@ -96,6 +97,7 @@ pub fn number(s: &[u8], i: usize, w: usize) -> usize
 }
 
 // Bit j of the bits that start at a place.
+// Kept: a slice from the place on is none where the place lies past the end, where bits read as 0.
 pub fn bit(s: &[u8], place: usize, j: usize) -> bool
     ensures { result ≡ bit_at s.now place j }
 {

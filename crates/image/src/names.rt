@@ -9,7 +9,8 @@ use crate::record::Node;
 
 impl Node<'_> {
     // The name of the node is the n bytes at a place of another slice. Neither has to lie inside: what is past the end
-    // reads as 0, so that there may be no slice of them to compare.
+    // reads as 0.
+    // Kept: so there may be no slice of these bytes to compare.
     pub fn name_is(self, other: &[u8], at: usize, n: usize) -> bool
         requires { at < 2 ^ 32 }
         ensures { result ≡ same_bytes (name_of of self.entry) (bytes_at other.now at n) }

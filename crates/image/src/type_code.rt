@@ -268,10 +268,10 @@ impl TypeCode {
         ensures { result ≡ takes_bitmap (layout_of code) }
     {
         let layout = TypeCode::layout(code);
-        match layout {
-            Layout::Null | Layout::DenseUnion | Layout::SparseUnion | Layout::Runs => false,
-            _ => true,
-        }
+        !matches!(
+            layout,
+            Layout::Null | Layout::DenseUnion | Layout::SparseUnion | Layout::Runs
+        )
     }
 
     // Whether p1 lies in the code's range: a precision, a unit, a width, a count of rows, a key code, or 0 where unused.

@@ -18,6 +18,7 @@ const MARK_WIDTH: usize = 1;
 
 const NULL: usize = 0;
 
+// Kept: it is a byte that the row rule has written, and stands for no missing number.
 const NOT_NULL: usize = 1;
 
 // What a value has before its child rows, put at a place of the buffer; the answer is the place after it.
@@ -68,6 +69,7 @@ fn write_row(
 
 // n rows of a node from row i on, put at a place of the buffer; the answer is the place after them. The rows of one
 // run are the same row, whose bytes are put again.
+// Kept: the loop goes on by as many rows as are in a run.
 #[cycle(write_row_write_rows)]
 pub fn write_rows(
     node: Node,
