@@ -5,7 +5,7 @@ ghost use Rattle.image.specs.Row.{dense_row, sparse_row};
 ghost use Rattle.values.specs.Pair.{equal_rows, nested, PartsIn, NamedOf};
 
 use crate::{equal_range, structure};
-use image::bytes::{Numbers, byte};
+use image::bytes::byte;
 use values::pair::{Pair, Rows};
 
 // So many rows of a sparse union are at most compared as whole children at once, and so many at least.
@@ -32,16 +32,8 @@ pub fn dense(pair: Pair, rows: Rows, depth: usize) -> bool
     let (a, b) = (pair.left, pair.right);
     let ia = a.buffer_place(0);
     let ib = b.buffer_place(0);
-    let left = Numbers {
-        bytes: a.image,
-        place: a.buffer_place(1),
-        width: 4,
-    };
-    let right = Numbers {
-        bytes: b.image,
-        place: b.buffer_place(1),
-        width: 4,
-    };
+    let left = a.numbers(1, 4);
+    let right = b.numbers(1, 4);
     for k in 0..rows.count {
         let id = byte(a.image, ia + (rows.left + k));
         if id != byte(b.image, ib + (rows.right + k)) {
