@@ -23,16 +23,8 @@ fn dense_fault(node: Node) -> bool
     ensures { result ≡ any (dense_row_fault of node.entry) 0 (length_of of node.entry) }
 {
     let children = node.children_by_id();
-    let ids = Numbers {
-        bytes: node.image,
-        place: node.buffer_place(0),
-        width: 1,
-    };
-    let offsets = Numbers {
-        bytes: node.image,
-        place: node.buffer_place(1),
-        width: 4,
-    };
+    let ids = node.numbers(0, 1);
+    let offsets = node.numbers(1, 4);
     let from = node.offset();
     for i in 0..node.length() {
         let id = ids.inside(from + i);
@@ -56,11 +48,7 @@ fn sparse_fault(node: Node) -> bool
     ensures { result ≡ any (sparse_row_fault of node.entry) 0 (length_of of node.entry) }
 {
     let children = node.children_by_id();
-    let ids = Numbers {
-        bytes: node.image,
-        place: node.buffer_place(0),
-        width: 1,
-    };
+    let ids = node.numbers(0, 1);
     let from = node.offset();
     for i in 0..node.length() {
         let id = ids.inside(from + i);
