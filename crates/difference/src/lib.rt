@@ -23,6 +23,7 @@ fn first_unequal_row(a: &[u8], b: &[u8], rows: Rows) -> usize
     if null < rows.count {
         high = null + 1;
     }
+    // Kept: no `for`, since each turn halves what is left.
     while 1 < high - low {
         let middle = low + (high - low) / 2;
         if rows_equal(a, b, rows.part(low, middle - low)) {
@@ -49,6 +50,7 @@ pub fn first_difference(a: &[u8], b: &[u8], rows: Rows) -> usize
 {
     let n = rows.count;
     let mut k: usize = 0;
+    // Kept: no `for`, since the blocks grow.
     while k < n {
         let part = rows.part(k, block(k, n - k));
         if !rows_equal(a, b, part) {

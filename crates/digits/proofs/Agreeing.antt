@@ -32,7 +32,10 @@ use Rattle.values.proofs.Blocks.{all_at, all_weaker}
 use Rattle.values.proofs.MaskedRows.{mask_at, masked_ahead, masked_row_lem}
 use Rattle.values.proofs.Fixed.{masked_fixed}
 use Rattle.values.proofs.ValidElements.{left_inside, right_inside, place_of}
-use Rattle.digits.specs.Parts.{TwoNumbers, Numbers, Columned}
+use Rattle.values.specs.declared.pair.Pair.{Pair}
+use Rattle.values.specs.declared.pair.Rows.{Rows}
+use Rattle.values.specs.Pair.{Roots, part, one_row}
+use Rattle.digits.specs.Parts.{TwoNumbers, Numbers, Columned, NumbersOf}
 use Rattle.digits.proofs.Sizes.{agreed_at}
 
 -- a test of each k below n is one of the pairs in step
@@ -226,3 +229,13 @@ module _ (a : List ℕ) (d : ℕ) (fit : not_digits a d ≡ false) where
     rows = record { left = r.left; right = r.right; layout = decimal_layout; code = r.alike.0.code; p1 = r.alike.0.p1; masks = masks };
     width = decimal_width;
   }
+
+-- Two roots, and parts of their rows.
+pub row_of : {v : Pair} {r : Rows} {k : ℕ} → NumbersOf v r → k < r.count → NumbersOf v (one_row (r.left + k) (r.right + k))
+row_of n lt = record { left_root = n.left_root; right_root = n.right_root; numbers = numbers_row n.numbers lt }
+
+pub part_of : {v : Pair} {r : Rows} (k m : ℕ) → NumbersOf v r → k + m ≤ r.count → NumbersOf v (part r k m)
+part_of k m n le = record { left_root = n.left_root; right_root = n.right_root; numbers = numbers_ahead n.numbers (omega arith) (omega arith) }
+
+pub roots_of : {a b : List ℕ} {v : Pair} {r : Rows} → Roots a b v → Numbers a b r.left r.right r.count → NumbersOf v r
+roots_of roots n = record { left_root = roots.left_root; right_root = roots.right_root; numbers = rw (roots.left_image, roots.right_image) n }

@@ -1,10 +1,14 @@
 -- What the comparison at fewer digits asks of its callers.
-use Rattle.std.specs.Prelude.{◌≡◌, Option, List, ◌⊎◌, ℕ, ◌*◌, ◌≤◌, ◌<◌, ◌^◌}
+use Rattle.std.specs.Prelude.{◌≡◌, Bool, Option, List, ◌⊎◌, ℕ, ◌*◌, ◌≤◌, ◌<◌, ◌^◌}
 use Rattle.image.specs.declared.element.Bitmap.{Bitmap}
 use Rattle.image.specs.declared.type_code.Layout.TheVariants.{FixedWidth}
 use Rattle.image.specs.Element.{element_width}
 use Rattle.image.specs.Reads.{BitmapOf}
 use Rattle.values.specs.declared.leaf.Columns.{Columns}
+use Rattle.image.specs.Digits.{kept_agree}
+use Rattle.values.specs.declared.pair.Pair.{Pair}
+use Rattle.values.specs.declared.pair.Rows.{Rows}
+use Rattle.values.specs.Pairs.{all}
 use Rattle.values.specs.Parts.{Masked, ColumnsAt}
 
 -- a number that others are divided by: 1 to 10 to the 9
@@ -29,3 +33,15 @@ pub record Columned (a b : List ℕ) (v : Columns) (w : ℕ) (m : Option Bitmap)
   pub places : ColumnsAt a b 0 0 v
   pub width : w ≡ v.width
   pub mask : BitmapOf a 0 m
+
+-- the same of two roots, and whether their rows agree in turn once they are divided by p
+pub record NumbersOf (v : Pair) (r : Rows) : Type 0 where
+  pub left_root : v.left.number ≡ 0
+  pub right_root : v.right.number ≡ 0
+  pub numbers : Numbers v.left.image.now v.right.image.now r.left r.right r.count
+
+abbrev pub ColumnedOf : Pair → Columns → ℕ → Option Bitmap → Type 0
+ColumnedOf v columns w m = Columned v.left.image.now v.right.image.now columns w m
+
+abbrev pub agreed : ℕ → Pair → Rows → Bool
+agreed p v r = all (kept_agree p v.left.image.now v.right.image.now) r.left r.right r.count

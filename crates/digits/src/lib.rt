@@ -6,9 +6,9 @@ pub mod round;
 ghost use Rattle.std.specs.Prelude.{◌≡◌, false};
 ghost use Rattle.image.specs.Record.{max_depth};
 ghost use Rattle.image.specs.Digits.{kept_agree, digits_equal, not_digits};
-ghost use Rattle.values.specs.Pairs.{all};
+ghost use Rattle.values.specs.Pair.{one_row};
 ghost use Rattle.values.specs.Parts.{Sides};
-ghost use Rattle.digits.specs.Parts.{Power, Numbers, Columned};
+ghost use Rattle.digits.specs.Parts.{Power, NumbersOf, ColumnedOf, agreed};
 
 use crate::round::{numbers_agree, power_of};
 use image::bytes::load;
@@ -47,28 +47,23 @@ pub fn not_digits(image: &[u8], digits: usize) -> bool
 // Row i of the left column and row j of the right agree once they are divided by p. Both are null or neither is, so that
 // numbers that are the same agree without a look at the mask or a division.
 fn row_agrees<const W: usize>(
-    a: &[u8],
-    b: &[u8],
+    pair: Pair,
     columns: Columns,
     bitmap: Option<Bitmap>,
     i: usize,
     j: usize,
     p: usize,
 ) -> bool
-    requires numbers { Numbers a.now b.now i j 1 × Power p }
-    requires columned { Columned a.now b.now columns W bitmap }
-    ensures { result ≡ kept_agree p a.now b.now i j }
+    requires numbers { NumbersOf pair (one_row i j) × Power p }
+    requires columned { ColumnedOf pair columns W bitmap }
+    ensures { result ≡ kept_agree p pair.entry.left.image.now pair.entry.right.image.now i j }
 {
-    let x = load::<W>(a, columns.left + i * W);
-    let y = load::<W>(b, columns.right + j * W);
+    let x = load::<W>(pair.left.image, columns.left + i * W);
+    let y = load::<W>(pair.right.image, columns.right + j * W);
     if x == y {
         return true;
     }
-    let left = Node {
-        image: a,
-        number: 0,
-    };
-    if !left.is_kept(bitmap, i) {
+    if !pair.left.is_kept(bitmap, i) {
         return true;
     }
     numbers_agree(x, y, W, p)
@@ -76,19 +71,18 @@ fn row_agrees<const W: usize>(
 
 // Rows, one by one.
 fn rows_agree<const W: usize>(
-    a: &[u8],
-    b: &[u8],
+    pair: Pair,
     columns: Columns,
     bitmap: Option<Bitmap>,
     rows: Rows,
     p: usize,
 ) -> bool
-    requires numbers { Numbers a.now b.now rows.left rows.right rows.count × Power p }
-    requires columned { Columned a.now b.now columns W bitmap }
-    ensures { result ≡ all (kept_agree p a.now b.now) rows.left rows.right rows.count }
+    requires numbers { NumbersOf pair rows × Power p }
+    requires columned { ColumnedOf pair columns W bitmap }
+    ensures { result ≡ agreed p pair.entry rows }
 {
     for k in 0..rows.count {
-        if !row_agrees::<W>(a, b, columns, bitmap, rows.left + k, rows.right + k, p) {
+        if !row_agrees::<W>(pair, columns, bitmap, rows.left + k, rows.right + k, p) {
             return false;
         }
     }
@@ -96,20 +90,19 @@ fn rows_agree<const W: usize>(
 }
 
 // A chunk of rows: where they are not the same, number by number, in a loop of its own for each width.
-fn chunk_agrees(a: &[u8], b: &[u8], rows: Rows, p: usize) -> bool
-    requires { Numbers a.now b.now rows.left rows.right rows.count × Power p }
-    ensures { result ≡ all (kept_agree p a.now b.now) rows.left rows.right rows.count }
+fn chunk_agrees(pair: Pair, rows: Rows, p: usize) -> bool
+    requires { NumbersOf pair rows × Power p }
+    ensures { result ≡ agreed p pair.entry rows }
 {
-    let pair = Pair::roots(a, b);
     if chunk_equal(pair, rows) {
         return true;
     }
     let columns = columns_of(pair, rows);
     let bitmap = pair.left.bitmap();
     if columns.width == 4 {
-        return rows_agree::<4>(a, b, columns, bitmap, rows, p);
+        return rows_agree::<4>(pair, columns, bitmap, rows, p);
     }
-    rows_agree::<8>(a, b, columns, bitmap, rows, p)
+    rows_agree::<8>(pair, columns, bitmap, rows, p)
 }
 
 // Two ranges of rows of two tables agree in turn, once so many digits are dropped.
@@ -118,16 +111,10 @@ pub fn digits_equal(a: &[u8], b: &[u8], rows: Rows, digits: usize) -> bool
     requires digits_value { not_digits a.now digits ≡ false }
     ensures { result ≡ digits_equal digits a.now b.now rows.left rows.right rows.count }
 {
-    if !equal_nulls(Pair::roots(a, b), rows) {
+    let pair = Pair::roots(a, b);
+    if !equal_nulls(pair, rows) {
         return false;
     }
     let p = power_of(digits);
-    let n = rows.count;
-    for h in 0..n / CHUNK {
-        if !chunk_agrees(a, b, rows.part(2048 * h, CHUNK), p) {
-            return false;
-        }
-    }
-    let k = 2048 * (n / CHUNK);
-    chunk_agrees(a, b, rows.part(k, n - k), p)
+    rows.each_block::<CHUNK, _>(|part| chunk_agrees(pair, part, p))
 }

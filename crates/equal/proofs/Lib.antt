@@ -1,3 +1,4 @@
+pub mod Buffers
 pub mod Child
 pub mod Dictionaries
 pub mod FixedLists

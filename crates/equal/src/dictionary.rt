@@ -5,7 +5,6 @@ ghost use Rattle.image.specs.Row.{dictionary_row};
 ghost use Rattle.values.specs.Pair.{equal_rows, nested, PartsIn};
 
 use crate::equal_row;
-use image::bytes::Numbers;
 use values::leaf::leaves_of;
 use values::pair::{Pair, Rows};
 
@@ -21,18 +20,9 @@ fn long_equal(pair: Pair, rows: Rows, depth: usize) -> bool
     requires { PartsIn Dictionary pair rows depth }
     ensures { result ≡ equal_rows (nested dictionary_row depth) pair.entry rows }
 {
-    let (a, b) = (pair.left, pair.right);
-    let width = a.element_width();
-    let left = Numbers {
-        bytes: a.image,
-        place: a.buffer_place(0),
-        width: width,
-    };
-    let right = Numbers {
-        bytes: b.image,
-        place: b.buffer_place(0),
-        width: width,
-    };
+    let width = pair.left.element_width();
+    let left = pair.left.numbers(0, width);
+    let right = pair.right.numbers(0, width);
     let child = pair.child(0);
     let leaves = leaves_of(child);
     let mut kept = [0usize; 1024];
@@ -61,18 +51,9 @@ pub fn equal(pair: Pair, rows: Rows, depth: usize) -> bool
     if LONG <= rows.count {
         return long_equal(pair, rows, depth);
     }
-    let (a, b) = (pair.left, pair.right);
-    let width = a.element_width();
-    let left = Numbers {
-        bytes: a.image,
-        place: a.buffer_place(0),
-        width: width,
-    };
-    let right = Numbers {
-        bytes: b.image,
-        place: b.buffer_place(0),
-        width: width,
-    };
+    let width = pair.left.element_width();
+    let left = pair.left.numbers(0, width);
+    let right = pair.right.numbers(0, width);
     let child = pair.child(0);
     let leaves = leaves_of(child);
     for k in 0..rows.count {

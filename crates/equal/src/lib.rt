@@ -72,6 +72,7 @@ fn equal_valid(pair: Pair, rows: Rows, depth: usize) -> bool
     let oa = pair.left.offset();
     let ob = pair.right.offset();
     let mut k: usize = 0;
+    // Kept: no `for`, since a step is as long as the rows that are not null follow each other.
     while k < n {
         let run = valid_rows(pair.left, rows.left + k, n - k);
         if run == 0 {

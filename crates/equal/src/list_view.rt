@@ -5,7 +5,6 @@ ghost use Rattle.image.specs.Row.{list_view_row};
 ghost use Rattle.values.specs.Pair.{equal_rows, nested, PartsIn};
 
 use crate::equal_range;
-use image::bytes::Numbers;
 use values::pair::{Pair, Rows};
 
 // List views without nulls: their sizes and child rows, view by view.
@@ -14,28 +13,11 @@ pub fn equal(pair: Pair, rows: Rows, depth: usize) -> bool
     requires { PartsIn ListView pair rows depth }
     ensures { result ≡ equal_rows (nested list_view_row depth) pair.entry rows }
 {
-    let (a, b) = (pair.left, pair.right);
-    let width = a.element_width();
-    let left = Numbers {
-        bytes: a.image,
-        place: a.buffer_place(0),
-        width: width,
-    };
-    let right = Numbers {
-        bytes: b.image,
-        place: b.buffer_place(0),
-        width: width,
-    };
-    let left_sizes = Numbers {
-        bytes: a.image,
-        place: a.buffer_place(1),
-        width: width,
-    };
-    let right_sizes = Numbers {
-        bytes: b.image,
-        place: b.buffer_place(1),
-        width: width,
-    };
+    let width = pair.left.element_width();
+    let left = pair.left.numbers(0, width);
+    let right = pair.right.numbers(0, width);
+    let left_sizes = pair.left.numbers(1, width);
+    let right_sizes = pair.right.numbers(1, width);
     let child = pair.child(0);
     for k in 0..rows.count {
         let size = left_sizes.at(rows.left + k);

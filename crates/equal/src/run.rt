@@ -19,8 +19,6 @@ pub fn equal(pair: Pair, rows: Rows, depth: usize) -> bool
 {
     let (s, t, n) = (rows.left, rows.right, rows.count);
     let values = pair.child(1);
-    let mut equal = true;
-    let mut k: usize = 0;
     if n == 0 {
         return true;
     }
@@ -37,10 +35,11 @@ pub fn equal(pair: Pair, rows: Rows, depth: usize) -> bool
     let leaves = leaves_of(values);
     let left = pair.left.ends();
     let right = pair.right.ends();
-    'runs: while k < n {
+    let mut k: usize = 0;
+    // Kept: no `for`, since a step is as long as the shorter run goes on.
+    while k < n {
         if !equal_row(values, leaves, i, j, depth) {
-            equal = false;
-            break 'runs;
+            return false;
         }
         let x = left.at(i);
         let y = right.at(j);
@@ -50,5 +49,5 @@ pub fn equal(pair: Pair, rows: Rows, depth: usize) -> bool
         i = next_run(s + last, i, x);
         j = next_run(t + last, j, y);
     }
-    equal
+    true
 }

@@ -5,7 +5,7 @@ ghost use Rattle.image.specs.Row.{dense_row, sparse_row};
 ghost use Rattle.values.specs.Pair.{equal_rows, nested, PartsIn, NamedOf};
 
 use crate::{equal_range, structure};
-use image::bytes::{Numbers, byte};
+use image::bytes::byte;
 use values::pair::{Pair, Rows};
 
 // So many rows of a sparse union are at most compared as whole children at once, and so many at least.
@@ -32,16 +32,8 @@ pub fn dense(pair: Pair, rows: Rows, depth: usize) -> bool
     let (a, b) = (pair.left, pair.right);
     let ia = a.buffer_place(0);
     let ib = b.buffer_place(0);
-    let left = Numbers {
-        bytes: a.image,
-        place: a.buffer_place(1),
-        width: 4,
-    };
-    let right = Numbers {
-        bytes: b.image,
-        place: b.buffer_place(1),
-        width: 4,
-    };
+    let left = a.numbers(1, 4);
+    let right = b.numbers(1, 4);
     for k in 0..rows.count {
         let id = byte(a.image, ia + (rows.left + k));
         if id != byte(b.image, ib + (rows.right + k)) {
@@ -98,6 +90,8 @@ fn block(pair: Pair, rows: Rows, depth: usize) -> bool
 }
 
 // Sparse unions, block by block: only a block whose children are not all equal is compared row by row.
+// Kept: no `Rows::each_block`, since a closure that calls a function of the cycle is one of the cycle itself, with a contract
+// and a measure of its own: that is no plainer.
 #[cycle(rows)]
 pub fn sparse(pair: Pair, rows: Rows, depth: usize) -> bool
     requires { PartsIn SparseUnion pair rows depth }

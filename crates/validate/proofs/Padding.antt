@@ -3,11 +3,13 @@
 use mathlib.Core.Path.{◌≡◌, refl, sym, ◌∙◌}
 use mathlib.Core.Bool.{Bool, true, false, not, ◌||◌}
 use mathlib.Core.List.{List}
-use Prim.Native.Nat.{ℕ, zero, suc, ◌+◌, ◌*◌, ◌-◌, ◌≤◌}
+use Prim.Native.Nat.{ℕ, zero, suc, ◌+◌, ◌*◌, ◌-◌, ◌≤◌, ◌<◌}
 use native.Mathlib.Omega.{arith}
-use native.Mathlib.Nat.{add-zero}
+use native.Mathlib.Nat.{add-zero, zero-add}
 use lib.Dec.{eqb}
+use lib.ListN.{length, take, drop}
 use borrow.Author.Tests.{ne_eqb}
+use Rattle.std.proofs.lemmas.List.{length-drop, length-take-le, get_or-take, get_or-drop}
 use Rattle.image.specs.Ranges.{any}
 use Rattle.image.specs.Bytes.{byte_at, number_at}
 use Rattle.image.specs.Element.{view_length}
@@ -38,14 +40,31 @@ module _ (p : ℕ → Bool) (i n w : ℕ) (le : w ≤ n) where
       let none : any p (i + 0) (n - w) ≡ false = rw add-zero (any_none p i (n - w) (λ k from end. any_false p i w e k from (omega arith))) in
       (any_jump p i n 0 (n - w) (omega arith) (rest_none _ _ _) none).same ∙ rw (m, z)
 
--- the padding of an inline view, of which the first w bytes are read as one number and then the last w
-module _ (s : List ℕ) (view : ℕ) {len : ℕ} (e : len ≡ view_length s view) (w : ℕ) (le : w ≤ 12 - len) {x : ℕ} (p : x ≡ number_at w s (view + 4 + len)) where
-  pub front_padded : (x ≡ 0 → ⊥) → true ≡ padding_nonzero s view
-  unfolding padding_nonzero
-  front_padded ne = rw (← e) (front_found (nonzero s) (view + 4 + len) (12 - len) w le (sym (number_nonzero w s _) ∙ rw (← p, ne_eqb x 0 ne)))
+-- n bytes, of which the first w are read as one number and then the last w
+module _ (s : List ℕ) (w : ℕ) (le : w ≤ length s) {x : ℕ} (p : x ≡ number_at w s 0) where
+  pub front_nonzero : (x ≡ 0 → ⊥) → true ≡ any (nonzero s) 0 (length s)
+  front_nonzero ne = front_found (nonzero s) 0 (length s) w le (sym (number_nonzero w s _) ∙ rw (← p, ne_eqb x 0 ne))
 
-  pub back_padded : (at : ℕ) {y : ℕ} → len ≤ 12 → 12 - len ≤ w + w → at + w ≡ view + 16 → x ≡ 0 → y ≡ number_at w s at → not (eqb y 0) ≡ padding_nonzero s view
-  unfolding padding_nonzero
-  back_padded at short most ends z q =
-      let a : view + 4 + len + (12 - len - w) ≡ at = omega arith in
-      rw (← e, back_left (nonzero s) (view + 4 + len) (12 - len) w le most (sym (number_nonzero w s _) ∙ rw (← p, z)), a, q) (number_nonzero w s at)
+  pub back_nonzero : {y : ℕ} → length s ≤ w + w → x ≡ 0 → y ≡ number_at w s (length s - w) → not (eqb y 0) ≡ any (nonzero s) 0 (length s)
+  back_nonzero most ends q =
+      rw (back_left (nonzero s) 0 (length s) w le most (sym (number_nonzero w s _) ∙ rw (← p, ends)), zero-add, q) (number_nonzero w s (length s - w))
+
+-- a test of n numbers from one on is that of n others that it tells alike
+any_alike : (p q : ℕ → Bool) (i j n : ℕ) → ((k : ℕ) → k < n → p (i + k) ≡ q (j + k)) → any p i n ≡ any q j n
+unfolding any
+any_alike p q i j zero f = refl
+any_alike p q i j (suc n) f =
+    let here : p i ≡ q j = rw (add-zero, add-zero) at (f 0 (omega arith)) in
+    rw (here, any_alike p q (suc i) (suc j) n (λ k lt. let a : suc i + k ≡ i + suc k = omega arith in let b : suc j + k ≡ j + suc k = omega arith in rw (a, b) (f (suc k) (omega arith))))
+
+-- the padding of an inline view, as a slice lends it
+pub padded : (s : List ℕ) (view len : ℕ) → len ≡ view_length s view → len ≤ 12 → view + 16 ≤ length s
+    → any (nonzero (take (view + 16 - (view + 4 + len)) (drop (view + 4 + len) s))) 0 (length (take (view + 16 - (view + 4 + len)) (drop (view + 4 + len) s))) ≡ padding_nonzero s view
+unfolding padding_nonzero nonzero
+padded s view len e short fits =
+    let count : view + 16 - (view + 4 + len) ≡ 12 - len = omega arith in
+    let size : length (take (12 - len) (drop (view + 4 + len) s)) ≡ 12 - len = length-take-le (12 - len) (drop (view + 4 + len) s) (omega (arith, length-drop (view + 4 + len) s)) in
+    rw (count, size, ← e) (any_alike _ _ 0 (view + 4 + len) (12 - len) (λ k lt. part k lt))
+  where
+    part : (k : ℕ) → k < 12 - len → nonzero (take (12 - len) (drop (view + 4 + len) s)) (0 + k) ≡ nonzero s (view + 4 + len + k)
+    part k lt = rw (zero-add k, get_or-take (12 - len) (drop (view + 4 + len) s) k 0 lt, get_or-drop (view + 4 + len) s k 0) refl

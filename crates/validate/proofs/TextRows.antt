@@ -1,6 +1,7 @@
 -- Where the texts of a node's rows stand, and which rows are at fault.
 -- By the lower numbers offsets rise within the text, and the bytes of a view that is not null lie inside.
 use mathlib.Core.Path.{◌≡◌, refl, sym, ap, subst, ◌∙◌}
+use Rattle.std.specs.Prelude.{◌≢◌}
 use mathlib.Core.Bool.{Bool, true, false, not, ◌&&◌, ◌||◌, and-false, false≢true}
 use mathlib.Core.List.{List}
 use Prim.Native.Nat.{ℕ, zero, suc, ◌+◌, ◌*◌, ◌-◌, ◌<◌, ◌≤◌, ◌^◌}
@@ -9,7 +10,7 @@ use mathlib.Core.Logic.{◌⊎◌, inl, inr}
 use native.Mathlib.Omega.{arith}
 use lib.Dec.{eqb, ltb}
 use lib.ListN.{length}
-use borrow.Author.Tests.{eqb-true, lt-ltb, le-ltb, lt-leb}
+use borrow.Author.Tests.{eqb-true, ne_eqb, lt-ltb, le-ltb, lt-leb}
 use Rattle.image.specs.declared.type_code.Layout.TheVariants.{VariableSize, View}
 use Rattle.image.specs.Ranges.{any}
 use Rattle.image.specs.Bytes.{byte_at, bytes_at, number_at}
@@ -30,11 +31,11 @@ use Rattle.utf8.specs.Ascii.{any_high}
 use Rattle.utf8.specs.Cuts.{Cut}
 use Rattle.utf8.proofs.Plain.{plain_part}
 use Rattle.utf8.proofs.Cutting.{part_formed}
-use Rattle.validate.specs.declared.texts.TextsAt.{TextsAt}
+use Rattle.validate.specs.declared.texts.Texts.{Texts}
 use Rattle.validate.specs.declared.texts.Span.{Span}
 use Rattle.validate.specs.Numbers.{Holds}
 use Rattle.validate.specs.Views.{ViewsInside}
-use Rattle.validate.specs.Texts.{TextNode, TextsRead, TextSpan, EachBuffer, plain_buffer, formed_buffer, text_start, splits, Stretch}
+use Rattle.validate.specs.Texts.{TextNode, ViewNode, OffsetNode, ViewsRead, TextsRead, TextRow, EachBuffer, plain_buffer, formed_buffer, text_start, splits, Stretch}
 use Rattle.validate.proofs.Elements.{shift}
 use Rattle.validate.proofs.Lower.{text_offsets, views}
 
@@ -60,79 +61,81 @@ unfolding elements_of
 few_rows {s} {k} t = omega (arith, (after_14 t.below k t.node (omega arith)).small)
 
 -- views
-module _ {s : List ℕ} {k : ℕ} (t : TextNode s k) (is : eqb (code_of s k) 31 ≡ true) where
+module _ {s : List ℕ} {k : ℕ} (t : ViewNode s k) where
   views_inside : ViewsInside s k
-  views_inside = views t.below (omega arith) k t.node (view_layout _ is)
+  views_inside = views t.text.below (omega arith) k t.text.node (view_layout _ t.views)
 
-module _ {s : List ℕ} {k : ℕ} (t : TextNode s k) {at : TextsAt} (r : TextsRead s k at) (is : at.views ≡ true) (i : ℕ) where
-  is_view : eqb (code_of s k) 31 ≡ true
-  is_view = sym r.views ∙ is
-
-  view_place_lem : at.place + i * 16 ≡ buffer_place s k 0 + (offset_of s k + i) * 16
-  view_place_lem = rw (r.place, r.width, (views_inside t is_view).wide) (shift (buffer_place s k 0) (offset_of s k) i 16)
-
-  pub view_fits : i < length_of s k → at.place + i * 16 + 16 ≤ length s
+  -- the view of row 0 lies inside, or stands where they end
+  pub views_start : buffer_place s k 0 + offset_of s k * 16 ≤ length s
   unfolding elements_of
-  view_fits lt = omega (arith, view_place_lem, (views_inside t is_view).views)
+  views_start = omega (arith, views_inside.views)
 
-  view_element : at.place + i * 16 ≡ element_place s k (offset_of s k + i)
+module _ {s : List ℕ} {k : ℕ} (t : ViewNode s k) {first : ℕ} (r : ViewsRead s k first) (i : ℕ) where
+  view_place_lem : first + i * 16 ≡ buffer_place s k 0 + (offset_of s k + i) * 16
+  view_place_lem = rw r (shift (buffer_place s k 0) (offset_of s k) i 16)
+
+  pub view_fits : i < length_of s k → first + i * 16 + 16 ≤ length s
+  unfolding elements_of
+  view_fits lt = omega (arith, view_place_lem, (views_inside t).views)
+
+  view_element : first + i * 16 ≡ element_place s k (offset_of s k + i)
   unfolding element_place
-  view_element = rw (views_inside t is_view).wide view_place_lem
+  view_element = rw (views_inside t).wide view_place_lem
 
-  module _ {len : ℕ} (el : len ≡ number_at 4 s (at.place + i * 16)) where
-    pub viewed : i < length_of s k → valid s k i ≡ true → Viewed s k (at.place + i * 16) len
+  module _ {len : ℕ} (el : len ≡ number_at 4 s (first + i * 16)) where
+    pub viewed : TextRow s k i → Viewed s k (first + i * 16) len
     unfolding view_length
-    viewed lt set = record {
-      tables = tables t.below;
-      buffers = after_14 t.below k t.node (omega arith);
-      fits = view_fits lt;
+    viewed row = record {
+      tables = tables t.text.below;
+      buffers = after_14 t.text.below k t.text.node (omega arith);
+      fits = view_fits row.row;
       size = el;
-      view = rw view_element ((after_18 t.below k t.node (omega arith)).view (view_layout _ is_view) i lt set);
+      view = rw view_element ((after_18 t.text.below k t.text.node (omega arith)).view (view_layout _ t.views) i row.row row.not_null);
     }
 
-    pub view_span : {p : ℕ} → ViewBytes s k (at.place + i * 16) len p → TextSpan s k i (record { place = p; len = len })
+    pub view_text : {p : ℕ} → ViewBytes s k (first + i * 16) len p → bytes_at s p len ≡ text_at s k (offset_of s k + i)
     unfolding text_at view_length
-    view_span b = record { text = rw (is_view, ← view_element, b.place, el); inside = b.inside }
+    view_text b = rw (t.views, ← view_element, b.place, el)
 
   -- a short view without a byte above 7F
-  pub plain_short : {len : ℕ} → len ≡ number_at 4 s (at.place + i * 16) → i < length_of s k → valid s k i ≡ true → len ≤ 12
-      → any_high (bytes_at s (at.place + i * 16) 16) ≡ false → well_formed (text_at s k (offset_of s k + i)) ≡ true
-  plain_short {len} el lt set short none =
-      ap well_formed (sym (view_span el (shown_short s k (at.place + i * 16) len (viewed el lt set) short)).text)
-      ∙ plain_part s (at.place + i * 16) 16 none (at.place + i * 16 + 4) len (omega arith) (omega arith)
+  pub plain_short : {len : ℕ} → len ≡ number_at 4 s (first + i * 16) → TextRow s k i → len ≤ 12
+      → any_high (bytes_at s (first + i * 16) 16) ≡ false → well_formed (text_at s k (offset_of s k + i)) ≡ true
+  plain_short {len} el row short none =
+      ap well_formed (sym (view_text el (shown_short s k (first + i * 16) len (viewed el row) short)))
+      ∙ plain_part s (first + i * 16) 16 none (first + i * 16 + 4) len (omega arith) (omega arith)
 
   -- a long view is a part of its data buffer
-  module _ {len : ℕ} (el : len ≡ number_at 4 s (at.place + i * 16)) (lt : i < length_of s k) (set : valid s k i ≡ true) (long : 12 < len) {b : ℕ} (eb : b ≡ number_at 4 s (at.place + i * 16 + 8)) where
+  module _ {len : ℕ} (el : len ≡ number_at 4 s (first + i * 16)) (row : TextRow s k i) (long : 12 < len) {b : ℕ} (eb : b ≡ number_at 4 s (first + i * 16 + 8)) where
     data_buffer : 1 + b < buffer_count s k
     unfolding view_buffer
-    data_buffer = rw eb ((viewed el lt set).view.buffer (rw (← (viewed el lt set).size) long))
+    data_buffer = rw eb ((viewed el row).view.buffer (rw (← (viewed el row).size) long))
 
     pub few_buffers : 1 + b < 2 ^ 16
-    few_buffers = omega (arith, data_buffer, (tables t.below).few_buffers, (after_14 t.below k t.node (omega arith)).ends)
+    few_buffers = omega (arith, data_buffer, (tables t.text.below).few_buffers, (after_14 t.text.below k t.text.node (omega arith)).ends)
 
     pub buffer_inside : buffer_place s k (1 + b) + buffer_length s k (1 + b) ≤ length s
-    buffer_inside = (after_14 t.below k t.node (omega arith)).inside (1 + b) data_buffer
+    buffer_inside = (after_14 t.text.below k t.text.node (omega arith)).inside (1 + b) data_buffer
 
-    within : {p : ℕ} → ViewBytes s k (at.place + i * 16) len p → (buffer_place s k (1 + b) ≤ p) × (p + len ≤ buffer_place s k (1 + b) + buffer_length s k (1 + b))
+    within : {p : ℕ} → ViewBytes s k (first + i * 16) len p → (buffer_place s k (1 + b) ≤ p) × (p + len ≤ buffer_place s k (1 + b) + buffer_length s k (1 + b))
     unfolding view_data view_buffer
     within {p} at-bytes =
-        let size : len ≡ view_length s (at.place + i * 16) = (viewed el lt set).size in
-        let place : p ≡ buffer_place s k (1 + b) + view_offset s (at.place + i * 16) = at-bytes.place ∙ rw (← size, lt-leb len 12 long, eb) in
-        let inside : view_offset s (at.place + i * 16) + len ≤ buffer_length s k (1 + b) = rw (size, eb) ((viewed el lt set).view.inside (rw (← size) long)) in
+        let size : len ≡ view_length s (first + i * 16) = (viewed el row).size in
+        let place : p ≡ buffer_place s k (1 + b) + view_offset s (first + i * 16) = at-bytes.place ∙ rw (← size, lt-leb len 12 long, eb) in
+        let inside : view_offset s (first + i * 16) + len ≤ buffer_length s k (1 + b) = rw (size, eb) ((viewed el row).view.inside (rw (← size) long)) in
         (omega arith, omega arith)
 
     -- where the buffer has no byte above 7F
     pub plain_long : EachBuffer (plain_buffer s k) (buffer_count s k) → well_formed (text_at s k (offset_of s k + i)) ≡ true
     plain_long plain =
-        let at-bytes = shown_long (viewed el lt set) long refl refl refl refl in
-        ap well_formed (sym (view_span el at-bytes).text)
+        let at-bytes = shown_long (viewed el row) long refl refl refl refl in
+        ap well_formed (sym (view_text el at-bytes))
         ∙ plain_part s (buffer_place s k (1 + b)) (buffer_length s k (1 + b)) (plain.each (1 + b) (omega arith) data_buffer) _ len (within at-bytes).0 (within at-bytes).1
 
     -- where the buffer is well-formed and no tail stands at either end of the text, the text is well-formed
-    pub cut_view : {p x y : ℕ} → ViewBytes s k (at.place + i * 16) len p → x ≡ buffer_place s k (1 + b) → y ≡ buffer_length s k (1 + b) → EachBuffer (formed_buffer s k) (buffer_count s k)
+    pub cut_view : {p x y : ℕ} → ViewBytes s k (first + i * 16) len p → x ≡ buffer_place s k (1 + b) → y ≡ buffer_length s k (1 + b) → EachBuffer (formed_buffer s k) (buffer_count s k)
         → Cut s (x + y) p → Cut s (x + y) (p + len) → well_formed (text_at s k (offset_of s k + i)) ≡ true
     cut_view at-bytes ex ey formed start end =
-        ap well_formed (sym (view_span el at-bytes).text)
+        ap well_formed (sym (view_text el at-bytes))
         ∙ part_formed s (buffer_place s k (1 + b)) (buffer_length s k (1 + b)) _ len (within at-bytes).0 (within at-bytes).1 (rw (← ex, ← ey) start) (rw (← ex, ← ey) end)
         (formed.each (1 + b) (omega arith) data_buffer)
 
@@ -161,21 +164,21 @@ pub data_inside : {s : List ℕ} {k j p n : ℕ} → TextNode s k → j < buffer
 data_inside {s} {k} {j} t lt ep en = rw (ep, en) ((after_14 t.below k t.node (omega arith)).inside j lt)
 
 -- texts by offsets
-module _ {s : List ℕ} {k : ℕ} (t : TextNode s k) (isnt : eqb (code_of s k) 31 ≡ false) where
+module _ {s : List ℕ} {k : ℕ} (t : OffsetNode s k) where
   by_offsets : layout_of (code_of s k) ≡ VariableSize
-  by_offsets = offset_layout _ t.text isnt
+  by_offsets = offset_layout _ t.text.text t.no_views
 
   offsets : Holds s k 0 (element_width s k) (elements_of s k + 1)
-  offsets = text_offsets t.below (omega arith) k t.node by_offsets
+  offsets = text_offsets t.text.below (omega arith) k t.text.node by_offsets
 
   rising : OffsetsRise s k (buffer_length s k 1)
-  rising = (after_17 t.below k t.node (omega arith)).variable_size by_offsets
+  rising = (after_17 t.text.below k t.text.node (omega arith)).variable_size by_offsets
 
   start_inside : (i : ℕ) → i ≤ length_of s k → text_start s k i ≤ length s
   unfolding elements_of
   start_inside i le =
-      let two : buffer_count s k ≡ 2 = (after_14 t.below k t.node (omega arith)).exactly 2 (rw by_offsets) in
-      let inside : buffer_place s k 1 + buffer_length s k 1 ≤ length s = (after_14 t.below k t.node (omega arith)).inside 1 (omega arith) in
+      let two : buffer_count s k ≡ 2 = (after_14 t.text.below k t.text.node (omega arith)).exactly 2 (rw by_offsets) in
+      let inside : buffer_place s k 1 + buffer_length s k 1 ≤ length s = (after_14 t.text.below k t.text.node (omega arith)).inside 1 (omega arith) in
       omega (arith, rising.within (offset_of s k + i) (omega arith))
 
   rise_by : (i m : ℕ) → i + m ≤ length_of s k → text_start s k i ≤ text_start s k (i + m)
@@ -191,51 +194,42 @@ module _ {s : List ℕ} {k : ℕ} (t : TextNode s k) (isnt : eqb (code_of s k) 3
       let e : i + (j - i) ≡ j = omega arith in
       rw e at (rise_by i (j - i) (omega arith))
 
--- the offset or view of row 0 lies inside
-pub rows_start : {s : List ℕ} {k : ℕ} → TextNode s k → buffer_place s k 0 + offset_of s k * element_width s k ≤ length s
+-- the offset of row 0 lies inside
+pub rows_start : {s : List ℕ} {k : ℕ} → OffsetNode s k → buffer_place s k 0 + offset_of s k * element_width s k ≤ length s
 unfolding elements_of
-rows_start {s} {k} t = cases (eqb (code_of s k) 31) refl
-  where
-    cases : (b : Bool) → eqb (code_of s k) 31 ≡ b → buffer_place s k 0 + offset_of s k * element_width s k ≤ length s
-    cases true is = rw (views_inside t is).wide (omega (arith, (views_inside t is).views))
-    cases false isnt = omega (arith, (packed_from (offset_of s k) 0 (omega arith) (offsets t isnt)).inside)
+rows_start {s} {k} t = omega (arith, (packed_from (offset_of s k) 0 (omega arith) (offsets t)).inside)
 
-module _ {s : List ℕ} {k : ℕ} (t : TextNode s k) {at : TextsAt} (r : TextsRead s k at) (isnt : at.views ≡ false) where
-  not_view : eqb (code_of s k) 31 ≡ false
-  not_view = sym r.views ∙ isnt
-
-  pub offset_inside : (i : ℕ) → i ≤ length_of s k → Packed (length s) at.place at.width (i + 1)
+module _ {s : List ℕ} {k : ℕ} (t : OffsetNode s k) {at : Texts} (r : TextsRead s k at) where
+  pub offset_inside : (i : ℕ) → i ≤ length_of s k → Packed (length at.offsets.bytes.now) at.offsets.place at.offsets.width (i + 1)
   unfolding elements_of
-  offset_inside i le = rw (r.place, r.width) (packed_from (offset_of s k) (i + 1) (omega arith) (offsets t not_view))
+  offset_inside i le = rw (r.bytes, r.place, r.width) (packed_from (offset_of s k) (i + 1) (omega arith) (offsets t))
 
-  offset_read : (i : ℕ) {x : ℕ} → x ≡ number_at at.width s (at.place + i * at.width) → x ≡ element_at s k (offset_of s k + i)
+  offset_read : (i : ℕ) {x : ℕ} → x ≡ number_at at.offsets.width at.offsets.bytes.now (at.offsets.place + i * at.offsets.width) → x ≡ element_at s k (offset_of s k + i)
   unfolding element_at element_place
-  offset_read i e = e ∙ rw (r.place, r.width, shift (buffer_place s k 0) (offset_of s k) i (element_width s k))
+  offset_read i e = e ∙ rw (r.bytes, r.place, r.width, shift (buffer_place s k 0) (offset_of s k) i (element_width s k))
 
-  pub start_read : (i : ℕ) {x : ℕ} → x ≡ number_at at.width s (at.place + i * at.width) → at.text + x ≡ text_start s k i
-  start_read i e = rw (r.text, offset_read i e)
+  pub start_read : (i : ℕ) {x : ℕ} → x ≡ number_at at.offsets.width at.offsets.bytes.now (at.offsets.place + i * at.offsets.width) → at.start + x ≡ text_start s k i
+  start_read i e = rw (r.start, offset_read i e)
 
   -- the bytes from one text's start up to another's
-  module _ {i j x y : ℕ} (le : i ≤ j) (end : j ≤ length_of s k) (ex : x ≡ number_at at.width s (at.place + i * at.width)) (ey : y ≡ number_at at.width s (at.place + j * at.width)) where
+  module _ {i j x y : ℕ} (le : i ≤ j) (end : j ≤ length_of s k) (ex : x ≡ number_at at.offsets.width at.offsets.bytes.now (at.offsets.place + i * at.offsets.width)) (ey : y ≡ number_at at.offsets.width at.offsets.bytes.now (at.offsets.place + j * at.offsets.width)) where
     pub starts_apart : x ≤ y
-    starts_apart = omega (arith, start_read i ex, start_read j ey, starts_rise t not_view i j le end)
+    starts_apart = omega (arith, start_read i ex, start_read j ey, starts_rise t i j le end)
 
-    pub starts_inside : at.text + y ≤ length s
-    starts_inside = omega (arith, start_read j ey, start_inside t not_view j end)
+    pub starts_inside : at.start + y ≤ length s
+    starts_inside = omega (arith, start_read j ey, start_inside t j end)
 
-  pub offset_span : {i x y : ℕ} → i < length_of s k → x ≡ number_at at.width s (at.place + i * at.width) → y ≡ number_at at.width s (at.place + (i + 1) * at.width)
-      → TextSpan s k i (record { place = at.text + x; len = y - x })
+  pub offset_text : {i x y : ℕ} → i < length_of s k → x ≡ number_at at.offsets.width at.offsets.bytes.now (at.offsets.place + i * at.offsets.width) → y ≡ number_at at.offsets.width at.offsets.bytes.now (at.offsets.place + (i + 1) * at.offsets.width)
+      → bytes_at s (at.start + x) (at.start + y - (at.start + x)) ≡ text_at s k (offset_of s k + i)
   unfolding text_at
-  offset_span {i} {x} {y} lt ex ey =
+  offset_text {i} {x} {y} lt ex ey =
       let next : offset_of s k + (i + 1) ≡ suc (offset_of s k + i) = omega arith in
       let last : y ≡ element_at s k (suc (offset_of s k + i)) = rw next at (offset_read (i + 1) ey) in
-      record {
-        text = rw (not_view, r.text, offset_read i ex, last);
-        inside = omega (arith, starts_apart {i = i} {j = i + 1} (omega arith) (omega arith) ex ey, starts_inside {i = i} {j = i + 1} (omega arith) (omega arith) ex ey);
-      }
+      let len : at.start + y - (at.start + x) ≡ y - x = omega arith in
+      rw (len, t.no_views, r.start, offset_read i ex, last)
 
-  pub stretch : {n x y : ℕ} → n ≡ length_of s k → x ≡ number_at at.width s (at.place + 0 * at.width) → y ≡ number_at at.width s (at.place + n * at.width)
-      → Stretch s k (record { place = at.text + x; len = y - x })
+  pub stretch : {n x y : ℕ} → n ≡ length_of s k → x ≡ number_at at.offsets.width at.offsets.bytes.now (at.offsets.place + 0 * at.offsets.width) → y ≡ number_at at.offsets.width at.offsets.bytes.now (at.offsets.place + n * at.offsets.width)
+      → Stretch s k (record { place = at.start + x; len = y - x })
   stretch {n} {x} {y} en ex ey =
       let le : x ≤ y = starts_apart {i = 0} {j = n} (omega arith) (omega arith) ex ey in
       record {
@@ -245,23 +239,23 @@ module _ {s : List ℕ} {k : ℕ} (t : TextNode s k) {at : TextsAt} (r : TextsRe
       }
 
 -- A look at all texts together.
-module _ {s : List ℕ} {k : ℕ} (t : TextNode s k) {at : TextsAt} (r : TextsRead s k at) (isnt : at.views ≡ false) {a : Span} (all : Stretch s k a) where
+module _ {s : List ℕ} {k : ℕ} (t : OffsetNode s k) {a : Span} (all : Stretch s k a) where
   formed_row : (i : ℕ) → well_formed (bytes_at s (text_start s k i) (text_start s k (i + 1) - text_start s k i)) ≡ true → text_row_fault s k i ≡ false
   unfolding text_row_fault text_at
   formed_row i h =
       let next : suc (offset_of s k + i) ≡ offset_of s k + (i + 1) = omega arith in
       let len : element_at s k (offset_of s k + (i + 1)) - element_at s k (offset_of s k + i) ≡ text_start s k (i + 1) - text_start s k i = omega arith in
-      rw (not_view t r isnt, next, len, h) (and-false (valid s k i))
+      rw (t.no_views, next, len, h) (and-false (valid s k i))
 
   module _ (i : ℕ) (lt : i < length_of s k) where
     up : text_start s k i ≤ text_start s k (i + 1)
-    up = starts_rise t (not_view t r isnt) i (i + 1) (omega arith) (omega arith)
+    up = starts_rise t i (i + 1) (omega arith) (omega arith)
 
     from : a.place ≤ text_start s k i
-    from = omega (arith, all.start, starts_rise t (not_view t r isnt) 0 i (omega arith) (omega arith))
+    from = omega (arith, all.start, starts_rise t 0 i (omega arith) (omega arith))
 
     upto : text_start s k i + (text_start s k (i + 1) - text_start s k i) ≤ a.place + a.len
-    upto = omega (arith, up, all.end, starts_rise t (not_view t r isnt) (i + 1) (length_of s k) (omega arith) (omega arith))
+    upto = omega (arith, up, all.end, starts_rise t (i + 1) (length_of s k) (omega arith) (omega arith))
 
   pub plain_together : any_high (bytes_at s a.place a.len) ≡ false → any (text_row_fault s k) 0 (length_of s k) ≡ false
   plain_together e =
@@ -295,6 +289,9 @@ module _ (s : List ℕ) (k end i : ℕ) {x : ℕ} (e : x ≡ text_start s k i) w
   split lt eb = rw (zero-add i, ← e, lt-ltb x end lt) (sym eb)
 
 -- rows
+pub row_here : {s : List ℕ} {k i n : ℕ} {v : Bool} → i < n → n ≡ length_of s k → v ≡ valid s k i → v ≡ true → TextRow s k i
+row_here lt en e full = record { row = omega (arith, lt, en); not_null = sym e ∙ full }
+
 pub null_row : (s : List ℕ) (k i : ℕ) (v : Bool) → v ≡ valid s k i → v ≡ false → text_row_fault s k (0 + i) ≡ false
 unfolding text_row_fault
 null_row s k i v e null = rw (zero-add, ← e, null)
@@ -314,6 +311,13 @@ module _ (s : List ℕ) (k : ℕ) {code : ℕ} {b : Bool} (e : code ≡ code_of 
 
   pub text_node : NoneBelow 19 s → k < node_count s → b ≡ true → TextNode s k
   text_node below node g = record { below = below; node = node; text = sym is_text_lem ∙ g }
+
+module _ {s : List ℕ} {k : ℕ} (t : TextNode s k) {code : ℕ} (e : code ≡ code_of s k) where
+  pub view_node : code ≡ 31 → ViewNode s k
+  view_node is = record { text = t; views = rw (← e, is) refl }
+
+  pub offset_node : code ≢ 31 → OffsetNode s k
+  offset_node isnt = record { text = t; no_views = rw (← e) (ne_eqb code 31 isnt) }
 
 pub text_fault : {s : List ℕ} {k : ℕ} {x : Bool} → TextNode s k → x ≡ any (text_row_fault s k) 0 (length_of s k) → x ≡ fault19 s k
 unfolding fault19

@@ -7,7 +7,7 @@ use Rattle.image.specs.Element.{valid, element_width, element_at, text_at}
 use Rattle.image.specs.Utf8.{has, tail, well_formed}
 use Rattle.laws.specs.Accepted.{NoneBelow}
 use Rattle.utf8.specs.Ascii.{any_high}
-use Rattle.validate.specs.declared.texts.TextsAt.{TextsAt}
+use Rattle.validate.specs.declared.texts.Texts.{Texts}
 use Rattle.validate.specs.declared.texts.Span.{Span}
 use Rattle.validate.specs.declared.texts.Buffers.{Buffers}
 
@@ -17,24 +17,40 @@ pub record TextNode (s : List ℕ) (k : ℕ) : Type 0 where
   pub node : k < node_count s
   pub text : is_text (code_of s k) ≡ true
 
--- where the texts of its rows stand
-pub record TextsRead (s : List ℕ) (k : ℕ) (r : TextsAt) : Type 0 where
-  pub views : r.views ≡ eqb (code_of s k) 31
-  pub width : r.width ≡ element_width s k
-  pub place : r.place ≡ buffer_place s k 0 + offset_of s k * r.width
-  pub text : r.text ≡ buffer_place s k 1
+-- one whose rows are views, and one whose rows are texts between offsets
+pub record ViewNode (s : List ℕ) (k : ℕ) : Type 0 where
+  pub text : TextNode s k
+  pub views : eqb (code_of s k) 31 ≡ true
 
--- a row of it that is not null
-pub record TextRow (s : List ℕ) (k : ℕ) (r : TextsAt) (i : ℕ) : Type 0 where
-  pub node : TextNode s k
-  pub read : TextsRead s k r
+pub record OffsetNode (s : List ℕ) (k : ℕ) : Type 0 where
+  pub text : TextNode s k
+  pub no_views : eqb (code_of s k) 31 ≡ false
+
+-- where the view of row 0 stands
+abbrev pub ViewsRead : List ℕ → ℕ → ℕ → Type 0
+ViewsRead s k first = first ≡ buffer_place s k 0 + offset_of s k * 16
+
+-- the offsets from row 0's on, and where the text starts that they count in
+pub record TextsRead (s : List ℕ) (k : ℕ) (r : Texts) : Type 0 where
+  pub bytes : r.offsets.bytes.now ≡ s
+  pub width : r.offsets.width ≡ element_width s k
+  pub place : r.offsets.place ≡ buffer_place s k 0 + offset_of s k * r.offsets.width
+  pub start : r.start ≡ buffer_place s k 1
+
+-- a row that is not null
+pub record TextRow (s : List ℕ) (k i : ℕ) : Type 0 where
   pub row : i < length_of s k
   pub not_null : valid s k i ≡ true
 
--- the row's text
-pub record TextSpan (s : List ℕ) (k i : ℕ) (r : Span) : Type 0 where
-  pub text : bytes_at s r.place r.len ≡ text_at s k (offset_of s k + i)
-  pub inside : r.place + r.len ≤ length s
+-- such a row of a node of views
+pub record ViewRow (s : List ℕ) (k first i : ℕ) : Type 0 where
+  pub node : ViewNode s k
+  pub read : ViewsRead s k first
+  pub row : TextRow s k i
+
+-- of each such row what is answered tells whether its text is well-formed
+abbrev pub Judges : List ℕ → ℕ → (ℕ → Bool → Type 0) → Type 0
+Judges s k answers = (i : ℕ) (b : Bool) → TextRow s k i → answers i b → b ≡ well_formed (text_at s k (offset_of s k + i))
 
 -- of the buffers before number n each data buffer, those from number 1 on, is as P says
 pub record EachBuffer (P : ℕ → Type 0) (n : ℕ) : Type 0 where
@@ -47,11 +63,10 @@ plain_buffer s k j = any_high (bytes_at s (buffer_place s k j) (buffer_length s 
 abbrev pub formed_buffer : List ℕ → ℕ → ℕ → Type 0
 formed_buffer s k j = well_formed (bytes_at s (buffer_place s k j) (buffer_length s k j)) ≡ true
 
--- what was found of the data buffers is so; nothing is said of texts that are no views
-pub record Found (s : List ℕ) (k : ℕ) (at : TextsAt) (r : Buffers) : Type 0 where
+-- what was found of the data buffers is so
+pub record Found (s : List ℕ) (k : ℕ) (r : Buffers) : Type 0 where
   pub plain : r.plain ≡ true → EachBuffer (plain_buffer s k) (buffer_count s k)
   pub formed : r.formed ≡ true → EachBuffer (formed_buffer s k) (buffer_count s k)
-  pub views : r.formed ≡ true → at.views ≡ true
 
 -- where the text of row i starts, by its offset
 abbrev pub text_start : List ℕ → ℕ → ℕ → ℕ

@@ -34,7 +34,11 @@ const MOST_NODES: u32 = 256;
 
 const MOST_BUFFERS: u32 = 1024;
 
-// The numbers of the faults that belong to a node, and the end of the list.
+// The number of the fault that belongs to the whole image, those of the faults that belong to a node, and the end of the list.
+// Kept: numbers and no enum, here and in what stands below: the documents name the faults by them, they go from one to the
+// next in order, and hosts and sessions are answered with them.
+const IMAGE_NUMBER: u8 = 10;
+
 const FIRST_NUMBER: u8 = 11;
 
 const NUMBERS_END: u8 = 20;
@@ -104,7 +108,7 @@ pub fn check(image: &[u8]) -> Result<(), Fault>
 {
     if fault_10(image) {
         return Err(Fault {
-            number: 10,
+            number: IMAGE_NUMBER,
             node: 0,
         });
     }

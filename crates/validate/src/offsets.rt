@@ -9,7 +9,6 @@ ghost use Rattle.laws.specs.Accepted.{NoneBelow};
 ghost use Rattle.validate.specs.Numbers.{Holds};
 
 use crate::rise::rise;
-use image::bytes::Numbers;
 use image::record::Node;
 use image::type_code::{Layout, TypeCode};
 
@@ -18,11 +17,7 @@ fn offsets_fall(node: Node, end: usize) -> bool
     requires { (Holds of node) 0 (element_width of node) ((elements_of of node) + 1) }
     ensures { result ≡ not ((offsets_rise of node.entry) end) }
 {
-    let offsets = Numbers {
-        bytes: node.image,
-        place: node.buffer_place(0),
-        width: node.element_width(),
-    };
+    let offsets = node.numbers(0, node.element_width());
     !rise(offsets, 0, end, 0, node.elements() + 1)
 }
 
@@ -34,16 +29,8 @@ fn lists_outside(node: Node) -> bool
     ensures { result ≡ any (list_outside of node.entry) 0 (elements_of of node.entry) }
 {
     let width = node.element_width();
-    let offsets = Numbers {
-        bytes: node.image,
-        place: node.buffer_place(0),
-        width: width,
-    };
-    let sizes = Numbers {
-        bytes: node.image,
-        place: node.buffer_place(1),
-        width: width,
-    };
+    let offsets = node.numbers(0, width);
+    let sizes = node.numbers(1, width);
     let end = node.child(0).length();
     for j in 0..node.elements() {
         let offset = offsets.inside(j);

@@ -4,8 +4,8 @@ ghost use Rattle.image.specs.Of.{◌of◌};
 ghost use Rattle.image.specs.Ranges.{any};
 ghost use Rattle.image.specs.Reads.{Packed};
 ghost use Rattle.image.specs.Record.{node_count, length_of, elements_of};
-ghost use Rattle.image.specs.Element.{element_width, view_length};
-ghost use Rattle.image.specs.Faults.{fault18, dense_row_fault, sparse_row_fault, key_row_fault, view_row_fault, view_fault, padding_nonzero, run_ends_rise, last_end_below};
+ghost use Rattle.image.specs.Element.{element_width};
+ghost use Rattle.image.specs.Faults.{fault18, dense_row_fault, sparse_row_fault, key_row_fault, view_row_fault, view_fault, nonzero, run_ends_rise, last_end_below};
 ghost use Rattle.laws.specs.Accepted.{NoneBelow};
 ghost use Rattle.validate.specs.Numbers.{KeyLimit, Holds, EndsInside, number_in, reaches};
 ghost use Rattle.validate.specs.Views.{ViewAt, ViewsInside};
@@ -23,16 +23,8 @@ fn dense_fault(node: Node) -> bool
     ensures { result ≡ any (dense_row_fault of node.entry) 0 (length_of of node.entry) }
 {
     let children = node.children_by_id();
-    let ids = Numbers {
-        bytes: node.image,
-        place: node.buffer_place(0),
-        width: 1,
-    };
-    let offsets = Numbers {
-        bytes: node.image,
-        place: node.buffer_place(1),
-        width: 4,
-    };
+    let ids = node.numbers(0, 1);
+    let offsets = node.numbers(1, 4);
     let from = node.offset();
     for i in 0..node.length() {
         let id = ids.inside(from + i);
@@ -56,11 +48,7 @@ fn sparse_fault(node: Node) -> bool
     ensures { result ≡ any (sparse_row_fault of node.entry) 0 (length_of of node.entry) }
 {
     let children = node.children_by_id();
-    let ids = Numbers {
-        bytes: node.image,
-        place: node.buffer_place(0),
-        width: 1,
-    };
+    let ids = node.numbers(0, 1);
     let from = node.offset();
     for i in 0..node.length() {
         let id = ids.inside(from + i);
@@ -112,27 +100,30 @@ fn keys_fault(node: Node) -> bool
     false
 }
 
-// Of the 12 bytes of an inline view one past its length is not zero. The bytes are read eight or four at a time, those in
-// the middle once more; at most three are read one by one.
-fn padding_nonzero(image: &[u8], view: usize, len: usize) -> bool
-    requires { (view + 16 ≤ length image.now) × (len ≡ view_length image.now view) × (len ≤ 12) }
-    ensures { result ≡ padding_nonzero image.now view }
+// One of W to 2 W bytes is not zero: the first W make a number and the last W, which may share some.
+fn ends_nonzero<const W: usize>(bytes: &[u8]) -> bool
+    requires { (W ≤ 8) × (W ≤ length bytes.now) × (length bytes.now ≤ W + W) }
+    ensures { result ≡ any (nonzero bytes.now) 0 (length bytes.now) }
 {
-    let at = view + 4 + len;
-    if len <= 4 {
-        if load::<8>(image, at) != 0 {
-            return true;
-        }
-        return load::<8>(image, view + 8) != 0;
+    if load::<W>(bytes, 0) != 0 {
+        return true;
     }
-    if len <= 8 {
-        if load::<4>(image, at) != 0 {
-            return true;
-        }
-        return load::<4>(image, view + 12) != 0;
+    load::<W>(bytes, bytes.len() - W) != 0
+}
+
+// One of at most twelve bytes is not zero. They are read eight or four at a time where there are so many.
+fn any_nonzero(bytes: &[u8]) -> bool
+    requires { length bytes.now ≤ 12 }
+    ensures { result ≡ any (nonzero bytes.now) 0 (length bytes.now) }
+{
+    if 8 <= bytes.len() {
+        return ends_nonzero::<8>(bytes);
     }
-    for k in 0..INLINE_LENGTH - len {
-        if image[at + k] != 0 {
+    if 4 <= bytes.len() {
+        return ends_nonzero::<4>(bytes);
+    }
+    for k in 0..bytes.len() {
+        if bytes[k] != 0 {
             return true;
         }
     }
@@ -146,7 +137,7 @@ fn view_fault(node: Node, view: usize, entries: usize, count: usize) -> bool
 {
     let len = load::<4>(node.image, view);
     if len <= INLINE_LENGTH {
-        return padding_nonzero(node.image, view, len);
+        return any_nonzero(&node.image[view + 4 + len..view + VIEW_SIZE]);
     }
     let buffer = 1 + load::<4>(node.image, view + 8);
     if count <= buffer {

@@ -1,5 +1,5 @@
 // 19: a text of a row that is not null is ill-formed.
-ghost use Rattle.std.specs.Prelude.{◌≡◌, true, false, ◌+◌, ◌<◌, ◌≤◌, length};
+ghost use Rattle.std.specs.Prelude.{◌≡◌, true, false, ℕ, ◌+◌, ◌<◌, ◌≤◌, length};
 ghost use Rattle.image.specs.Of.{◌of◌};
 ghost use Rattle.image.specs.Ranges.{any};
 ghost use Rattle.image.specs.Record.{node_count, length_of, offset_of, buffer_count};
@@ -7,7 +7,7 @@ ghost use Rattle.image.specs.Element.{text_at};
 ghost use Rattle.image.specs.Faults.{fault19, text_row_fault};
 ghost use Rattle.image.specs.Utf8.{well_formed};
 ghost use Rattle.laws.specs.Accepted.{NoneBelow};
-ghost use Rattle.validate.specs.Texts.{TextNode, TextsRead, TextRow, TextSpan, EachBuffer, plain_buffer, formed_buffer, Found, Stretch, splits};
+ghost use Rattle.validate.specs.Texts.{TextNode, ViewNode, OffsetNode, ViewsRead, TextsRead, TextRow, ViewRow, Judges, EachBuffer, plain_buffer, formed_buffer, Found, Stretch, splits};
 
 use accepted::byte_view::view_bytes;
 use image::bytes::{Numbers, load};
@@ -18,18 +18,17 @@ use utf8::ascii::{has_high, high_among};
 use utf8::parts::is_tail;
 use utf8::{is_utf8, walks_well};
 
-// Where the texts of a node's rows stand, for a loop that asks for many rows: whether they are views, where the view or the
-// offset of row 0 stands, how wide it is, and where the text starts that offsets count in.
+// Texts between offsets, for a loop that asks for many rows: the offsets from row 0's on, and where the text starts that they
+// count in.
 #[derive(Clone, Copy)]
-pub struct TextsAt {
-    pub views: bool,
-    pub place: usize,
-    pub width: usize,
-    pub text: usize,
+pub struct Texts<'a> {
+    pub offsets: Numbers<'a>,
+    pub start: usize,
 }
 
-// What was found of the data buffers of views: none has a byte above 7F; each is well-formed, as one text. Of other texts
-// neither is said.
+// What was found of the data buffers of views: none has a byte above 7F; each is well-formed, as one text.
+// Kept: two flags, since each can be so without the other: what is plain is well-formed too, but that is not looked at where
+// no views share their bytes.
 #[derive(Clone, Copy)]
 pub struct Buffers {
     pub plain: bool,
@@ -43,52 +42,36 @@ pub struct Span {
     pub len: usize,
 }
 
-// The texts of a node.
-fn texts_of(node: Node) -> TextsAt
-    requires { TextNode of node }
+// Where the view of row 0 stands.
+fn first_view(node: Node) -> usize
+    requires { ViewNode of node }
+    ensures { (ViewsRead of node.entry) result }
+{
+    node.buffer_place(0) + node.offset() * VIEW_SIZE
+}
+
+// The texts of a node whose rows are no views.
+fn texts_of<'a>(node: Node<'a>) -> Texts<'a>
+    requires { OffsetNode of node }
     ensures { (TextsRead of node.entry) result }
 {
     let width = node.element_width();
-    TextsAt {
-        views: node.code() == TypeCode::UTF8_VIEW,
-        place: node.buffer_place(0) + node.offset() * width,
-        width: width,
-        text: node.buffer_place(1),
-    }
-}
-
-// The text of row i, which is not null.
-fn text_of(node: Node, at: TextsAt, i: usize) -> Span
-    requires { (TextRow of node) at i }
-    ensures { (TextSpan of node.entry) i result }
-{
-    if at.views {
-        let view = at.place + i * VIEW_SIZE;
-        let len = load::<4>(node.image, view);
-        return Span {
-            place: view_bytes(node, view, len),
-            len: len,
-        };
-    }
-    let offsets = Numbers {
-        bytes: node.image,
-        place: at.place,
-        width: at.width,
-    };
-    let from = offsets.inside(i);
-    let to = offsets.inside(i + 1);
-    Span {
-        place: at.text + from,
-        len: to - from,
+    Texts {
+        offsets: Numbers {
+            bytes: node.image,
+            place: node.buffer_place(0) + node.offset() * width,
+            width: width,
+        },
+        start: node.buffer_place(1),
     }
 }
 
 // The view of row i is a short one without a byte above 7F, or a long one, where no data buffer has such a byte.
-fn is_plain(node: Node, at: TextsAt, found: Buffers, i: usize) -> bool
-    requires { (TextRow of node) at i × (at.views ≡ true) × (Found of node) at found }
+fn is_plain(node: Node, first: usize, found: Buffers, i: usize) -> bool
+    requires { (ViewRow of node) first i × (Found of node) found }
     ensures { result ≡ true → well_formed ((text_at of node.entry) ((offset_of of node.entry) + i)) ≡ true }
 {
-    let view = at.place + i * VIEW_SIZE;
+    let view = first + i * VIEW_SIZE;
     if load::<4>(node.image, view) <= INLINE_LENGTH {
         return !high_among(&node.image[view..view + VIEW_SIZE]);
     }
@@ -97,11 +80,11 @@ fn is_plain(node: Node, at: TextsAt, found: Buffers, i: usize) -> bool
 
 // The text of row i, a view, is cut out of its data buffer where no tail stands: it is well-formed where the buffer is, as
 // one text. A short view's text stands in no buffer.
-fn cut_well(node: Node, at: TextsAt, i: usize) -> bool
-    requires { (TextRow of node) at i × (at.views ≡ true) }
+fn cut_well(node: Node, first: usize, i: usize) -> bool
+    requires { (ViewRow of node) first i }
     ensures { result ≡ true → EachBuffer (formed_buffer of node.entry) (buffer_count of node.entry) → well_formed ((text_at of node.entry) ((offset_of of node.entry) + i)) ≡ true }
 {
-    let view = at.place + i * VIEW_SIZE;
+    let view = first + i * VIEW_SIZE;
     let len = load::<4>(node.image, view);
     if len <= INLINE_LENGTH {
         return false;
@@ -118,34 +101,44 @@ fn cut_well(node: Node, at: TextsAt, i: usize) -> bool
     true
 }
 
-// The text of row i, which is not null, is well-formed.
-fn is_formed(node: Node, at: TextsAt, found: Buffers, i: usize) -> bool
-    requires { (TextRow of node) at i × (Found of node) at found }
+// The text of row i, a view that is not null, is well-formed.
+fn view_formed(node: Node, first: usize, found: Buffers, i: usize) -> bool
+    requires { (ViewRow of node) first i × (Found of node) found }
     ensures { result ≡ well_formed ((text_at of node.entry) ((offset_of of node.entry) + i)) }
 {
-    if at.views {
-        if is_plain(node, at, found, i) {
-            return true;
-        }
+    if is_plain(node, first, found, i) {
+        return true;
     }
     if found.formed {
-        if cut_well(node, at, i) {
+        if cut_well(node, first, i) {
             return true;
         }
     }
-    let text = text_of(node, at, i);
-    is_utf8(&node.image[text.place..text.place + text.len])
+    let view = first + i * VIEW_SIZE;
+    let len = load::<4>(node.image, view);
+    let start = view_bytes(node, view, len);
+    is_utf8(&node.image[start..start + len])
 }
 
-// A row that is not null has an ill-formed text.
-fn rows_fault(node: Node, at: TextsAt, found: Buffers) -> bool
-    requires { (TextNode of node) × (TextsRead of node) at × (Found of node) at found }
-    ensures { result ≡ any (text_row_fault of node.entry) 0 (length_of of node.entry) }
+// The text of row i, from its offset up to the next, is well-formed.
+fn text_formed(node: Node, texts: Texts, i: usize) -> bool
+    requires { (OffsetNode of node) × (TextsRead of node) texts × (i < length_of of node) }
+    ensures { result ≡ well_formed ((text_at of node.entry) ((offset_of of node.entry) + i)) }
+{
+    let from = texts.start + texts.offsets.inside(i);
+    let to = texts.start + texts.offsets.inside(i + 1);
+    is_utf8(&node.image[from..to])
+}
+
+// A row that is not null has an ill-formed text, as a test of each such row tells.
+fn any_ill_formed<F: Fn(usize) -> bool>(node: Node, is_formed: F) -> bool
+    requires { (i : ℕ) → (TextRow of node) i → F.pre is_formed i }
+    ensures { (Judges of node.entry) (F.post is_formed) → result ≡ any (text_row_fault of node.entry) 0 (length_of of node.entry) }
 {
     let bitmap = node.bitmap();
     for i in 0..node.length() {
         if node.is_kept(bitmap, i) {
-            if !is_formed(node, at, found, i) {
+            if !is_formed(i) {
                 return true;
             }
         }
@@ -154,35 +147,25 @@ fn rows_fault(node: Node, at: TextsAt, found: Buffers) -> bool
 }
 
 // The texts of all rows, which stand one after the other, as one.
-fn stretch_of(node: Node, at: TextsAt) -> Span
-    requires { (TextNode of node) × (TextsRead of node) at × (at.views ≡ false) }
+fn stretch_of(node: Node, texts: Texts) -> Span
+    requires { (OffsetNode of node) × (TextsRead of node) texts }
     ensures { (Stretch of node.entry) result }
 {
-    let offsets = Numbers {
-        bytes: node.image,
-        place: at.place,
-        width: at.width,
-    };
-    let from = offsets.inside(0);
-    let to = offsets.inside(node.length());
+    let from = texts.offsets.inside(0);
+    let to = texts.offsets.inside(node.length());
     Span {
-        place: at.text + from,
+        place: texts.start + from,
         len: to - from,
     }
 }
 
 // A row's text starts inside a letter: with a tail, before the end of all texts.
-fn letter_split(node: Node, at: TextsAt, end: usize) -> bool
-    requires { (TextNode of node) × (TextsRead of node) at × (at.views ≡ false) × (end ≤ length node.image.now) }
+fn letter_split(node: Node, texts: Texts, end: usize) -> bool
+    requires { (OffsetNode of node) × (TextsRead of node) texts × (end ≤ length node.image.now) }
     ensures { result ≡ any ((splits of node.entry) end) 0 (length_of of node.entry) }
 {
-    let offsets = Numbers {
-        bytes: node.image,
-        place: at.place,
-        width: at.width,
-    };
     for i in 0..node.length() {
-        let start = at.text + offsets.inside(i);
+        let start = texts.start + texts.offsets.inside(i);
         if start < end {
             if is_tail(node.image[start]) {
                 return true;
@@ -194,11 +177,11 @@ fn letter_split(node: Node, at: TextsAt, end: usize) -> bool
 
 // The texts of all rows are well-formed, as one look at all of them together tells: there is no byte above 7F, or they are
 // one well-formed text and no row's starts inside a letter. A no tells nothing, since bytes under nulls are among them.
-fn formed_together(node: Node, at: TextsAt) -> bool
-    requires { (TextNode of node) × (TextsRead of node) at × (at.views ≡ false) }
+fn formed_together(node: Node, texts: Texts) -> bool
+    requires { (OffsetNode of node) × (TextsRead of node) texts }
     ensures { result ≡ true → any (text_row_fault of node.entry) 0 (length_of of node.entry) ≡ false }
 {
-    let all = stretch_of(node, at);
+    let all = stretch_of(node, texts);
     let text = &node.image[all.place..all.place + all.len];
     if !has_high(text) {
         return true;
@@ -206,16 +189,16 @@ fn formed_together(node: Node, at: TextsAt) -> bool
     if !walks_well(text) {
         return false;
     }
-    !letter_split(node, at, all.place + all.len)
+    !letter_split(node, texts, all.place + all.len)
 }
 
 // The views have more bytes in all than the image, so that many share theirs. It chooses a path and no answer.
-fn bytes_shared(node: Node, at: TextsAt) -> bool
-    requires { (TextNode of node) × (TextsRead of node) at × (at.views ≡ true) }
+fn bytes_shared(node: Node, first: usize) -> bool
+    requires { (ViewNode of node) × (ViewsRead of node) first }
 {
     let mut sum: usize = 0;
     for i in 0..node.length() {
-        sum += load::<4>(node.image, at.place + i * VIEW_SIZE);
+        sum += load::<4>(node.image, first + i * VIEW_SIZE);
     }
     node.image.len() < sum
 }
@@ -252,12 +235,12 @@ fn buffers_formed(node: Node) -> bool
 
 // What can be said of the data buffers of views. That they are well-formed is looked at only where views share their bytes:
 // then each is walked once, and no longer for each view.
-fn buffers_of(node: Node, at: TextsAt) -> Buffers
-    requires { (TextNode of node) × (TextsRead of node) at × (at.views ≡ true) }
-    ensures { (Found of node.entry) at result }
+fn buffers_of(node: Node, first: usize) -> Buffers
+    requires { (ViewNode of node) × (ViewsRead of node) first }
+    ensures { (Found of node.entry) result }
 {
     let plain = buffers_plain(node);
-    if bytes_shared(node, at) {
+    if bytes_shared(node, first) {
         return Buffers {
             plain: plain,
             formed: buffers_formed(node),
@@ -274,22 +257,18 @@ pub fn fault_19(node: Node) -> bool
     requires { NoneBelow 19 node.image.now × (node.number < node_count node.image.now) }
     ensures { result ≡ fault19 of node.entry }
 {
-    if !TypeCode::is_text(node.code()) {
+    let code = node.code();
+    if !TypeCode::is_text(code) {
         return false;
     }
-    let at = texts_of(node);
-    if at.views {
-        return rows_fault(node, at, buffers_of(node, at));
+    if code == TypeCode::UTF8_VIEW {
+        let first = first_view(node);
+        let found = buffers_of(node, first);
+        return any_ill_formed(node, |i| view_formed(node, first, found, i));
     }
-    if formed_together(node, at) {
+    let texts = texts_of(node);
+    if formed_together(node, texts) {
         return false;
     }
-    rows_fault(
-        node,
-        at,
-        Buffers {
-            plain: false,
-            formed: false,
-        },
-    )
+    any_ill_formed(node, |i| text_formed(node, texts, i))
 }

@@ -44,21 +44,22 @@ fn sum_below<F: Fn(u32) -> u32>(n: u32, count: F) -> usize
     sum
 }
 
-// 1 plus the child counts of the nodes before a node.
-fn child_start(image: &[u8], node: u32) -> usize
-    ensures { Sum (child_start image.now node) node result }
+// 1 plus the child counts of the first n nodes.
+// Kept: an image and a number here and in the two below: n is a count, up to that of all nodes, and names none of them.
+fn child_start(image: &[u8], n: u32) -> usize
+    ensures { Sum (child_start image.now n) n result }
 {
-    1 + sum_below(node, |k| Node { image, number: k }.child_count())
+    1 + sum_below(n, |k| Node { image, number: k }.child_count())
 }
 
-// The buffer counts of the nodes before a node.
-fn buffer_start(image: &[u8], node: u32) -> usize
-    ensures { Sum (buffer_start image.now node) node result }
+// The buffer counts of the first n nodes.
+fn buffer_start(image: &[u8], n: u32) -> usize
+    ensures { Sum (buffer_start image.now n) n result }
 {
-    sum_below(node, |k| Node { image, number: k }.buffer_count())
+    sum_below(n, |k| Node { image, number: k }.buffer_count())
 }
 
-// How many nodes are not too deep.
+// How many of the n nodes of an image are not too deep.
 fn level_end(image: &[u8], n: u32) -> u32
     requires { (n ≡ node_count image.now) × (n < 2 ^ 16) }
     ensures { result ≡ level_end image.now max_depth }

@@ -18,7 +18,7 @@ use Rattle.values.specs.declared.pair.Pair.{Pair}
 use Rattle.values.specs.declared.pair.Rows.{Rows}
 use Rattle.values.specs.Bits.{bits_at, Leading}
 use Rattle.values.specs.Pairs.{first_unequal, same_row, same_bit, same_mask}
-use Rattle.values.specs.Pair.{BitsOf, MaskWord, first_null, first_unequal_in, PartsOf}
+use Rattle.values.specs.Pair.{BitsOf, first_null, first_unequal_in, PartsOf}
 use Rattle.values.proofs.Steps.{all_by}
 use Rattle.values.proofs.FirstUnequal.{unequal_none, unequal_moved, leading_first}
 use Rattle.values.proofs.Leads.{leading_moved, leading_every}
@@ -39,10 +39,10 @@ read_bit : (v : Node) (i h : ℕ) {x : Bits} → BitsOf v i x → bit_at x.bytes
 read_bit v i h b = rw (b.bytes, b.start, b.row) (sym (valid_bit_lem v.image.now v.number b.is_there i h))
 
 -- 64 of them from bit k on
-pub mask_word : (v : Node) (i k : ℕ) {x : Bits} {w : ℕ} → BitsOf v i x → w ≡ bits_at x.bytes.now x.place (x.first + k) 64 → MaskWord v (i + k) w
-mask_word v i k {x} b e =
-    let at : first_bit v.image.now v.number + (i + k) ≡ x.first + k = omega (arith, b.row) in
-    record { is_there = b.is_there; word = e ∙ rw (b.bytes, b.start, at) }
+pub mask_word : {v : Node} (k : ℕ) {x : Bits} {w : ℕ} → BitsOf v 0 x → w ≡ bits_at x.bytes.now x.place (x.first + k) 64 → w ≡ bits_at v.image.now (bitmap_place v.image.now v.number) (first_bit v.image.now v.number + k) 64
+mask_word {v} k {x} b e =
+    let at : first_bit v.image.now v.number + k ≡ x.first + k = omega (arith, b.row) in
+    e ∙ rw (b.bytes, b.start, at)
 
 -- How many rows are not null up to the first that is.
 pub rows_none : (v : Node) (i n : ℕ) → has_bitmap v.image.now v.number ≡ false → Leading (valid v.image.now v.number) i n n

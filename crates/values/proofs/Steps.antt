@@ -4,9 +4,11 @@
 use mathlib.Core.Path.{◌≡◌, refl, sym, ap, ◌∙◌}
 use mathlib.Core.Bool.{Bool, true, false, ◌&&◌}
 use mathlib.Core.List.{List}
-use Prim.Native.Nat.{ℕ, zero, suc, ◌+◌, ◌-◌, ◌<◌, ◌≤◌}
+use Prim.Native.Nat.{ℕ, zero, suc, ◌+◌, ◌-◌, ◌*◌, ◌/◌, ◌<◌, ◌≤◌}
 use native.Mathlib.Omega.{arith}
-use native.Mathlib.Nat.{add-zero, sub-zero}
+use native.Mathlib.Nat.{add-zero, sub-zero, mul_comm}
+use Rattle.std.proofs.Math.Nat.{mul-suc, mul-div-le, mul-le-mul_left, lt-div-mul-add}
+use Rattle.std.proofs.Math.Numerals.{suc-eq-add-one}
 use borrow.Author.Tests.{eq-eqb, ne_eqb}
 use Rattle.image.specs.Bytes.{byte_at, bytes_at}
 use Rattle.image.specs.Types.{same_bytes}
@@ -78,6 +80,22 @@ module _ (p : ℕ → ℕ → Bool) (i j n : ℕ) where
 
   pub jump_fails : (k m : ℕ) → m ≤ n - k → Left p i j n k → all p (i + k) (j + k) m ≡ false → false ≡ all p i j n
   jump_fails k m le r e = sym (r.same ∙ jump k m le ∙ rw e)
+
+-- of n pairs block h, of w pairs, lies before the whole blocks' end, and behind that are fewer
+module _ (n w h : ℕ) where
+  pub block_next : w * (h + 1) ≡ w * h + w
+  block_next = rw (← suc-eq-add-one h) (mul-suc w h)
+
+  pub block_inside : h < n / w → w * h + w ≤ n
+  block_inside lt =
+      let up : w * (h + 1) ≤ w * (n / w) = mul-le-mul_left w (omega (arith, lt)) in
+      omega (arith, up, mul-div-le n w, block_next)
+
+pub blocks_inside : (n w : ℕ) → w * (n / w) ≤ n
+blocks_inside n w = mul-div-le n w
+
+pub blocks_rest : (n w : ℕ) → 0 < w → n - w * (n / w) ≤ w
+blocks_rest n w some = omega (arith, lt-div-mul-add {a = n} {b = w} some, mul_comm w (n / w))
 
 pub all_none : (p : ℕ → ℕ → Bool) (i j : ℕ) → true ≡ all p i j 0
 unfolding all

@@ -19,7 +19,6 @@ use Rattle.values.specs.declared.leaf.Columns.{Columns}
 use Rattle.values.specs.declared.leaf.Leaves.{Leaves}
 use Rattle.values.specs.declared.leaf.Leaves.TheVariants.{Fixed as FixedLeaves, Texts as TextLeaves}
 use Rattle.values.specs.declared.lengths.Offsets.{Offsets}
-use Rattle.values.specs.Bits.{bits_at}
 use Rattle.values.specs.Pairs.{all, first_unequal, range_equal, same_bit, same_mask, same_span, same_distance}
 use Rattle.values.specs.Parts.{Sides, Parts, Masked, Spans, Above, SameEnds, RunParts, Together, Fixed, ColumnsAt, LeafPair, TextPair}
 
@@ -40,6 +39,10 @@ children p c = record { left = child_of p.left c; right = child_of p.right c }
 -- n rows from the one numbered k on; one row of each; and the elements that rows read
 abbrev pub part : Rows → ℕ → ℕ → Rows
 part r k n = record { left = r.left + k; right = r.right + k; count = n }
+
+-- whatever may be answered of a part of rows, of at most w of them, is what p says of its pairs
+abbrev pub TellsParts : (Rows → Bool → Type 0) → Rows → ℕ → (ℕ → ℕ → Bool) → Type 0
+TellsParts answers r w p = (k n : ℕ) (b : Bool) → k + n ≤ r.count → n ≤ w → answers (part r k n) b → b ≡ all p (r.left + k) (r.right + k) n
 
 abbrev pub one_row : ℕ → ℕ → Rows
 one_row i j = record { left = i; right = j; count = 1 }
@@ -106,7 +109,7 @@ pub record Near (x : Bits) (k : ℕ) : Type 0 where
 abbrev pub Inside : Bits → ℕ → ℕ → Type 0
 Inside x k n = x.place + (x.first + k) / 8 + n ≤ length x.bytes.now
 
--- the bits of a node's bitmap from row i on, where it has one, and 64 of them
+-- the bits of a node's bitmap from row i on, where it has one
 pub record BitsOf (v : Node) (i : ℕ) (x : Bits) : Type 0 where
   pub is_there : has_bitmap v.image.now v.number ≡ true
   pub bytes : x.bytes.now ≡ v.image.now
@@ -118,10 +121,6 @@ pub record BitsOf (v : Node) (i : ℕ) (x : Bits) : Type 0 where
 abbrev pub ValidityOf : Node → ℕ → Option Bits → Type 0
 ValidityOf v i None = has_bitmap v.image.now v.number ≡ false
 ValidityOf v i (Some x) = BitsOf v i x
-
-pub record MaskWord (v : Node) (i bits : ℕ) : Type 0 where
-  pub is_there : has_bitmap v.image.now v.number ≡ true
-  pub word : bits ≡ bits_at v.image.now (bitmap_place v.image.now v.number) (first_bit v.image.now v.number + i) 64
 
 -- the bytes of a view, and a view that acceptance says they are there of
 abbrev pub view_bytes : View → List ℕ

@@ -12,6 +12,8 @@ const WORD: usize = 64;
 
 // The 64 bits from bit i on, of the bits that start at a place, as a number, the first bit lowest, where their bytes and
 // one more lie inside.
+// Kept: a slice and a place here and in the next, and no `Bits`: that a byte is below 256 is known of a slice that is itself
+// an argument, and not of one inside a struct.
 fn word_inside(s: &[u8], place: usize, i: usize) -> usize
     requires { place + i / 8 + 9 ≤ length s.now }
     ensures { result ≡ bits_at s.now place i 64 }
@@ -97,6 +99,8 @@ impl Bits<'_> {
 
 // The number of the first of the n lowest bits in which two numbers differ that are not the same, or n where it is not
 // among these.
+// Kept: a number and no Option, here and in what stands below, where the count says that none differs: it is the lesser of two
+// numbers, is added to what was passed, and is compared with the count.
 fn first_apart(x: usize, y: usize, n: usize) -> usize
     requires { x ≢ y }
     ensures { result ≡ first_unequal (same_bit_of x y) 0 0 n }

@@ -38,7 +38,7 @@ pub fn first_place(node: Node, width: usize) -> usize
     node.buffer_place(0) + node.offset() * width
 }
 
-// Two nodes taken apart; none where they have bitmaps or their layout is another.
+// Two nodes taken apart: `None` where they have bitmaps or their layout is another.
 pub fn leaves_of(pair: Pair) -> Option<Leaves>
     requires { Side pair.left.image.now pair.left.number 0 0 × Side pair.right.image.now pair.right.number 0 0 }
     ensures { LeavesOf pair.entry result }

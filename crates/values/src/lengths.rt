@@ -48,6 +48,7 @@ fn distance_block<const W: usize>(left: Offsets, right: Offsets, k: usize, n: us
 }
 
 // The same of any n, block by block.
+// Kept: no `Rows::each_block`, since a closure inside a function over W needs a contract of its own: that is no plainer.
 fn distances_equal<const W: usize>(left: Offsets, right: Offsets, n: usize) -> bool
     requires { AboveOf W left 0 n × AboveOf W right 0 n }
     ensures { result ≡ same_distances W left.entry right.entry 0 n }

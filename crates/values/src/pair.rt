@@ -1,6 +1,7 @@
 // Two nodes whose rows are compared, and the rows of each.
-ghost use Rattle.std.specs.Prelude.{◌≡◌, ◌+◌, ◌<◌, ◌^◌};
-ghost use Rattle.values.specs.Pair.{Roots, children, part};
+ghost use Rattle.std.specs.Prelude.{◌≡◌, Bool, ℕ, ◌+◌, ◌<◌, ◌≤◌, ◌^◌};
+ghost use Rattle.values.specs.Pairs.{all};
+ghost use Rattle.values.specs.Pair.{Roots, children, part, TellsParts};
 
 use image::record::Node;
 
@@ -60,5 +61,21 @@ impl Rows {
             right: self.right + k,
             count: n,
         }
+    }
+
+    // Each block of N of them passes the test, and so do those behind the last, which are fewer.
+    pub fn each_block<const N: usize, F: Fn(Rows) -> bool>(self, test: F) -> bool
+        requires some { 0 < N }
+        requires near { (self.left + self.count < 2 ^ 64) × (self.right + self.count < 2 ^ 64) }
+        requires tested { (k n : ℕ) → k + n ≤ self.count → n ≤ N → F.pre test (part self k n) }
+        ensures { (p : ℕ → ℕ → Bool) → TellsParts (F.post test) self N p → result ≡ all p self.left self.right self.count }
+    {
+        for h in 0..self.count / N {
+            if !test(self.part(N * h, N)) {
+                return false;
+            }
+        }
+        let k = N * (self.count / N);
+        test(self.part(k, self.count - k))
     }
 }

@@ -6,7 +6,7 @@ ghost use Rattle.image.specs.Bytes.{bytes_at};
 ghost use Rattle.image.specs.Element.{element_width, element_place};
 ghost use Rattle.image.specs.Row.{fixed_row};
 ghost use Rattle.values.specs.Pairs.{all, valid_same, masked_row};
-ghost use Rattle.values.specs.Pair.{equal_rows, from_offset, PartsIn, MaskedOf, FixedOf, ColumnsOf, MaskWord, BitsOf};
+ghost use Rattle.values.specs.Pair.{equal_rows, from_offset, PartsIn, MaskedOf, FixedOf, ColumnsOf, BitsOf};
 ghost use Rattle.accepted.specs.Parts.{Elements};
 
 use crate::bits::Bits;
@@ -91,6 +91,7 @@ fn valid_bytes(x: &[u8], y: &[u8], w: usize, bits: usize, n: usize) -> bool
 }
 
 // The same, with a loop of its own for each of the widths that gain by it.
+// Kept: a match on a number: each arm names a width that is known where the loop is compiled.
 fn valid_equal(x: &[u8], y: &[u8], w: usize, bits: usize, n: usize) -> bool
     requires { (n ≤ 64) × (n * w ≤ length x.now) × (n * w ≤ length y.now) }
     ensures { result ≡ all (valid_same bits x.now y.now w) 0 0 n }
@@ -123,11 +124,11 @@ pub fn columns_of(pair: Pair, rows: Rows) -> Columns
     }
 }
 
-// At most 64 rows, of which those are not null whose bit is set.
-fn word_equal(pair: Pair, columns: Columns, bits: usize, rows: Rows) -> bool
+// At most 64 rows, of which those are not null whose bit is set in the left null mask.
+fn word_equal(pair: Pair, columns: Columns, mask: Bits, rows: Rows) -> bool
     requires masked { (rows.count ≤ 64) × MaskedOf FixedWidth pair rows }
     requires columns { ColumnsOf pair columns }
-    requires bits { MaskWord pair.left rows.left bits }
+    requires mask { BitsOf pair.left 0 mask }
     ensures { result ≡ equal_rows (masked_row fixed_row) pair.entry rows }
 {
     let width = columns.width;
@@ -138,27 +139,19 @@ fn word_equal(pair: Pair, columns: Columns, bits: usize, rows: Rows) -> bool
         &pair.left.image[x..x + size],
         &pair.right.image[y..y + size],
         width,
-        bits,
+        mask.word(rows.left),
         rows.count,
     )
 }
 
-// Rows of which some are null: 64 at a time, beside the left null mask from the first row on.
+// Rows of which some are null: 64 at a time, beside the left null mask.
 fn words_equal(pair: Pair, mask: Bits, rows: Rows) -> bool
     requires masked { MaskedOf FixedWidth pair rows }
-    requires mask { BitsOf pair.left rows.left mask }
+    requires mask { BitsOf pair.left 0 mask }
     ensures { result ≡ equal_rows (masked_row fixed_row) pair.entry rows }
 {
-    let n = rows.count;
     let columns = columns_of(pair, rows);
-    for h in 0..n / WORD {
-        let k = 64 * h;
-        if !word_equal(pair, columns, mask.word(k), rows.part(k, WORD)) {
-            return false;
-        }
-    }
-    let k = 64 * (n / WORD);
-    word_equal(pair, columns, mask.word(k), rows.part(k, n - k))
+    rows.each_block::<WORD, _>(|part| word_equal(pair, columns, mask, part))
 }
 
 // A chunk of rows: where not all bytes are the same, those of the rows that are not null.
@@ -169,7 +162,7 @@ pub fn chunk_equal(pair: Pair, rows: Rows) -> bool
     if block_equal(pair, rows) {
         return true;
     }
-    match validity(pair.left, rows.left) {
+    match validity(pair.left, 0) {
         None => false,
         Some(mask) => words_equal(pair, mask, rows),
     }
@@ -180,12 +173,5 @@ pub fn masked_equal(pair: Pair, rows: Rows) -> bool
     requires { MaskedOf FixedWidth pair rows }
     ensures { result ≡ equal_rows (masked_row fixed_row) pair.entry rows }
 {
-    let n = rows.count;
-    for h in 0..n / CHUNK {
-        if !chunk_equal(pair, rows.part(1024 * h, CHUNK)) {
-            return false;
-        }
-    }
-    let k = 1024 * (n / CHUNK);
-    chunk_equal(pair, rows.part(k, n - k))
+    rows.each_block::<CHUNK, _>(|part| chunk_equal(pair, part))
 }

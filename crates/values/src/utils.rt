@@ -12,6 +12,7 @@ use crate::types::same_types;
 use image::bytes::load;
 
 // The W bytes at two places are the same, as numbers: one, or the first eight bytes and the last, which may share some.
+// Kept: slices and places: the loops that call it have the elements of many rows in one slice, and would cut one for each.
 pub fn number_same<const W: usize>(a: &[u8], b: &[u8], at: usize, bt: usize) -> bool
     requires { (W ≤ 16) × (at + W ≤ length a.now) × (bt + W ≤ length b.now) }
     ensures { result ≡ all (same_byte a.now b.now) at bt W }

@@ -3,7 +3,7 @@
 use mathlib.Core.Path.{sym, ◌∙◌}
 use Rattle.accepted.proofs.Nodes.{side_small}
 use Rattle.values.proofs.Steps.{left_none, left_more, left_fails, left_done}
-use Rattle.digits.proofs.Agreeing.{numbers_row}
+use Rattle.digits.proofs.Agreeing.{row_of}
 use native.Mathlib.Omega.{arith}
 use Rattle.digits.proofs.rows_agree.Goals as goal
 
@@ -11,13 +11,13 @@ pub loop-k-init : goal.loop-k-init
 loop-k-init g c = left_none _ _ _ _
 
 pub overflow_add-rows : goal.overflow_add-rows
-overflow_add-rows g c = omega (arith, c.loop-k-test.true, side_small _ _ _ _ c.requires.numbers.0.rows.left)
+overflow_add-rows g c = omega (arith, c.loop-k-test.true, side_small _ _ _ _ c.requires.numbers.0.numbers.rows.left)
 
 pub overflow_add-rows-in-loop-k : goal.overflow_add-rows-in-loop-k
-overflow_add-rows-in-loop-k g c = omega (arith, c.loop-k-test.true, side_small _ _ _ _ c.requires.numbers.0.rows.right)
+overflow_add-rows-in-loop-k g c = omega (arith, c.loop-k-test.true, side_small _ _ _ _ c.requires.numbers.0.numbers.rows.right)
 
 pub row_agrees-requires : goal.row_agrees-requires
-row_agrees-requires g c = record { numbers = (numbers_row c.requires.numbers.0 c.loop-k-test.true, c.requires.numbers.1); columned = c.requires.columned }
+row_agrees-requires g c = record { numbers = (row_of c.requires.numbers.0 c.loop-k-test.true, c.requires.numbers.1); columned = c.requires.columned }
 
 pub returns-then-not-row_agrees : goal.returns-then-not-row_agrees
 returns-then-not-row_agrees g c = left_fails _ _ _ _ _ c.loop-k-test.true c.loop-k.invariant (sym c.row_agrees.ensures ∙ c.if-not-row_agrees.true)

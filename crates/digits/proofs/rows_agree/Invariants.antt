@@ -5,4 +5,4 @@ use Rattle.values.proofs.Steps.{Left}
 use Rattle.digits.proofs.rows_agree.Given as goal
 
 abbrev pub invariant-loop-k : goal.invariant-loop-k
-invariant-loop-k g l = Left (kept_agree l.p l.a l.b) l.rows.left l.rows.right l.rows.count l.k
+invariant-loop-k g l = Left (kept_agree l.p l.pair.left.image.now l.pair.right.image.now) l.rows.left l.rows.right l.rows.count l.k

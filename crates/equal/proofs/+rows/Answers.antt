@@ -35,7 +35,8 @@ use native.Mathlib.Omega.{arith}
 use borrow.Author.Tests.{not-false}
 use borrow.Author.Rules.{rules}
 use Rattle.image.specs.Row.{fixed_row, view_row}
-use Rattle.accepted.proofs.Nodes.{element_read, part_small, part_nth, layout_is, size_read, id_read, dense_offset_read}
+use Rattle.accepted.proofs.Nodes.{part_small, part_nth, layout_is, id_read}
+use Rattle.equal.proofs.Buffers.{element_from, size_from, dense_from}
 use Rattle.equal.proofs.Child.{widths_same, layout_right, parts_inside}
 use Rattle.equal.proofs.Rows.{rows_none, rows_more, rows_fail, rows_done, one_row, rows_jump, rows_jump_fail, rows_rest}
 use Rattle.equal.proofs.Dictionaries.{key_narrow, key_nodes, key_requires, key_answer, key_small, key_same, kept_none, kept_equal, kept_more}
@@ -241,20 +242,20 @@ run::equal-run_of-j-requires t c = run_first c.requires.parts.right (layout_righ
 pub run::equal-same_runs-requires : goal.run::equal-same_runs-requires
 run::equal-same_runs-requires t c = run_parts c.requires.parts c.requires.layout (omega (arith, c.if-n-eq0.false)) c.run_of-i.ensures c.run_of-j.ensures
 
-pub run::equal-runs-init : goal.run::equal-runs-init
-run::equal-runs-init t c = (refl, (stepping_start _ _ _ _ _ _ _ c.run_of-i.ensures c.run_of-j.ensures, rows_none _ _ _ _ _))
+pub run::equal-loop-k-init : goal.run::equal-loop-k-init
+run::equal-loop-k-init t c = (stepping_start _ _ _ _ _ _ _ c.run_of-i.ensures c.run_of-j.ensures, rows_none _ _ _ _ _)
 
 pub run::equal-overflow_add-s : goal.run::equal-overflow_add-s
-run::equal-overflow_add-s t c = omega (arith, part_small c.requires.parts.left, c.runs-test.true)
+run::equal-overflow_add-s t c = omega (arith, part_small c.requires.parts.left, c.loop-k-test.true)
 
 pub run::equal-overflow_sub-x : goal.run::equal-overflow_sub-x
-run::equal-overflow_sub-x t c = omega (arith, run_above c.requires.parts.left c.requires.layout c.runs-test.true (c.runs.invariant.1.0.left c.runs-test.true) (end_is c.ends-left.ensures _ c.at-x.ensures))
+run::equal-overflow_sub-x t c = omega (arith, run_above c.requires.parts.left c.requires.layout c.loop-k-test.true (c.loop-k.invariant.0.left c.loop-k-test.true) (end_is c.ends-left.ensures _ c.at-x.ensures))
 
 pub run::equal-overflow_add-t : goal.run::equal-overflow_add-t
-run::equal-overflow_add-t t c = omega (arith, part_small c.requires.parts.right, c.runs-test.true)
+run::equal-overflow_add-t t c = omega (arith, part_small c.requires.parts.right, c.loop-k-test.true)
 
 pub run::equal-overflow_sub-y : goal.run::equal-overflow_sub-y
-run::equal-overflow_sub-y t c = omega (arith, run_above c.requires.parts.right (layout_right c.requires.parts c.requires.layout) c.runs-test.true (c.runs.invariant.1.0.right c.runs-test.true) (end_is c.ends-right.ensures _ c.at-y.ensures))
+run::equal-overflow_sub-y t c = omega (arith, run_above c.requires.parts.right (layout_right c.requires.parts c.requires.layout) c.loop-k-test.true (c.loop-k.invariant.0.right c.loop-k-test.true) (end_is c.ends-right.ensures _ c.at-y.ensures))
 
 pub run::equal-overflow_sub-n : goal.run::equal-overflow_sub-n
 run::equal-overflow_sub-n t c = omega arith
@@ -263,35 +264,35 @@ pub run::equal-overflow_add-k : goal.run::equal-overflow_add-k
 run::equal-overflow_add-k t c = omega (arith, part_small c.requires.parts.left)
 
 pub run::equal-overflow_sub-last : goal.run::equal-overflow_sub-last
-run::equal-overflow_sub-last t c = omega (arith, step_some c.requires.parts c.requires.layout c.runs.invariant.1.0 c.runs-test.true (end_is c.ends-left.ensures _ c.at-x.ensures) (end_is c.ends-right.ensures _ c.at-y.ensures) c.min.ensures c.min-step.ensures)
+run::equal-overflow_sub-last t c = omega (arith, step_some c.requires.parts c.requires.layout c.loop-k.invariant.0 c.loop-k-test.true (end_is c.ends-left.ensures _ c.at-x.ensures) (end_is c.ends-right.ensures _ c.at-y.ensures) c.min.ensures c.min-step.ensures)
 
-pub run::equal-overflow_add-s-in-runs : goal.run::equal-overflow_add-s-in-runs
-run::equal-overflow_add-s-in-runs t c = omega (arith, part_small c.requires.parts.left)
+pub run::equal-overflow_add-s-in-loop-k : goal.run::equal-overflow_add-s-in-loop-k
+run::equal-overflow_add-s-in-loop-k t c = omega (arith, part_small c.requires.parts.left)
 
 pub run::equal-next_run-i-requires : goal.run::equal-next_run-i-requires
-run::equal-next_run-i-requires t c = (omega (arith, part_small c.requires.parts.left), omega (arith, run_small c.requires.parts.left c.requires.layout c.runs-test.true (c.runs.invariant.1.0.left c.runs-test.true)))
+run::equal-next_run-i-requires t c = (omega (arith, part_small c.requires.parts.left), omega (arith, run_small c.requires.parts.left c.requires.layout c.loop-k-test.true (c.loop-k.invariant.0.left c.loop-k-test.true)))
 
-pub run::equal-overflow_add-t-in-runs : goal.run::equal-overflow_add-t-in-runs
-run::equal-overflow_add-t-in-runs t c = omega (arith, part_small c.requires.parts.right)
+pub run::equal-overflow_add-t-in-loop-k : goal.run::equal-overflow_add-t-in-loop-k
+run::equal-overflow_add-t-in-loop-k t c = omega (arith, part_small c.requires.parts.right)
 
 pub run::equal-next_run-j-requires : goal.run::equal-next_run-j-requires
-run::equal-next_run-j-requires t c = (omega (arith, part_small c.requires.parts.right), omega (arith, run_small c.requires.parts.right (layout_right c.requires.parts c.requires.layout) c.runs-test.true (c.runs.invariant.1.0.right c.runs-test.true)))
+run::equal-next_run-j-requires t c = (omega (arith, part_small c.requires.parts.right), omega (arith, run_small c.requires.parts.right (layout_right c.requires.parts c.requires.layout) c.loop-k-test.true (c.loop-k.invariant.0.right c.loop-k-test.true)))
 
-pub run::equal-runs-smaller : goal.run::equal-runs-smaller
-run::equal-runs-smaller t c = omega (arith, step_some c.requires.parts c.requires.layout c.runs.invariant.1.0 c.runs-test.true (end_is c.ends-left.ensures _ c.at-x.ensures) (end_is c.ends-right.ensures _ c.at-y.ensures) c.min.ensures c.min-step.ensures)
+pub run::equal-loop-k-smaller : goal.run::equal-loop-k-smaller
+run::equal-loop-k-smaller t c = omega (arith, step_some c.requires.parts c.requires.layout c.loop-k.invariant.0 c.loop-k-test.true (end_is c.ends-left.ensures _ c.at-x.ensures) (end_is c.ends-right.ensures _ c.at-y.ensures) c.min.ensures c.min-step.ensures)
 
-pub run::equal-runs-preserved : goal.run::equal-runs-preserved
-run::equal-runs-preserved t c =
+pub run::equal-loop-k-preserved : goal.run::equal-loop-k-preserved
+run::equal-loop-k-preserved t c =
     let same = rw c.child-values.ensures.same at c.equal_row.ensures in
-    (c.runs.invariant.0, step_again c.requires.parts c.requires.layout c.runs.invariant.1.0 c.runs-test.true (end_is c.ends-left.ensures _ c.at-x.ensures) (end_is c.ends-right.ensures _ c.at-y.ensures) c.min.ensures c.min-step.ensures refl refl c.runs.invariant.1.1 (sym same ∙ c.if-not-equal_row.false) c.next_run-i.ensures c.next_run-j.ensures)
+    (step_again c.requires.parts c.requires.layout c.loop-k.invariant.0 c.loop-k-test.true (end_is c.ends-left.ensures _ c.at-x.ensures) (end_is c.ends-right.ensures _ c.at-y.ensures) c.min.ensures c.min-step.ensures refl refl c.loop-k.invariant.1 (sym same ∙ c.if-not-equal_row.false) c.next_run-i.ensures c.next_run-j.ensures)
 
-pub run::equal-returns-after-runs : goal.run::equal-returns-after-runs
-run::equal-returns-after-runs t c = c.runs.invariant.0 ∙ rows_done c.runs.invariant.1.1 c.runs-test.false
+pub run::equal-returns : goal.run::equal-returns
+run::equal-returns t c = rows_done c.loop-k.invariant.1 c.loop-k-test.false
 
 pub run::equal-returns-then-not-equal_row : goal.run::equal-returns-then-not-equal_row
 run::equal-returns-then-not-equal_row t c =
     let same = rw c.child-values.ensures.same at c.equal_row.ensures in
-    step_fail c.requires.parts c.requires.layout c.runs.invariant.1.0 c.runs-test.true refl refl c.runs.invariant.1.1 (sym same ∙ c.if-not-equal_row.true)
+    step_fail c.requires.parts c.requires.layout c.loop-k.invariant.0 c.loop-k-test.true refl refl c.loop-k.invariant.1 (sym same ∙ c.if-not-equal_row.true)
 
 pub equal_row-leaf_equal-requires : goal.equal_row-leaf_equal-requires
 equal_row-leaf_equal-requires t c = record { sides = range_sides c.requires.sides (λ z. omega (arith, c.if-depth-gt0.true)); leaves = rw c.in-Some.is at c.requires.leaves }
@@ -318,23 +319,23 @@ pub dictionary::equal-overflow_add-rows-in-loop-k : goal.dictionary::equal-overf
 dictionary::equal-overflow_add-rows-in-loop-k t c = omega (arith, part_small c.requires.parts.left, part_small c.requires.parts.right, c.loop-k-test.true)
 
 pub dictionary::equal-at-x-requires : goal.dictionary::equal-at-x-requires
-dictionary::equal-at-x-requires t c = part_nth c.requires.parts.left c.loop-k.k (omega (arith, c.loop-k-test.true)) c.buffer_place.ensures (omega (arith, c.element_width-width.ensures, key_narrow c.requires.parts c.requires.layout))
+dictionary::equal-at-x-requires t c = part_nth c.requires.parts.left c.loop-k.k (omega (arith, c.loop-k-test.true)) c.numbers-left.ensures.place (omega (arith, c.numbers-left.ensures.width, c.element_width-width.ensures, key_narrow c.requires.parts c.requires.layout))
 
 pub dictionary::equal-at-y-requires : goal.dictionary::equal-at-y-requires
-dictionary::equal-at-y-requires t c = part_nth c.requires.parts.right c.loop-k.k (omega (arith, c.loop-k-test.true)) c.buffer_place-2.ensures (omega (arith, c.element_width-width.ensures, key_narrow c.requires.parts c.requires.layout))
+dictionary::equal-at-y-requires t c = part_nth c.requires.parts.right c.loop-k.k (omega (arith, c.loop-k-test.true)) c.numbers-right.ensures.place (omega (arith, c.numbers-right.ensures.width, c.element_width-width.ensures, key_narrow c.requires.parts c.requires.layout))
 
 pub dictionary::equal-equal_row-requires : goal.dictionary::equal-equal_row-requires
-dictionary::equal-equal_row-requires t c = (search rules, (rw c.child-child.ensures.same (key_requires c.requires.parts c.requires.layout c.loop-k.k c.loop-k-test.true (add-zero _) (add-zero _) (element_read _ _ _ c.element_width-width.ensures c.buffer_place.ensures c.at-x.ensures) (element_read _ _ _ (c.element_width-width.ensures ∙ widths_same c.requires.parts) c.buffer_place-2.ensures c.at-y.ensures)), c.leaves_of-leaves.ensures))
+dictionary::equal-equal_row-requires t c = (search rules, (rw c.child-child.ensures.same (key_requires c.requires.parts c.requires.layout c.loop-k.k c.loop-k-test.true (add-zero _) (add-zero _) (element_from c.args.pair.left c.numbers-left.result _ (c.numbers-left.ensures.width ∙ c.element_width-width.ensures) c.numbers-left.ensures.bytes c.numbers-left.ensures.place c.at-x.ensures) (element_from c.args.pair.right c.numbers-right.result _ (c.numbers-right.ensures.width ∙ (c.element_width-width.ensures ∙ widths_same c.requires.parts)) c.numbers-right.ensures.bytes c.numbers-right.ensures.place c.at-y.ensures)), c.leaves_of-leaves.ensures))
 
 pub dictionary::equal-returns-then-not-equal_row : goal.dictionary::equal-returns-then-not-equal_row
 dictionary::equal-returns-then-not-equal_row t c =
     let same = rw c.child-child.ensures.same at c.equal_row.ensures in
-    rows_fail c.loop-k.invariant c.loop-k-test.true (sym (key_answer c.requires.parts c.requires.layout c.loop-k.k c.loop-k-test.true (add-zero _) (add-zero _) (element_read _ _ _ c.element_width-width.ensures c.buffer_place.ensures c.at-x.ensures) (element_read _ _ _ (c.element_width-width.ensures ∙ widths_same c.requires.parts) c.buffer_place-2.ensures c.at-y.ensures)) ∙ sym same ∙ c.if-not-equal_row.true)
+    rows_fail c.loop-k.invariant c.loop-k-test.true (sym (key_answer c.requires.parts c.requires.layout c.loop-k.k c.loop-k-test.true (add-zero _) (add-zero _) (element_from c.args.pair.left c.numbers-left.result _ (c.numbers-left.ensures.width ∙ c.element_width-width.ensures) c.numbers-left.ensures.bytes c.numbers-left.ensures.place c.at-x.ensures) (element_from c.args.pair.right c.numbers-right.result _ (c.numbers-right.ensures.width ∙ (c.element_width-width.ensures ∙ widths_same c.requires.parts)) c.numbers-right.ensures.bytes c.numbers-right.ensures.place c.at-y.ensures)) ∙ sym same ∙ c.if-not-equal_row.true)
 
 pub dictionary::equal-loop-k-preserved : goal.dictionary::equal-loop-k-preserved
 dictionary::equal-loop-k-preserved t c =
     let same = rw c.child-child.ensures.same at c.equal_row.ensures in
-    rows_more c.loop-k.invariant c.loop-k-test.true (sym (key_answer c.requires.parts c.requires.layout c.loop-k.k c.loop-k-test.true (add-zero _) (add-zero _) (element_read _ _ _ c.element_width-width.ensures c.buffer_place.ensures c.at-x.ensures) (element_read _ _ _ (c.element_width-width.ensures ∙ widths_same c.requires.parts) c.buffer_place-2.ensures c.at-y.ensures)) ∙ sym same ∙ c.if-not-equal_row.false)
+    rows_more c.loop-k.invariant c.loop-k-test.true (sym (key_answer c.requires.parts c.requires.layout c.loop-k.k c.loop-k-test.true (add-zero _) (add-zero _) (element_from c.args.pair.left c.numbers-left.result _ (c.numbers-left.ensures.width ∙ c.element_width-width.ensures) c.numbers-left.ensures.bytes c.numbers-left.ensures.place c.at-x.ensures) (element_from c.args.pair.right c.numbers-right.result _ (c.numbers-right.ensures.width ∙ (c.element_width-width.ensures ∙ widths_same c.requires.parts)) c.numbers-right.ensures.bytes c.numbers-right.ensures.place c.at-y.ensures)) ∙ sym same ∙ c.if-not-equal_row.false)
 
 pub dictionary::equal-returns : goal.dictionary::equal-returns
 dictionary::equal-returns t c = rows_done c.loop-k.invariant c.loop-k-test.false
@@ -358,27 +359,27 @@ pub dictionary::long_equal-overflow_add-rows-in-loop-row : goal.dictionary::long
 dictionary::long_equal-overflow_add-rows-in-loop-row t c = omega (arith, part_small c.requires.parts.left, part_small c.requires.parts.right, c.loop-row-test.true)
 
 pub dictionary::long_equal-at-x-requires : goal.dictionary::long_equal-at-x-requires
-dictionary::long_equal-at-x-requires t c = part_nth c.requires.parts.left c.loop-row.row (omega (arith, c.loop-row-test.true)) c.buffer_place.ensures (omega (arith, c.element_width-width.ensures, key_narrow c.requires.parts c.requires.layout))
+dictionary::long_equal-at-x-requires t c = part_nth c.requires.parts.left c.loop-row.row (omega (arith, c.loop-row-test.true)) c.numbers-left.ensures.place (omega (arith, c.numbers-left.ensures.width, c.element_width-width.ensures, key_narrow c.requires.parts c.requires.layout))
 
 pub dictionary::long_equal-at-y-requires : goal.dictionary::long_equal-at-y-requires
-dictionary::long_equal-at-y-requires t c = part_nth c.requires.parts.right c.loop-row.row (omega (arith, c.loop-row-test.true)) c.buffer_place-2.ensures (omega (arith, c.element_width-width.ensures, key_narrow c.requires.parts c.requires.layout))
+dictionary::long_equal-at-y-requires t c = part_nth c.requires.parts.right c.loop-row.row (omega (arith, c.loop-row-test.true)) c.numbers-right.ensures.place (omega (arith, c.numbers-right.ensures.width, c.element_width-width.ensures, key_narrow c.requires.parts c.requires.layout))
 
 pub dictionary::long_equal-equal_row-requires : goal.dictionary::long_equal-equal_row-requires
-dictionary::long_equal-equal_row-requires t c = (search rules, (rw c.child-child.ensures.same (key_requires c.requires.parts c.requires.layout c.loop-row.row c.loop-row-test.true (add-zero _) (add-zero _) (element_read _ _ _ c.element_width-width.ensures c.buffer_place.ensures c.at-x.ensures) (element_read _ _ _ (c.element_width-width.ensures ∙ widths_same c.requires.parts) c.buffer_place-2.ensures c.at-y.ensures)), c.leaves_of-leaves.ensures))
+dictionary::long_equal-equal_row-requires t c = (search rules, (rw c.child-child.ensures.same (key_requires c.requires.parts c.requires.layout c.loop-row.row c.loop-row-test.true (add-zero _) (add-zero _) (element_from c.args.pair.left c.numbers-left.result _ (c.numbers-left.ensures.width ∙ c.element_width-width.ensures) c.numbers-left.ensures.bytes c.numbers-left.ensures.place c.at-x.ensures) (element_from c.args.pair.right c.numbers-right.result _ (c.numbers-right.ensures.width ∙ (c.element_width-width.ensures ∙ widths_same c.requires.parts)) c.numbers-right.ensures.bytes c.numbers-right.ensures.place c.at-y.ensures)), c.leaves_of-leaves.ensures))
 
 pub dictionary::long_equal-returns-then-not-equal_row : goal.dictionary::long_equal-returns-then-not-equal_row
 dictionary::long_equal-returns-then-not-equal_row t c =
     let same = rw c.child-child.ensures.same at c.equal_row.ensures in
-    rows_fail c.loop-row.invariant.1 c.loop-row-test.true (sym (key_answer c.requires.parts c.requires.layout c.loop-row.row c.loop-row-test.true (add-zero _) (add-zero _) (element_read _ _ _ c.element_width-width.ensures c.buffer_place.ensures c.at-x.ensures) (element_read _ _ _ (c.element_width-width.ensures ∙ widths_same c.requires.parts) c.buffer_place-2.ensures c.at-y.ensures)) ∙ sym same ∙ c.if-not-equal_row.true)
+    rows_fail c.loop-row.invariant.1 c.loop-row-test.true (sym (key_answer c.requires.parts c.requires.layout c.loop-row.row c.loop-row-test.true (add-zero _) (add-zero _) (element_from c.args.pair.left c.numbers-left.result _ (c.numbers-left.ensures.width ∙ c.element_width-width.ensures) c.numbers-left.ensures.bytes c.numbers-left.ensures.place c.at-x.ensures) (element_from c.args.pair.right c.numbers-right.result _ (c.numbers-right.ensures.width ∙ (c.element_width-width.ensures ∙ widths_same c.requires.parts)) c.numbers-right.ensures.bytes c.numbers-right.ensures.place c.at-y.ensures)) ∙ sym same ∙ c.if-not-equal_row.true)
 
 pub dictionary::long_equal-overflow_mul-keys : goal.dictionary::long_equal-overflow_mul-keys
-dictionary::long_equal-overflow_mul-keys t c = omega (arith, key_small c.requires.parts c.requires.layout c.loop-row.row c.loop-row-test.true (add-zero _) (add-zero _) (element_read _ _ _ c.element_width-width.ensures c.buffer_place.ensures c.at-x.ensures) (element_read _ _ _ (c.element_width-width.ensures ∙ widths_same c.requires.parts) c.buffer_place-2.ensures c.at-y.ensures))
+dictionary::long_equal-overflow_mul-keys t c = omega (arith, key_small c.requires.parts c.requires.layout c.loop-row.row c.loop-row-test.true (add-zero _) (add-zero _) (element_from c.args.pair.left c.numbers-left.result _ (c.numbers-left.ensures.width ∙ c.element_width-width.ensures) c.numbers-left.ensures.bytes c.numbers-left.ensures.place c.at-x.ensures) (element_from c.args.pair.right c.numbers-right.result _ (c.numbers-right.ensures.width ∙ (c.element_width-width.ensures ∙ widths_same c.requires.parts)) c.numbers-right.ensures.bytes c.numbers-right.ensures.place c.at-y.ensures))
 
 pub dictionary::long_equal-overflow_add-keys : goal.dictionary::long_equal-overflow_add-keys
-dictionary::long_equal-overflow_add-keys t c = omega (arith, key_small c.requires.parts c.requires.layout c.loop-row.row c.loop-row-test.true (add-zero _) (add-zero _) (element_read _ _ _ c.element_width-width.ensures c.buffer_place.ensures c.at-x.ensures) (element_read _ _ _ (c.element_width-width.ensures ∙ widths_same c.requires.parts) c.buffer_place-2.ensures c.at-y.ensures))
+dictionary::long_equal-overflow_add-keys t c = omega (arith, key_small c.requires.parts c.requires.layout c.loop-row.row c.loop-row-test.true (add-zero _) (add-zero _) (element_from c.args.pair.left c.numbers-left.result _ (c.numbers-left.ensures.width ∙ c.element_width-width.ensures) c.numbers-left.ensures.bytes c.numbers-left.ensures.place c.at-x.ensures) (element_from c.args.pair.right c.numbers-right.result _ (c.numbers-right.ensures.width ∙ (c.element_width-width.ensures ∙ widths_same c.requires.parts)) c.numbers-right.ensures.bytes c.numbers-right.ensures.place c.at-y.ensures))
 
 pub dictionary::long_equal-overflow_add-keys-in-loop-row : goal.dictionary::long_equal-overflow_add-keys-in-loop-row
-dictionary::long_equal-overflow_add-keys-in-loop-row t c = omega (arith, key_small c.requires.parts c.requires.layout c.loop-row.row c.loop-row-test.true (add-zero _) (add-zero _) (element_read _ _ _ c.element_width-width.ensures c.buffer_place.ensures c.at-x.ensures) (element_read _ _ _ (c.element_width-width.ensures ∙ widths_same c.requires.parts) c.buffer_place-2.ensures c.at-y.ensures))
+dictionary::long_equal-overflow_add-keys-in-loop-row t c = omega (arith, key_small c.requires.parts c.requires.layout c.loop-row.row c.loop-row-test.true (add-zero _) (add-zero _) (element_from c.args.pair.left c.numbers-left.result _ (c.numbers-left.ensures.width ∙ c.element_width-width.ensures) c.numbers-left.ensures.bytes c.numbers-left.ensures.place c.at-x.ensures) (element_from c.args.pair.right c.numbers-right.result _ (c.numbers-right.ensures.width ∙ (c.element_width-width.ensures ∙ widths_same c.requires.parts)) c.numbers-right.ensures.bytes c.numbers-right.ensures.place c.at-y.ensures))
 
 pub dictionary::long_equal-returns : goal.dictionary::long_equal-returns
 dictionary::long_equal-returns t c = rows_done c.loop-row.invariant.1 c.loop-row-test.false
@@ -389,10 +390,10 @@ dictionary::long_equal-loop-row-preserved t c =
       | dictionary::long_equal-then-kept-place+else-not-equal_row w ↦
           let same = rw c.child-child.ensures.same at w.equal_row.ensures in
           rw w.kept-is
-          (kept_more c.loop-row.invariant.0 _ _ (omega (arith, key_small c.requires.parts c.requires.layout c.loop-row.row c.loop-row-test.true (add-zero _) (add-zero _) (element_read _ _ _ c.element_width-width.ensures c.buffer_place.ensures c.at-x.ensures) (element_read _ _ _ (c.element_width-width.ensures ∙ widths_same c.requires.parts) c.buffer_place-2.ensures c.at-y.ensures))) (sym (one_row _ _ _ _) ∙ sym same ∙ w.if-not-equal_row.false), rows_more c.loop-row.invariant.1 c.loop-row-test.true (sym (key_answer c.requires.parts c.requires.layout c.loop-row.row c.loop-row-test.true (add-zero _) (add-zero _) (element_read _ _ _ c.element_width-width.ensures c.buffer_place.ensures c.at-x.ensures) (element_read _ _ _ (c.element_width-width.ensures ∙ widths_same c.requires.parts) c.buffer_place-2.ensures c.at-y.ensures)) ∙ sym same ∙ w.if-not-equal_row.false))
+          (kept_more c.loop-row.invariant.0 _ _ (omega (arith, key_small c.requires.parts c.requires.layout c.loop-row.row c.loop-row-test.true (add-zero _) (add-zero _) (element_from c.args.pair.left c.numbers-left.result _ (c.numbers-left.ensures.width ∙ c.element_width-width.ensures) c.numbers-left.ensures.bytes c.numbers-left.ensures.place c.at-x.ensures) (element_from c.args.pair.right c.numbers-right.result _ (c.numbers-right.ensures.width ∙ (c.element_width-width.ensures ∙ widths_same c.requires.parts)) c.numbers-right.ensures.bytes c.numbers-right.ensures.place c.at-y.ensures))) (sym (one_row _ _ _ _) ∙ sym same ∙ w.if-not-equal_row.false), rows_more c.loop-row.invariant.1 c.loop-row-test.true (sym (key_answer c.requires.parts c.requires.layout c.loop-row.row c.loop-row-test.true (add-zero _) (add-zero _) (element_from c.args.pair.left c.numbers-left.result _ (c.numbers-left.ensures.width ∙ c.element_width-width.ensures) c.numbers-left.ensures.bytes c.numbers-left.ensures.place c.at-x.ensures) (element_from c.args.pair.right c.numbers-right.result _ (c.numbers-right.ensures.width ∙ (c.element_width-width.ensures ∙ widths_same c.requires.parts)) c.numbers-right.ensures.bytes c.numbers-right.ensures.place c.at-y.ensures)) ∙ sym same ∙ w.if-not-equal_row.false))
       | dictionary::long_equal-else-kept-place w ↦
           rw w.kept-is
-          (c.loop-row.invariant.0, rows_more c.loop-row.invariant.1 c.loop-row-test.true (sym (key_same c.requires.parts c.requires.layout c.loop-row.row c.loop-row-test.true (add-zero _) (add-zero _) (element_read _ _ _ c.element_width-width.ensures c.buffer_place.ensures c.at-x.ensures) (element_read _ _ _ (c.element_width-width.ensures ∙ widths_same c.requires.parts) c.buffer_place-2.ensures c.at-y.ensures)) ∙ kept_equal c.loop-row.invariant.0 _ _ (omega (arith, key_small c.requires.parts c.requires.layout c.loop-row.row c.loop-row-test.true (add-zero _) (add-zero _) (element_read _ _ _ c.element_width-width.ensures c.buffer_place.ensures c.at-x.ensures) (element_read _ _ _ (c.element_width-width.ensures ∙ widths_same c.requires.parts) c.buffer_place-2.ensures c.at-y.ensures))) w.if-kept-place.false))
+          (c.loop-row.invariant.0, rows_more c.loop-row.invariant.1 c.loop-row-test.true (sym (key_same c.requires.parts c.requires.layout c.loop-row.row c.loop-row-test.true (add-zero _) (add-zero _) (element_from c.args.pair.left c.numbers-left.result _ (c.numbers-left.ensures.width ∙ c.element_width-width.ensures) c.numbers-left.ensures.bytes c.numbers-left.ensures.place c.at-x.ensures) (element_from c.args.pair.right c.numbers-right.result _ (c.numbers-right.ensures.width ∙ (c.element_width-width.ensures ∙ widths_same c.requires.parts)) c.numbers-right.ensures.bytes c.numbers-right.ensures.place c.at-y.ensures)) ∙ kept_equal c.loop-row.invariant.0 _ _ (omega (arith, key_small c.requires.parts c.requires.layout c.loop-row.row c.loop-row-test.true (add-zero _) (add-zero _) (element_from c.args.pair.left c.numbers-left.result _ (c.numbers-left.ensures.width ∙ c.element_width-width.ensures) c.numbers-left.ensures.bytes c.numbers-left.ensures.place c.at-x.ensures) (element_from c.args.pair.right c.numbers-right.result _ (c.numbers-right.ensures.width ∙ (c.element_width-width.ensures ∙ widths_same c.requires.parts)) c.numbers-right.ensures.bytes c.numbers-right.ensures.place c.at-y.ensures))) w.if-kept-place.false))
     ]
 
 pub fixed_list::equal-overflow_mul-items : goal.fixed_list::equal-overflow_mul-items
@@ -457,32 +458,32 @@ pub list_view::equal-overflow_add-rows-in-loop-k-2 : goal.list_view::equal-overf
 list_view::equal-overflow_add-rows-in-loop-k-2 t c = omega (arith, part_small c.requires.parts.left, part_small c.requires.parts.right, c.loop-k-test.true)
 
 pub list_view::equal-at-size-requires : goal.list_view::equal-at-size-requires
-list_view::equal-at-size-requires t c = part_nth c.requires.parts.left c.loop-k.k (omega (arith, c.loop-k-test.true)) c.buffer_place-3.ensures (omega (arith, c.element_width-width.ensures, view_narrow c.requires.parts c.requires.layout))
+list_view::equal-at-size-requires t c = part_nth c.requires.parts.left c.loop-k.k (omega (arith, c.loop-k-test.true)) c.numbers-left_sizes.ensures.place (omega (arith, c.numbers-left_sizes.ensures.width, c.element_width-width.ensures, view_narrow c.requires.parts c.requires.layout))
 
 pub list_view::equal-at-requires : goal.list_view::equal-at-requires
-list_view::equal-at-requires t c = part_nth c.requires.parts.right c.loop-k.k (omega (arith, c.loop-k-test.true)) c.buffer_place-4.ensures (omega (arith, c.element_width-width.ensures, view_narrow c.requires.parts c.requires.layout))
+list_view::equal-at-requires t c = part_nth c.requires.parts.right c.loop-k.k (omega (arith, c.loop-k-test.true)) c.numbers-right_sizes.ensures.place (omega (arith, c.numbers-right_sizes.ensures.width, c.element_width-width.ensures, view_narrow c.requires.parts c.requires.layout))
 
 pub list_view::equal-at-requires-in-loop-k : goal.list_view::equal-at-requires-in-loop-k
-list_view::equal-at-requires-in-loop-k t c = part_nth c.requires.parts.left c.loop-k.k (omega (arith, c.loop-k-test.true)) c.buffer_place.ensures (omega (arith, c.element_width-width.ensures, view_narrow c.requires.parts c.requires.layout))
+list_view::equal-at-requires-in-loop-k t c = part_nth c.requires.parts.left c.loop-k.k (omega (arith, c.loop-k-test.true)) c.numbers-left.ensures.place (omega (arith, c.numbers-left.ensures.width, c.element_width-width.ensures, view_narrow c.requires.parts c.requires.layout))
 
 pub list_view::equal-at-requires-in-loop-k-2 : goal.list_view::equal-at-requires-in-loop-k-2
-list_view::equal-at-requires-in-loop-k-2 t c = part_nth c.requires.parts.right c.loop-k.k (omega (arith, c.loop-k-test.true)) c.buffer_place-2.ensures (omega (arith, c.element_width-width.ensures, view_narrow c.requires.parts c.requires.layout))
+list_view::equal-at-requires-in-loop-k-2 t c = part_nth c.requires.parts.right c.loop-k.k (omega (arith, c.loop-k-test.true)) c.numbers-right.ensures.place (omega (arith, c.numbers-right.ensures.width, c.element_width-width.ensures, view_narrow c.requires.parts c.requires.layout))
 
 pub list_view::equal-returns-then-size-at : goal.list_view::equal-returns-then-size-at
-list_view::equal-returns-then-size-at t c = rows_fail c.loop-k.invariant c.loop-k-test.true (view_differs c.requires.parts c.requires.layout c.loop-k.k c.loop-k-test.true (size_read _ _ _ c.element_width-width.ensures c.buffer_place-3.ensures c.at-size.ensures) (size_read _ _ _ (c.element_width-width.ensures ∙ widths_same c.requires.parts) c.buffer_place-4.ensures c.at.ensures) c.if-size-at.true)
+list_view::equal-returns-then-size-at t c = rows_fail c.loop-k.invariant c.loop-k-test.true (view_differs c.requires.parts c.requires.layout c.loop-k.k c.loop-k-test.true (size_from c.args.pair.left c.numbers-left_sizes.result _ (c.numbers-left_sizes.ensures.width ∙ c.element_width-width.ensures) c.numbers-left_sizes.ensures.bytes c.numbers-left_sizes.ensures.place c.at-size.ensures) (size_from c.args.pair.right c.numbers-right_sizes.result _ (c.numbers-right_sizes.ensures.width ∙ (c.element_width-width.ensures ∙ widths_same c.requires.parts)) c.numbers-right_sizes.ensures.bytes c.numbers-right_sizes.ensures.place c.at.ensures) c.if-size-at.true)
 
 pub list_view::equal-equal_range-requires : goal.list_view::equal-equal_range-requires
-list_view::equal-equal_range-requires t c = (omega (arith, c.decreases), rw c.child-child.ensures.same (view_requires c.requires.parts c.requires.layout c.loop-k.k c.loop-k-test.true (add-zero _) (add-zero _) (size_read _ _ _ c.element_width-width.ensures c.buffer_place-3.ensures c.at-size.ensures) (size_read _ _ _ (c.element_width-width.ensures ∙ widths_same c.requires.parts) c.buffer_place-4.ensures c.at.ensures) c.if-size-at.false (element_read _ _ _ c.element_width-width.ensures c.buffer_place.ensures c.at-in-loop-k.ensures) (element_read _ _ _ (c.element_width-width.ensures ∙ widths_same c.requires.parts) c.buffer_place-2.ensures c.at-in-loop-k-2.ensures)))
+list_view::equal-equal_range-requires t c = (omega (arith, c.decreases), rw c.child-child.ensures.same (view_requires c.requires.parts c.requires.layout c.loop-k.k c.loop-k-test.true (add-zero _) (add-zero _) (size_from c.args.pair.left c.numbers-left_sizes.result _ (c.numbers-left_sizes.ensures.width ∙ c.element_width-width.ensures) c.numbers-left_sizes.ensures.bytes c.numbers-left_sizes.ensures.place c.at-size.ensures) (size_from c.args.pair.right c.numbers-right_sizes.result _ (c.numbers-right_sizes.ensures.width ∙ (c.element_width-width.ensures ∙ widths_same c.requires.parts)) c.numbers-right_sizes.ensures.bytes c.numbers-right_sizes.ensures.place c.at.ensures) c.if-size-at.false (element_from c.args.pair.left c.numbers-left.result _ (c.numbers-left.ensures.width ∙ c.element_width-width.ensures) c.numbers-left.ensures.bytes c.numbers-left.ensures.place c.at-in-loop-k.ensures) (element_from c.args.pair.right c.numbers-right.result _ (c.numbers-right.ensures.width ∙ (c.element_width-width.ensures ∙ widths_same c.requires.parts)) c.numbers-right.ensures.bytes c.numbers-right.ensures.place c.at-in-loop-k-2.ensures)))
 
 pub list_view::equal-returns-then-not-equal_range : goal.list_view::equal-returns-then-not-equal_range
 list_view::equal-returns-then-not-equal_range t c =
     let same = rw c.child-child.ensures.same at c.equal_range.ensures in
-    rows_fail c.loop-k.invariant c.loop-k-test.true (sym (view_answer c.requires.parts c.requires.layout c.loop-k.k c.loop-k-test.true (add-zero _) (add-zero _) (size_read _ _ _ c.element_width-width.ensures c.buffer_place-3.ensures c.at-size.ensures) (size_read _ _ _ (c.element_width-width.ensures ∙ widths_same c.requires.parts) c.buffer_place-4.ensures c.at.ensures) c.if-size-at.false (element_read _ _ _ c.element_width-width.ensures c.buffer_place.ensures c.at-in-loop-k.ensures) (element_read _ _ _ (c.element_width-width.ensures ∙ widths_same c.requires.parts) c.buffer_place-2.ensures c.at-in-loop-k-2.ensures)) ∙ sym same ∙ c.if-not-equal_range.true)
+    rows_fail c.loop-k.invariant c.loop-k-test.true (sym (view_answer c.requires.parts c.requires.layout c.loop-k.k c.loop-k-test.true (add-zero _) (add-zero _) (size_from c.args.pair.left c.numbers-left_sizes.result _ (c.numbers-left_sizes.ensures.width ∙ c.element_width-width.ensures) c.numbers-left_sizes.ensures.bytes c.numbers-left_sizes.ensures.place c.at-size.ensures) (size_from c.args.pair.right c.numbers-right_sizes.result _ (c.numbers-right_sizes.ensures.width ∙ (c.element_width-width.ensures ∙ widths_same c.requires.parts)) c.numbers-right_sizes.ensures.bytes c.numbers-right_sizes.ensures.place c.at.ensures) c.if-size-at.false (element_from c.args.pair.left c.numbers-left.result _ (c.numbers-left.ensures.width ∙ c.element_width-width.ensures) c.numbers-left.ensures.bytes c.numbers-left.ensures.place c.at-in-loop-k.ensures) (element_from c.args.pair.right c.numbers-right.result _ (c.numbers-right.ensures.width ∙ (c.element_width-width.ensures ∙ widths_same c.requires.parts)) c.numbers-right.ensures.bytes c.numbers-right.ensures.place c.at-in-loop-k-2.ensures)) ∙ sym same ∙ c.if-not-equal_range.true)
 
 pub list_view::equal-loop-k-preserved : goal.list_view::equal-loop-k-preserved
 list_view::equal-loop-k-preserved t c =
     let same = rw c.child-child.ensures.same at c.equal_range.ensures in
-    rows_more c.loop-k.invariant c.loop-k-test.true (sym (view_answer c.requires.parts c.requires.layout c.loop-k.k c.loop-k-test.true (add-zero _) (add-zero _) (size_read _ _ _ c.element_width-width.ensures c.buffer_place-3.ensures c.at-size.ensures) (size_read _ _ _ (c.element_width-width.ensures ∙ widths_same c.requires.parts) c.buffer_place-4.ensures c.at.ensures) c.if-size-at.false (element_read _ _ _ c.element_width-width.ensures c.buffer_place.ensures c.at-in-loop-k.ensures) (element_read _ _ _ (c.element_width-width.ensures ∙ widths_same c.requires.parts) c.buffer_place-2.ensures c.at-in-loop-k-2.ensures)) ∙ sym same ∙ c.if-not-equal_range.false)
+    rows_more c.loop-k.invariant c.loop-k-test.true (sym (view_answer c.requires.parts c.requires.layout c.loop-k.k c.loop-k-test.true (add-zero _) (add-zero _) (size_from c.args.pair.left c.numbers-left_sizes.result _ (c.numbers-left_sizes.ensures.width ∙ c.element_width-width.ensures) c.numbers-left_sizes.ensures.bytes c.numbers-left_sizes.ensures.place c.at-size.ensures) (size_from c.args.pair.right c.numbers-right_sizes.result _ (c.numbers-right_sizes.ensures.width ∙ (c.element_width-width.ensures ∙ widths_same c.requires.parts)) c.numbers-right_sizes.ensures.bytes c.numbers-right_sizes.ensures.place c.at.ensures) c.if-size-at.false (element_from c.args.pair.left c.numbers-left.result _ (c.numbers-left.ensures.width ∙ c.element_width-width.ensures) c.numbers-left.ensures.bytes c.numbers-left.ensures.place c.at-in-loop-k.ensures) (element_from c.args.pair.right c.numbers-right.result _ (c.numbers-right.ensures.width ∙ (c.element_width-width.ensures ∙ widths_same c.requires.parts)) c.numbers-right.ensures.bytes c.numbers-right.ensures.place c.at-in-loop-k-2.ensures)) ∙ sym same ∙ c.if-not-equal_range.false)
 
 pub list_view::equal-returns : goal.list_view::equal-returns
 list_view::equal-returns t c = rows_done c.loop-k.invariant c.loop-k-test.false
@@ -521,13 +522,13 @@ pub run::equal-leaves_of-leaves-requires : goal.run::equal-leaves_of-leaves-requ
 run::equal-leaves_of-leaves-requires t c = rw c.child-values.ensures.same (run_nodes c.requires.parts c.requires.layout refl refl)
 
 pub run::equal-equal_row-requires : goal.run::equal-equal_row-requires
-run::equal-equal_row-requires t c = (omega (arith, c.decreases), (rw c.child-values.ensures.same (step_requires c.requires.parts c.requires.layout c.runs.invariant.1.0 c.runs-test.true refl refl), c.leaves_of-leaves.ensures))
+run::equal-equal_row-requires t c = (omega (arith, c.decreases), (rw c.child-values.ensures.same (step_requires c.requires.parts c.requires.layout c.loop-k.invariant.0 c.loop-k-test.true refl refl), c.leaves_of-leaves.ensures))
 
 pub run::equal-at-x-requires : goal.run::equal-at-x-requires
-run::equal-at-x-requires t c = end_nth c.ends-left.ensures (omega (arith, run_small c.requires.parts.left c.requires.layout c.runs-test.true (c.runs.invariant.1.0.left c.runs-test.true)))
+run::equal-at-x-requires t c = end_nth c.ends-left.ensures (omega (arith, run_small c.requires.parts.left c.requires.layout c.loop-k-test.true (c.loop-k.invariant.0.left c.loop-k-test.true)))
 
 pub run::equal-at-y-requires : goal.run::equal-at-y-requires
-run::equal-at-y-requires t c = end_nth c.ends-right.ensures (omega (arith, run_small c.requires.parts.right (layout_right c.requires.parts c.requires.layout) c.runs-test.true (c.runs.invariant.1.0.right c.runs-test.true)))
+run::equal-at-y-requires t c = end_nth c.ends-right.ensures (omega (arith, run_small c.requires.parts.right (layout_right c.requires.parts c.requires.layout) c.loop-k-test.true (c.loop-k.invariant.0.right c.loop-k-test.true)))
 
 pub union::dense-loop-k-init : goal.union::dense-loop-k-init
 union::dense-loop-k-init t c = rows_none _ _ _ _ _
@@ -557,23 +558,23 @@ pub union::dense-overflow_add-rows-in-loop-k-3 : goal.union::dense-overflow_add-
 union::dense-overflow_add-rows-in-loop-k-3 t c = omega (arith, part_small c.requires.parts.left, part_small c.requires.parts.right, c.loop-k-test.true, c.buffer_place-ia.ensures.small, c.buffer_place-ib.ensures.small)
 
 pub union::dense-at-requires : goal.union::dense-at-requires
-union::dense-at-requires t c = part_nth c.requires.parts.left c.loop-k.k (omega (arith, c.loop-k-test.true)) c.buffer_place.ensures (omega arith)
+union::dense-at-requires t c = part_nth c.requires.parts.left c.loop-k.k (omega (arith, c.loop-k-test.true)) c.numbers-left.ensures.place (omega (arith, c.numbers-left.ensures.width))
 
 pub union::dense-at-requires-in-loop-k : goal.union::dense-at-requires-in-loop-k
-union::dense-at-requires-in-loop-k t c = part_nth c.requires.parts.right c.loop-k.k (omega (arith, c.loop-k-test.true)) c.buffer_place-2.ensures (omega arith)
+union::dense-at-requires-in-loop-k t c = part_nth c.requires.parts.right c.loop-k.k (omega (arith, c.loop-k-test.true)) c.numbers-right.ensures.place (omega (arith, c.numbers-right.ensures.width))
 
 pub union::dense-equal_range-requires : goal.union::dense-equal_range-requires
-union::dense-equal_range-requires t c = (search rules, rw c.in-Some.ensures.same (dense_child c.requires.parts c.requires.layout c.loop-k.k c.loop-k-test.true (id_read _ _ _ c.buffer_place-ia.ensures c.byte-id.ensures) (id_read _ _ _ c.buffer_place-ib.ensures c.byte.ensures) c.if-id-byte.false (dense_offset_read _ _ _ c.buffer_place.ensures c.at.ensures) (dense_offset_read _ _ _ c.buffer_place-2.ensures c.at-in-loop-k.ensures)))
+union::dense-equal_range-requires t c = (search rules, rw c.in-Some.ensures.same (dense_child c.requires.parts c.requires.layout c.loop-k.k c.loop-k-test.true (id_read _ _ _ c.buffer_place-ia.ensures c.byte-id.ensures) (id_read _ _ _ c.buffer_place-ib.ensures c.byte.ensures) c.if-id-byte.false (dense_from c.args.pair.left c.numbers-left.result _ c.numbers-left.ensures.width c.numbers-left.ensures.bytes c.numbers-left.ensures.place c.at.ensures) (dense_from c.args.pair.right c.numbers-right.result _ c.numbers-right.ensures.width c.numbers-right.ensures.bytes c.numbers-right.ensures.place c.at-in-loop-k.ensures)))
 
 pub union::dense-loop-k-preserved : goal.union::dense-loop-k-preserved
 union::dense-loop-k-preserved t c =
     let same = rw c.in-Some.ensures.same at c.equal_range.ensures in
-    rows_more c.loop-k.invariant c.loop-k-test.true (sym (dense_row_lem c.requires.parts c.requires.layout c.loop-k.k c.loop-k-test.true (id_read _ _ _ c.buffer_place-ia.ensures c.byte-id.ensures) (id_read _ _ _ c.buffer_place-ib.ensures c.byte.ensures) c.if-id-byte.false (dense_offset_read _ _ _ c.buffer_place.ensures c.at.ensures) (dense_offset_read _ _ _ c.buffer_place-2.ensures c.at-in-loop-k.ensures)) ∙ sym same ∙ c.if-not-equal_range.false)
+    rows_more c.loop-k.invariant c.loop-k-test.true (sym (dense_row_lem c.requires.parts c.requires.layout c.loop-k.k c.loop-k-test.true (id_read _ _ _ c.buffer_place-ia.ensures c.byte-id.ensures) (id_read _ _ _ c.buffer_place-ib.ensures c.byte.ensures) c.if-id-byte.false (dense_from c.args.pair.left c.numbers-left.result _ c.numbers-left.ensures.width c.numbers-left.ensures.bytes c.numbers-left.ensures.place c.at.ensures) (dense_from c.args.pair.right c.numbers-right.result _ c.numbers-right.ensures.width c.numbers-right.ensures.bytes c.numbers-right.ensures.place c.at-in-loop-k.ensures)) ∙ sym same ∙ c.if-not-equal_range.false)
 
 pub union::dense-returns-then-not-equal_range : goal.union::dense-returns-then-not-equal_range
 union::dense-returns-then-not-equal_range t c =
     let same = rw c.in-Some.ensures.same at c.equal_range.ensures in
-    rows_fail c.loop-k.invariant c.loop-k-test.true (sym (dense_row_lem c.requires.parts c.requires.layout c.loop-k.k c.loop-k-test.true (id_read _ _ _ c.buffer_place-ia.ensures c.byte-id.ensures) (id_read _ _ _ c.buffer_place-ib.ensures c.byte.ensures) c.if-id-byte.false (dense_offset_read _ _ _ c.buffer_place.ensures c.at.ensures) (dense_offset_read _ _ _ c.buffer_place-2.ensures c.at-in-loop-k.ensures)) ∙ sym same ∙ c.if-not-equal_range.true)
+    rows_fail c.loop-k.invariant c.loop-k-test.true (sym (dense_row_lem c.requires.parts c.requires.layout c.loop-k.k c.loop-k-test.true (id_read _ _ _ c.buffer_place-ia.ensures c.byte-id.ensures) (id_read _ _ _ c.buffer_place-ib.ensures c.byte.ensures) c.if-id-byte.false (dense_from c.args.pair.left c.numbers-left.result _ c.numbers-left.ensures.width c.numbers-left.ensures.bytes c.numbers-left.ensures.place c.at.ensures) (dense_from c.args.pair.right c.numbers-right.result _ c.numbers-right.ensures.width c.numbers-right.ensures.bytes c.numbers-right.ensures.place c.at-in-loop-k.ensures)) ∙ sym same ∙ c.if-not-equal_range.true)
 
 pub union::dense-returns : goal.union::dense-returns
 union::dense-returns t c = rows_done c.loop-k.invariant c.loop-k-test.false

@@ -12,7 +12,7 @@ use Rattle.image.specs.Record.{length_of, first_child, buffer_place}
 use Rattle.image.specs.Element.{element_width, element_place, element_at, size_at}
 use Rattle.image.specs.Faults.{list_outside}
 use Rattle.image.proofs.Loops.{rest_none, any_more, any_found, any_done}
-use Rattle.validate.proofs.Elements.{element_inside}
+use Rattle.validate.proofs.Elements.{number_inside}
 use Rattle.validate.proofs.offsets.lists_outside.Goals as goal
 
 -- view j lies outside where its offset and size, as they were read, go past the child's end
@@ -25,25 +25,25 @@ pub loop-j-init : goal.loop-j-init
 loop-j-init c = rest_none _ _ _
 
 pub inside-offset-requires : goal.inside-offset-requires
-inside-offset-requires c = element_inside _ _ 0 _ c.requires.holds c.element_width-width.ensures c.buffer_place.ensures.value (omega (arith, c.elements-j-end.ensures.value))
+inside-offset-requires c = number_inside c.args.node c.numbers-offsets.result 0 _ c.requires.holds (c.numbers-offsets.ensures.width ∙ c.element_width-width.ensures) c.numbers-offsets.ensures.bytes c.numbers-offsets.ensures.place.value (omega (arith, c.elements-j-end.ensures.value))
 
 pub returns-then-end-offset : goal.returns-then-end-offset
 returns-then-end-offset c =
     let rows = rw (c.child.ensures.image, c.child.ensures.number, add-zero) at c.length-end.ensures.value in
-    rw (← c.elements-j-end.ensures.value) (any_found _ _ _ _ c.loop-j-test.true c.loop-j.invariant (listed _ _ _ _ _ _ _ c.element_width-width.ensures c.buffer_place.ensures.value c.buffer_place-2.ensures.value rows c.inside-offset.ensures.value c.inside-size.ensures.value ∙ lt-ltb c.length-end.result (c.inside-offset.result + c.inside-size.result) (omega arith)))
+    rw (← c.elements-j-end.ensures.value) (any_found _ _ _ _ c.loop-j-test.true c.loop-j.invariant (listed _ _ _ _ _ _ _ c.element_width-width.ensures c.numbers-offsets.ensures.place.value c.numbers-sizes.ensures.place.value rows (rw (c.numbers-offsets.ensures.bytes, c.numbers-offsets.ensures.width) at c.inside-offset.ensures.value) (rw (c.numbers-sizes.ensures.bytes, c.numbers-sizes.ensures.width) at c.inside-size.ensures.value) ∙ lt-ltb c.length-end.result (c.inside-offset.result + c.inside-size.result) (omega arith)))
 
 pub inside-size-requires : goal.inside-size-requires
-inside-size-requires c = element_inside _ _ 1 _ c.requires.holds_2 c.element_width-width.ensures c.buffer_place-2.ensures.value (omega (arith, c.elements-j-end.ensures.value))
+inside-size-requires c = number_inside c.args.node c.numbers-sizes.result 1 _ c.requires.holds_2 (c.numbers-sizes.ensures.width ∙ c.element_width-width.ensures) c.numbers-sizes.ensures.bytes c.numbers-sizes.ensures.place.value (omega (arith, c.elements-j-end.ensures.value))
 
 pub returns-then-end-offset-2 : goal.returns-then-end-offset-2
 returns-then-end-offset-2 c =
     let rows = rw (c.child.ensures.image, c.child.ensures.number, add-zero) at c.length-end.ensures.value in
-    rw (← c.elements-j-end.ensures.value) (any_found _ _ _ _ c.loop-j-test.true c.loop-j.invariant (listed _ _ _ _ _ _ _ c.element_width-width.ensures c.buffer_place.ensures.value c.buffer_place-2.ensures.value rows c.inside-offset.ensures.value c.inside-size.ensures.value ∙ lt-ltb c.length-end.result (c.inside-offset.result + c.inside-size.result) (omega arith)))
+    rw (← c.elements-j-end.ensures.value) (any_found _ _ _ _ c.loop-j-test.true c.loop-j.invariant (listed _ _ _ _ _ _ _ c.element_width-width.ensures c.numbers-offsets.ensures.place.value c.numbers-sizes.ensures.place.value rows (rw (c.numbers-offsets.ensures.bytes, c.numbers-offsets.ensures.width) at c.inside-offset.ensures.value) (rw (c.numbers-sizes.ensures.bytes, c.numbers-sizes.ensures.width) at c.inside-size.ensures.value) ∙ lt-ltb c.length-end.result (c.inside-offset.result + c.inside-size.result) (omega arith)))
 
 pub loop-j-preserved : goal.loop-j-preserved
 loop-j-preserved c =
     let rows = rw (c.child.ensures.image, c.child.ensures.number, add-zero) at c.length-end.ensures.value in
-    any_more _ _ _ _ c.loop-j-test.true c.loop-j.invariant (listed _ _ _ _ _ _ _ c.element_width-width.ensures c.buffer_place.ensures.value c.buffer_place-2.ensures.value rows c.inside-offset.ensures.value c.inside-size.ensures.value ∙ le-ltb c.length-end.result (c.inside-offset.result + c.inside-size.result) (omega arith))
+    any_more _ _ _ _ c.loop-j-test.true c.loop-j.invariant (listed _ _ _ _ _ _ _ c.element_width-width.ensures c.numbers-offsets.ensures.place.value c.numbers-sizes.ensures.place.value rows (rw (c.numbers-offsets.ensures.bytes, c.numbers-offsets.ensures.width) at c.inside-offset.ensures.value) (rw (c.numbers-sizes.ensures.bytes, c.numbers-sizes.ensures.width) at c.inside-size.ensures.value) ∙ le-ltb c.length-end.result (c.inside-offset.result + c.inside-size.result) (omega arith))
 
 pub returns : goal.returns
 returns c = rw (← c.elements-j-end.ensures.value) (any_done _ _ _ _ c.loop-j-test.false c.loop-j.invariant)

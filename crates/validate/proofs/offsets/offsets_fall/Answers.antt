@@ -24,7 +24,7 @@ module _ (s : List ℕ) (k : ℕ) {place w e : ℕ} (p : place ≡ buffer_place 
   offsets-packed h = rw (p, q, r) h
 
 pub rise-requires : goal.rise-requires
-rise-requires c = (offsets-packed _ _ c.buffer_place.ensures.value c.element_width.ensures c.elements.ensures.value c.requires, omega arith)
+rise-requires c = (rw c.numbers-offsets.ensures.bytes (offsets-packed _ _ c.numbers-offsets.ensures.place.value (c.numbers-offsets.ensures.width ∙ c.element_width.ensures) c.elements.ensures.value c.requires), omega arith)
 
 pub returns : goal.returns
-returns c = ap not (c.rise.ensures ∙ offsets-in _ _ c.buffer_place.ensures.value c.element_width.ensures c.elements.ensures.value _)
+returns c = ap not (rw c.numbers-offsets.ensures.bytes at c.rise.ensures ∙ offsets-in _ _ c.numbers-offsets.ensures.place.value (c.numbers-offsets.ensures.width ∙ c.element_width.ensures) c.elements.ensures.value _)

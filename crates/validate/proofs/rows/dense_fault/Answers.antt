@@ -17,7 +17,7 @@ use Rattle.image.specs.Element.{dense_offset_at}
 use Rattle.image.specs.Faults.{dense_row_fault, dense_outside}
 use Rattle.validate.proofs.Unions.{Union, named, known, unnamed_where}
 use Rattle.image.proofs.Loops.{rest_none, any_more, any_found, any_done}
-use Rattle.validate.proofs.Elements.{element_inside}
+use Rattle.validate.proofs.Elements.{number_inside}
 use Rattle.validate.proofs.rows.dense_fault.Goals as goal
 
 module _ {s : List ℕ} {k : ℕ} {table : List (Option ℕ)} {ids from : ℕ} (u : Union s k table ids from) (i : ℕ) {id : ℕ} (read : Read (number_at 1 s (ids + (from + i) * 1)) (8 * 1) id) where
@@ -35,20 +35,20 @@ loop-i-init c = rest_none _ _ _
 
 pub inside-id-requires : goal.inside-id-requires
 unfolding elements_of
-inside-id-requires c = element_inside _ _ 0 _ c.requires.0 refl c.buffer_place.ensures.value (omega (arith, c.offset-from.ensures.value, c.length-i-end.ensures.value))
+inside-id-requires c = number_inside c.args.node c.numbers-ids.result 0 _ c.requires.0 c.numbers-ids.ensures.width c.numbers-ids.ensures.bytes c.numbers-ids.ensures.place.value (omega (arith, c.offset-from.ensures.value, c.length-i-end.ensures.value))
 
 pub returns-in_default : goal.returns-in_default
-returns-in_default c = rw (← c.length-i-end.ensures.value) (any_found _ _ _ _ c.loop-i-test.true c.loop-i.invariant (no-child (record { by_id = c.children_by_id-children.ensures; place = c.buffer_place.ensures.value; start = c.offset-from.ensures.value }) _ c.inside-id.ensures c.in_default.not-Some))
+returns-in_default c = rw (← c.length-i-end.ensures.value) (any_found _ _ _ _ c.loop-i-test.true c.loop-i.invariant (no-child (record { by_id = c.children_by_id-children.ensures; place = c.numbers-ids.ensures.place.value; start = c.offset-from.ensures.value }) _ (rw (c.numbers-ids.ensures.bytes, c.numbers-ids.ensures.width) at c.inside-id.ensures) c.in_default.not-Some))
 
 pub inside-requires : goal.inside-requires
 unfolding elements_of
-inside-requires c = element_inside _ _ 1 _ c.requires.1 refl c.buffer_place-2.ensures.value (omega (arith, c.offset-from.ensures.value, c.length-i-end.ensures.value))
+inside-requires c = number_inside c.args.node c.numbers-offsets.result 1 _ c.requires.1 c.numbers-offsets.ensures.width c.numbers-offsets.ensures.bytes c.numbers-offsets.ensures.place.value (omega (arith, c.offset-from.ensures.value, c.length-i-end.ensures.value))
 
 pub returns-then-length-inside : goal.returns-then-length-inside
-returns-then-length-inside c = rw (← c.length-i-end.ensures.value) (any_found _ _ _ _ c.loop-i-test.true c.loop-i.invariant (child-row (record { by_id = c.children_by_id-children.ensures; place = c.buffer_place.ensures.value; start = c.offset-from.ensures.value }) _ c.inside-id.ensures c.in-Some.is c.buffer_place-2.ensures.value c.length.ensures.value c.inside.ensures.value ∙ le-leb _ _ c.if-length-inside.true))
+returns-then-length-inside c = rw (← c.length-i-end.ensures.value) (any_found _ _ _ _ c.loop-i-test.true c.loop-i.invariant (child-row (record { by_id = c.children_by_id-children.ensures; place = c.numbers-ids.ensures.place.value; start = c.offset-from.ensures.value }) _ (rw (c.numbers-ids.ensures.bytes, c.numbers-ids.ensures.width) at c.inside-id.ensures) c.in-Some.is c.numbers-offsets.ensures.place.value c.length.ensures.value (rw (c.numbers-offsets.ensures.bytes, c.numbers-offsets.ensures.width) at c.inside.ensures.value) ∙ le-leb _ _ c.if-length-inside.true))
 
 pub loop-i-preserved : goal.loop-i-preserved
-loop-i-preserved c = any_more _ _ _ _ c.loop-i-test.true c.loop-i.invariant (child-row (record { by_id = c.children_by_id-children.ensures; place = c.buffer_place.ensures.value; start = c.offset-from.ensures.value }) _ c.inside-id.ensures c.in-Some.is c.buffer_place-2.ensures.value c.length.ensures.value c.inside.ensures.value ∙ lt-leb _ _ c.if-length-inside.false)
+loop-i-preserved c = any_more _ _ _ _ c.loop-i-test.true c.loop-i.invariant (child-row (record { by_id = c.children_by_id-children.ensures; place = c.numbers-ids.ensures.place.value; start = c.offset-from.ensures.value }) _ (rw (c.numbers-ids.ensures.bytes, c.numbers-ids.ensures.width) at c.inside-id.ensures) c.in-Some.is c.numbers-offsets.ensures.place.value c.length.ensures.value (rw (c.numbers-offsets.ensures.bytes, c.numbers-offsets.ensures.width) at c.inside.ensures.value) ∙ lt-leb _ _ c.if-length-inside.false)
 
 pub returns : goal.returns
 returns c = rw (← c.length-i-end.ensures.value) (any_done _ _ _ _ c.loop-i-test.false c.loop-i.invariant)

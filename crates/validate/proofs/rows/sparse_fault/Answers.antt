@@ -13,7 +13,7 @@ use native.Mathlib.Omega.{arith}
 use Rattle.image.specs.Record.{elements_of}
 use Rattle.image.specs.Faults.{sparse_row_fault}
 use Rattle.image.proofs.Loops.{rest_none, any_more, any_found, any_done}
-use Rattle.validate.proofs.Elements.{element_inside}
+use Rattle.validate.proofs.Elements.{number_inside}
 use Rattle.validate.proofs.Unions.{Union, unknown_is}
 use Rattle.validate.proofs.rows.sparse_fault.Goals as goal
 
@@ -27,13 +27,13 @@ loop-i-init c = rest_none _ _ _
 
 pub inside-id-requires : goal.inside-id-requires
 unfolding elements_of
-inside-id-requires c = element_inside _ _ 0 _ c.requires refl c.buffer_place.ensures.value (omega (arith, c.offset-from.ensures.value, c.length-i-end.ensures.value))
+inside-id-requires c = number_inside c.args.node c.numbers-ids.result 0 _ c.requires c.numbers-ids.ensures.width c.numbers-ids.ensures.bytes c.numbers-ids.ensures.place.value (omega (arith, c.offset-from.ensures.value, c.length-i-end.ensures.value))
 
 pub returns-then-is_none : goal.returns-then-is_none
-returns-then-is_none c = rw (← c.length-i-end.ensures.value) (any_found _ _ _ _ c.loop-i-test.true c.loop-i.invariant (sparse-row (record { by_id = c.children_by_id-children.ensures; place = c.buffer_place.ensures.value; start = c.offset-from.ensures.value }) _ c.inside-id.ensures c.is_none.ensures ∙ c.if-is_none.true))
+returns-then-is_none c = rw (← c.length-i-end.ensures.value) (any_found _ _ _ _ c.loop-i-test.true c.loop-i.invariant (sparse-row (record { by_id = c.children_by_id-children.ensures; place = c.numbers-ids.ensures.place.value; start = c.offset-from.ensures.value }) _ (rw (c.numbers-ids.ensures.bytes, c.numbers-ids.ensures.width) at c.inside-id.ensures) c.is_none.ensures ∙ c.if-is_none.true))
 
 pub loop-i-preserved : goal.loop-i-preserved
-loop-i-preserved c = any_more _ _ _ _ c.loop-i-test.true c.loop-i.invariant (sparse-row (record { by_id = c.children_by_id-children.ensures; place = c.buffer_place.ensures.value; start = c.offset-from.ensures.value }) _ c.inside-id.ensures c.is_none.ensures ∙ c.if-is_none.false)
+loop-i-preserved c = any_more _ _ _ _ c.loop-i-test.true c.loop-i.invariant (sparse-row (record { by_id = c.children_by_id-children.ensures; place = c.numbers-ids.ensures.place.value; start = c.offset-from.ensures.value }) _ (rw (c.numbers-ids.ensures.bytes, c.numbers-ids.ensures.width) at c.inside-id.ensures) c.is_none.ensures ∙ c.if-is_none.false)
 
 pub returns : goal.returns
 returns c = rw (← c.length-i-end.ensures.value) (any_done _ _ _ _ c.loop-i-test.false c.loop-i.invariant)

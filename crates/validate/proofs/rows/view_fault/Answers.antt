@@ -3,17 +3,15 @@
 use borrow.Author.Tests.{le-leb, lt-leb, lt-ltb, le-ltb}
 use Rattle.image.specs.Element.{view_length, view_buffer, view_offset, view_data}
 use Rattle.image.specs.Faults.{view_fault, long_view_fault}
+use mathlib.Core.Path.{◌∙◌}
+use Rattle.validate.proofs.Padding.{padded}
 use Rattle.validate.proofs.ViewRows.{place_at, length_at, entry_inside, data_inside}
 use native.Mathlib.Omega.{arith}
 use Rattle.validate.proofs.rows.view_fault.Goals as goal
 
-pub padding_nonzero-requires : goal.padding_nonzero-requires
-unfolding view_length
-padding_nonzero-requires c = (c.requires.fits, c.load-len.ensures.value, c.if-len-le-INLINE_LENGTH.true)
-
 pub returns-then-len-le-INLINE_LENGTH : goal.returns-then-len-le-INLINE_LENGTH
 unfolding view_fault view_length
-returns-then-len-le-INLINE_LENGTH c = rw (← c.load-len.ensures.value, le-leb _ _ c.if-len-le-INLINE_LENGTH.true) c.padding_nonzero.ensures
+returns-then-len-le-INLINE_LENGTH c = rw (← c.load-len.ensures.value, le-leb _ _ c.if-len-le-INLINE_LENGTH.true) (c.any_nonzero.ensures ∙ padded _ _ _ c.load-len.ensures.value c.if-len-le-INLINE_LENGTH.true c.requires.fits)
 
 pub returns-then-count-buffer : goal.returns-then-count-buffer
 unfolding view_fault view_length long_view_fault view_buffer

@@ -8,31 +8,31 @@ use native.Mathlib.Omega.{arith}
 use Rattle.validate.proofs.texts.cut_well.Goals as goal
 
 pub overflow_mul-view : goal.overflow_mul-view
-overflow_mul-view c = omega (arith, view_fits c.requires.0.node c.requires.0.read c.requires.1 _ c.requires.0.row, small_image c.requires.0.node)
+overflow_mul-view c = omega (arith, view_fits c.requires.node c.requires.read _ c.requires.row.row, small_image c.requires.node.text)
 
 pub overflow_add-view : goal.overflow_add-view
-overflow_add-view c = omega (arith, view_fits c.requires.0.node c.requires.0.read c.requires.1 _ c.requires.0.row, small_image c.requires.0.node)
+overflow_add-view c = omega (arith, view_fits c.requires.node c.requires.read _ c.requires.row.row, small_image c.requires.node.text)
 
 pub load-len-requires : goal.load-len-requires
-load-len-requires c = (omega arith, omega (arith, view_fits c.requires.0.node c.requires.0.read c.requires.1 _ c.requires.0.row))
+load-len-requires c = (omega arith, omega (arith, view_fits c.requires.node c.requires.read _ c.requires.row.row))
 
 pub returns-then-len-le-INLINE_LENGTH : goal.returns-then-len-le-INLINE_LENGTH
 returns-then-len-le-INLINE_LENGTH c = λ e formed. absurd (false≢true e)
 
 pub overflow_add-view-2 : goal.overflow_add-view-2
-overflow_add-view-2 c = omega (arith, view_fits c.requires.0.node c.requires.0.read c.requires.1 _ c.requires.0.row, small_image c.requires.0.node)
+overflow_add-view-2 c = omega (arith, view_fits c.requires.node c.requires.read _ c.requires.row.row, small_image c.requires.node.text)
 
 pub load-requires : goal.load-requires
-load-requires c = (omega arith, omega (arith, view_fits c.requires.0.node c.requires.0.read c.requires.1 _ c.requires.0.row))
+load-requires c = (omega arith, omega (arith, view_fits c.requires.node c.requires.read _ c.requires.row.row))
 
 pub overflow_add-buffer : goal.overflow_add-buffer
-overflow_add-buffer c = omega (arith, few_buffers c.requires.0.node c.requires.0.read c.requires.1 _ c.load-len.ensures.value c.requires.0.row c.requires.0.not_null c.if-len-le-INLINE_LENGTH.false c.load.ensures.value)
+overflow_add-buffer c = omega (arith, few_buffers c.requires.node c.requires.read _ c.load-len.ensures.value c.requires.row c.if-len-le-INLINE_LENGTH.false c.load.ensures.value)
 
 pub overflow_cast-buffer : goal.overflow_cast-buffer
-overflow_cast-buffer c = omega (arith, few_buffers c.requires.0.node c.requires.0.read c.requires.1 _ c.load-len.ensures.value c.requires.0.row c.requires.0.not_null c.if-len-le-INLINE_LENGTH.false c.load.ensures.value)
+overflow_cast-buffer c = omega (arith, few_buffers c.requires.node c.requires.read _ c.load-len.ensures.value c.requires.row c.if-len-le-INLINE_LENGTH.false c.load.ensures.value)
 
 pub view_bytes-start-requires : goal.view_bytes-start-requires
-view_bytes-start-requires c = viewed c.requires.0.node c.requires.0.read c.requires.1 _ c.load-len.ensures.value c.requires.0.row c.requires.0.not_null
+view_bytes-start-requires c = viewed c.requires.node c.requires.read _ c.load-len.ensures.value c.requires.row
 
 pub bounds-node-start : goal.bounds-node-start
 bounds-node-start c = omega (arith, c.view_bytes-start.ensures.inside, c.if-len-le-INLINE_LENGTH.false)
@@ -41,16 +41,16 @@ pub returns-then-is_tail : goal.returns-then-is_tail
 returns-then-is_tail c = λ e formed. absurd (false≢true e)
 
 pub overflow_add-start : goal.overflow_add-start
-overflow_add-start c = omega (arith, c.view_bytes-start.ensures.inside, small_image c.requires.0.node)
+overflow_add-start c = omega (arith, c.view_bytes-start.ensures.inside, small_image c.requires.node.text)
 
 pub overflow_add-start-then-start-len : goal.overflow_add-start-then-start-len
-overflow_add-start-then-start-len c = omega (arith, c.view_bytes-start.ensures.inside, small_image c.requires.0.node)
+overflow_add-start-then-start-len c = omega (arith, c.view_bytes-start.ensures.inside, small_image c.requires.node.text)
 
 pub bounds-node-start-then-start-len : goal.bounds-node-start-then-start-len
-bounds-node-start-then-start-len c = omega (arith, c.if-start-len.true, c.buffer_place.ensures.value, c.buffer_length.ensures.value, buffer_inside c.requires.0.node c.requires.0.read c.requires.1 _ c.load-len.ensures.value c.requires.0.row c.requires.0.not_null c.if-len-le-INLINE_LENGTH.false c.load.ensures.value)
+bounds-node-start-then-start-len c = omega (arith, c.if-start-len.true, c.buffer_place.ensures.value, c.buffer_length.ensures.value, buffer_inside c.requires.node c.requires.read _ c.load-len.ensures.value c.requires.row c.if-len-le-INLINE_LENGTH.false c.load.ensures.value)
 
 pub returns-then-start-len : goal.returns-then-start-len
-returns-then-start-len c = λ e formed. cut_view c.requires.0.node c.requires.0.read c.requires.1 _ c.load-len.ensures.value c.requires.0.row c.requires.0.not_null c.if-len-le-INLINE_LENGTH.false c.load.ensures.value c.view_bytes-start.ensures c.buffer_place.ensures.value c.buffer_length.ensures.value formed (λ lt. sym c.is_tail.ensures ∙ c.if-is_tail.false) (λ lt. sym c.is_tail-then-start-len.ensures ∙ not-true _ e)
+returns-then-start-len c = λ e formed. cut_view c.requires.node c.requires.read _ c.load-len.ensures.value c.requires.row c.if-len-le-INLINE_LENGTH.false c.load.ensures.value c.view_bytes-start.ensures c.buffer_place.ensures.value c.buffer_length.ensures.value formed (λ lt. sym c.is_tail.ensures ∙ c.if-is_tail.false) (λ lt. sym c.is_tail-then-start-len.ensures ∙ not-true _ e)
 
 pub returns : goal.returns
-returns c = λ e formed. cut_view c.requires.0.node c.requires.0.read c.requires.1 _ c.load-len.ensures.value c.requires.0.row c.requires.0.not_null c.if-len-le-INLINE_LENGTH.false c.load.ensures.value c.view_bytes-start.ensures c.buffer_place.ensures.value c.buffer_length.ensures.value formed (λ lt. sym c.is_tail.ensures ∙ c.if-is_tail.false) (λ lt. absurd (omega (arith, c.if-start-len.false)))
+returns c = λ e formed. cut_view c.requires.node c.requires.read _ c.load-len.ensures.value c.requires.row c.if-len-le-INLINE_LENGTH.false c.load.ensures.value c.view_bytes-start.ensures c.buffer_place.ensures.value c.buffer_length.ensures.value formed (λ lt. sym c.is_tail.ensures ∙ c.if-is_tail.false) (λ lt. absurd (omega (arith, c.if-start-len.false)))

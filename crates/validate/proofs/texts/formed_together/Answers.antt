@@ -14,16 +14,16 @@ pub stretch_of-all-requires : goal.stretch_of-all-requires
 stretch_of-all-requires c = c.requires
 
 pub returns-then-not-has_high : goal.returns-then-not-has_high
-returns-then-not-has_high c = λ e. plain_together c.requires.0 c.requires.1 c.requires.2 c.stretch_of-all.ensures (sym (c.has_high.ensures ∙ ap any_high (sliced _ _ _ c.stretch_of-all.ensures.inside)) ∙ c.if-not-has_high.true)
+returns-then-not-has_high c = λ e. plain_together c.requires.0 c.stretch_of-all.ensures (sym (c.has_high.ensures ∙ ap any_high (sliced _ _ _ c.stretch_of-all.ensures.inside)) ∙ c.if-not-has_high.true)
 
 pub returns-then-not-walks_well : goal.returns-then-not-walks_well
 returns-then-not-walks_well c = λ e. absurd (false≢true e)
 
 pub overflow_add-all : goal.overflow_add-all
-overflow_add-all c = omega (arith, c.stretch_of-all.ensures.inside, small_image c.requires.0)
+overflow_add-all c = omega (arith, c.stretch_of-all.ensures.inside, small_image c.requires.0.text)
 
 pub letter_split-requires : goal.letter_split-requires
-letter_split-requires c = (c.requires.0, c.requires.1, c.requires.2, omega (arith, c.stretch_of-all.ensures.inside))
+letter_split-requires c = (c.requires.0, c.requires.1, omega (arith, c.stretch_of-all.ensures.inside))
 
 pub returns : goal.returns
-returns c = λ e. cut_together c.requires.0 c.requires.1 c.requires.2 c.stretch_of-all.ensures (sym c.letter_split.ensures ∙ not-true _ e) (sym (c.walks_well.ensures ∙ ap well_formed (sliced _ _ _ c.stretch_of-all.ensures.inside)) ∙ c.if-not-walks_well.false)
+returns c = λ e. cut_together c.requires.0 c.stretch_of-all.ensures (sym c.letter_split.ensures ∙ not-true _ e) (sym (c.walks_well.ensures ∙ ap well_formed (sliced _ _ _ c.stretch_of-all.ensures.inside)) ∙ c.if-not-walks_well.false)

@@ -9,22 +9,22 @@ use native.Mathlib.Omega.{arith}
 use Rattle.validate.proofs.texts.is_plain.Goals as goal
 
 pub overflow_mul-view : goal.overflow_mul-view
-overflow_mul-view c = omega (arith, view_fits c.requires.0.node c.requires.0.read c.requires.1 _ c.requires.0.row, small_image c.requires.0.node)
+overflow_mul-view c = omega (arith, view_fits c.requires.0.node c.requires.0.read _ c.requires.0.row.row, small_image c.requires.0.node.text)
 
 pub overflow_add-view : goal.overflow_add-view
-overflow_add-view c = omega (arith, view_fits c.requires.0.node c.requires.0.read c.requires.1 _ c.requires.0.row, small_image c.requires.0.node)
+overflow_add-view c = omega (arith, view_fits c.requires.0.node c.requires.0.read _ c.requires.0.row.row, small_image c.requires.0.node.text)
 
 pub load-requires : goal.load-requires
-load-requires c = (omega arith, omega (arith, view_fits c.requires.0.node c.requires.0.read c.requires.1 _ c.requires.0.row))
+load-requires c = (omega arith, omega (arith, view_fits c.requires.0.node c.requires.0.read _ c.requires.0.row.row))
 
 pub overflow_add-view-then-load-le-INLINE_LENGTH : goal.overflow_add-view-then-load-le-INLINE_LENGTH
-overflow_add-view-then-load-le-INLINE_LENGTH c = omega (arith, view_fits c.requires.0.node c.requires.0.read c.requires.1 _ c.requires.0.row, small_image c.requires.0.node)
+overflow_add-view-then-load-le-INLINE_LENGTH c = omega (arith, view_fits c.requires.0.node c.requires.0.read _ c.requires.0.row.row, small_image c.requires.0.node.text)
 
 pub slice_bounds-high_among-end : goal.slice_bounds-high_among-end
-slice_bounds-high_among-end c = omega (arith, view_fits c.requires.0.node c.requires.0.read c.requires.1 _ c.requires.0.row)
+slice_bounds-high_among-end c = omega (arith, view_fits c.requires.0.node c.requires.0.read _ c.requires.0.row.row)
 
 pub returns-then-load-le-INLINE_LENGTH : goal.returns-then-load-le-INLINE_LENGTH
-returns-then-load-le-INLINE_LENGTH c = λ e. plain_short c.requires.0.node c.requires.0.read c.requires.1 _ c.load.ensures.value c.requires.0.row c.requires.0.not_null c.if-load-le-INLINE_LENGTH.true (sym (c.high_among.ensures ∙ ap any_high (sliced _ _ 16 (omega (arith, view_fits c.requires.0.node c.requires.0.read c.requires.1 _ c.requires.0.row)))) ∙ not-true _ e)
+returns-then-load-le-INLINE_LENGTH c = λ e. plain_short c.requires.0.node c.requires.0.read _ c.load.ensures.value c.requires.0.row c.if-load-le-INLINE_LENGTH.true (sym (c.high_among.ensures ∙ ap any_high (sliced _ _ 16 (omega (arith, view_fits c.requires.0.node c.requires.0.read _ c.requires.0.row.row)))) ∙ not-true _ e)
 
 pub returns : goal.returns
-returns c = λ e. plain_long c.requires.0.node c.requires.0.read c.requires.1 _ c.load.ensures.value c.requires.0.row c.requires.0.not_null c.if-load-le-INLINE_LENGTH.false refl (c.requires.2.plain e)
+returns c = λ e. plain_long c.requires.0.node c.requires.0.read _ c.load.ensures.value c.requires.0.row c.if-load-le-INLINE_LENGTH.false refl (c.requires.1.plain e)

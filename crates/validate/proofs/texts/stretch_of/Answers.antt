@@ -5,16 +5,16 @@ use native.Mathlib.Omega.{arith}
 use Rattle.validate.proofs.texts.stretch_of.Goals as goal
 
 pub inside-from-requires : goal.inside-from-requires
-inside-from-requires c = offset_inside c.requires.0 c.requires.1 c.requires.2 0 (omega arith)
+inside-from-requires c = offset_inside c.requires.0 c.requires.1 0 (omega arith)
 
 pub inside-to-requires : goal.inside-to-requires
-inside-to-requires c = offset_inside c.requires.0 c.requires.1 c.requires.2 _ (omega (arith, c.length.ensures.value))
+inside-to-requires c = offset_inside c.requires.0 c.requires.1 _ (omega (arith, c.length.ensures.value))
 
 pub overflow_add-result : goal.overflow_add-result
-overflow_add-result c = omega (arith, (stretch c.requires.0 c.requires.1 c.requires.2 c.length.ensures.value c.inside-from.ensures.value c.inside-to.ensures.value).inside, small_image c.requires.0)
+overflow_add-result c = omega (arith, (stretch c.requires.0 c.requires.1 c.length.ensures.value c.inside-from.ensures.value c.inside-to.ensures.value).inside, small_image c.requires.0.text)
 
 pub overflow_sub-result : goal.overflow_sub-result
-overflow_sub-result c = starts_apart c.requires.0 c.requires.1 c.requires.2 {i = 0} {j = c.length.result} (omega arith) (omega (arith, c.length.ensures.value)) c.inside-from.ensures.value c.inside-to.ensures.value
+overflow_sub-result c = starts_apart c.requires.0 c.requires.1 {i = 0} {j = c.length.result} (omega arith) (omega (arith, c.length.ensures.value)) c.inside-from.ensures.value c.inside-to.ensures.value
 
 pub returns : goal.returns
-returns c = stretch c.requires.0 c.requires.1 c.requires.2 c.length.ensures.value c.inside-from.ensures.value c.inside-to.ensures.value
+returns c = stretch c.requires.0 c.requires.1 c.length.ensures.value c.inside-from.ensures.value c.inside-to.ensures.value
