@@ -16,9 +16,10 @@ ghost use Rattle.builder.specs.Table.{Laid};
 
 use crate::clear::clear;
 use crate::front::put_front;
-use crate::plan::{MOST_NODES, MOST_PLACES, lengths_of, plan};
+use crate::plan::{lengths_of, plan};
 use answers::BuildRefusal;
 use fill::fill;
+use fill::put::{MOST_NODES, MOST_PLACES};
 use image::record::{Node, all_nodes};
 use image::type_code::TypeCode;
 use parse::is_rows;
@@ -47,7 +48,7 @@ fn put_table(
     count: usize,
     b: &[u8],
     lengths: &[usize],
-    places: &[usize],
+    places: &[usize; MOST_PLACES],
     size: usize,
     out: &mut [u8],
 )
@@ -56,9 +57,7 @@ fn put_table(
 {
     let parts = put_front(s, lengths, places, out);
     clear(out, parts, size);
-    let mut rows = [0usize; MOST_NODES];
-    let mut spans = [0usize; MOST_NODES];
-    fill(s, count, b, places, &mut rows, &mut spans, out);
+    fill(s, count, b, places, out);
 }
 
 // The table of so many rows, which are the string b, of the type that the image s has: its image, at the front of `out`. A

@@ -13,11 +13,6 @@ ghost use Rattle.builder.specs.Plan.{Lengths, child_rows, bit_bytes, bitmap_size
 use image::record::{LONGEST_IMAGE, MOST_ELEMENTS, Node, node_count, tables_end};
 use image::type_code::{Layout, TypeCode};
 
-// How many entries a table of nodes has, and one of places: three parts for each node, and the image's end.
-pub const MOST_NODES: usize = 256;
-
-pub const MOST_PLACES: usize = 769;
-
 // How many rows each child of a node has: as many as a Struct, or as a list's offsets go on.
 fn child_rows(node: Node, lengths: &[usize], spans: &[usize]) -> usize
     requires node_bound { node.number < 256 }
