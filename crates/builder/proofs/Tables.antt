@@ -85,7 +85,6 @@ module _ {s : List ℕ} {n : ℕ} {b lengths places : List ℕ} {size : ℕ} {ou
   pub laid_rise : Rise s places
   laid_rise =
       record {
-        sized = l.places_sized;
         rise = λ q lt. omega (arith, l.place q (omega arith), l.place (suc q) lt, places_grow q (suc q) (omega arith));
       }
 
@@ -196,8 +195,6 @@ module _ (s : List ℕ) (n : ℕ) (b out : List ℕ) {spans lengths : List ℕ} 
           coded = given.1;
           read = read;
           few = rw same at fit.few;
-          lengths_sized = l.sized;
-          places_sized = t.sized;
           place = places_are scanned l t;
           front = front_is scanned l t;
           long = rw same at (sym fit.size);

@@ -4,7 +4,7 @@ use Rattle.builder.proofs.Tables.{laid_rise, laid_front, laid_clear, laid_fill, 
 use Rattle.builder.proofs.put_table.Goals as goal
 
 pub put_front-parts-requires : goal.put_front-parts-requires
-put_front-parts-requires c = record { image_value = (c.requires.accepted, c.requires.coded); rise = (laid_rise c.requires, c.requires.lengths_sized); fits = laid_front c.requires }
+put_front-parts-requires c = record { image_value = (c.requires.accepted, c.requires.coded); rise = laid_rise c.requires; fits = laid_front c.requires }
 
 pub clear-requires : goal.clear-requires
 clear-requires c = laid_clear c.requires (c.put_front-parts.ensures.value, c.put_front-parts.ensures.out_after)

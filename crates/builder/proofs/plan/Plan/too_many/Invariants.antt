@@ -3,7 +3,7 @@
 use Rattle.image.specs.Ranges.{any}
 use Rattle.image.proofs.Loops.{Rest}
 use Rattle.builder.specs.Plan.{too_many}
-use Rattle.builder.proofs.plan.too_many.Given as goal
+use Rattle.builder.proofs.plan.Plan.too_many.Given as goal
 
 abbrev pub invariant-loop-k : goal.invariant-loop-k
-invariant-loop-k l = Rest (any (too_many l.lengths)) 0 l.k-end l.k
+invariant-loop-k l = Rest (any (too_many l.self.lengths)) 0 l.k-end l.k

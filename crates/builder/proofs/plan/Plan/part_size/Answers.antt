@@ -4,7 +4,7 @@ use borrow.Author.Tests.{ne_eqb}
 use Rattle.builder.specs.Plan.{size_of, part_size}
 use Rattle.builder.proofs.Sizes.{width_most}
 use native.Mathlib.Omega.{arith}
-use Rattle.builder.proofs.plan.part_size.Goals as goal
+use Rattle.builder.proofs.plan.Plan.part_size.Goals as goal
 
 pub returns-in-0 : goal.returns-in-0
 unfolding part_size size_of

@@ -3,7 +3,7 @@
 use Rattle.image.proofs.Compare.{is_eq, is_ne}
 use mathlib.Core.Path.{refl}
 use Rattle.builder.specs.Plan.{child_rows}
-use Rattle.builder.proofs.plan.child_rows.Goals as goal
+use Rattle.builder.proofs.plan.Plan.child_rows.Goals as goal
 
 pub returns-then-code-eq-STRUCT : goal.returns-then-code-eq-STRUCT
 unfolding child_rows
