@@ -2,7 +2,6 @@
 // into a lent buffer.
 #![tactic(auto)]
 
-pub mod clear;
 pub mod front;
 pub mod plan;
 
@@ -14,7 +13,6 @@ ghost use Rattle.answers.specs.Answers.{rows_answer, image_of, written_over};
 ghost use Rattle.rows.specs.Output.{over};
 ghost use Rattle.builder.specs.Table.{Laid};
 
-use crate::clear::clear;
 use crate::front::put_front;
 use crate::plan::Plan;
 use answers::BuildRefusal;
@@ -48,7 +46,7 @@ fn put_table(s: &[u8], count: usize, b: &[u8], plan: &Plan, size: usize, out: &m
     ensures { out.new ≡ over out.old 0 (image_of s.now (rows_in s.now count b.now)) }
 {
     let parts = put_front(s, plan, out);
-    clear(out, parts, size);
+    out[parts..size].fill(0);
     fill(s, count, b, &plan.places, out);
 }
 
