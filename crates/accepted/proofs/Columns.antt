@@ -2,14 +2,16 @@
 -- Where the rows are in runs it stays up to the current run's end; else each element is one. Rows beside which the same run
 -- is kept are the same row: a row of runs is that of its run's value, and is never null.
 use mathlib.Core.Path.{◌≡◌, refl, sym, ap, ◌∙◌}
-use mathlib.Core.Bool.{Bool, true, false, cond}
+use mathlib.Core.Bool.{Bool, true, false, true≢false}
 use mathlib.Core.List.{List, replicate}
 use Prim.Native.Nat.{ℕ, zero, suc, ◌+◌, ◌-◌, ◌<◌, ◌≤◌, min}
 use native.Mathlib.Omega.{arith}
 use lib.Dec.{eqb}
-use lib.ListN.{length, get_or, set, length-set, length-replicate, get_or-replicate}
+use lib.ListN.{get_or, set, length-set, length-replicate, get_or-replicate}
 use lib.Seq.{get_or-set_same, get_or-set_other}
 use borrow.Author.Tests.{eqb-true, eqb-false, eq-eqb}
+use Rattle.std.specs.Prelude.{Option, None, Some}
+use Rattle.std.specs.Option.{is_some}
 use Rattle.image.specs.declared.type_code.Layout.TheVariants.{Runs}
 use Rattle.image.specs.Record.{node_count, code_of, offset_of, elements_of}
 use Rattle.image.specs.TypeCode.{layout_of, entry_of, entries}
@@ -17,9 +19,12 @@ use Rattle.image.specs.Element.{valid, run_end_at, run_at}
 use Rattle.image.specs.Row.{run_row, row_at}
 use Rattle.laws.specs.Accepted.{AcceptedImage, RunsCover}
 use Rattle.laws.proofs.Codes.{runs_code}
+use Rattle.image.specs.declared.bytes.Numbers.{Numbers}
+use Rattle.image.specs.Reads.{EndsOf}
 use Rattle.accepted.specs.declared.column.Column.{Column}
+use Rattle.accepted.specs.declared.column.KeptRun.{KeptRun}
 use Rattle.accepted.specs.Parts.{Side, RunPart}
-use Rattle.accepted.specs.Runs.{next_run, in_runs, kept_run, ColumnRead, Kept, Behind, Stays, Remembered, remembering}
+use Rattle.accepted.specs.Runs.{next_run, in_runs, kept_run, ColumnRead, Kept, Behind, Stays, RememberedOf, Remembered, remembering_by, remembering}
 use Rattle.accepted.proofs.Nodes.{side_small}
 use Rattle.accepted.proofs.RunEnds.{runs_cover, runs_few}
 use Rattle.accepted.proofs.RunSteps.{run_stays, run_next}
@@ -51,25 +56,41 @@ row_runs {s} {k} r e h lt = record { image = r.image; node = r.node; runs = runs
 pub node_few : {s : List ℕ} {k i n : ℕ} → Side s k i n → k < 256
 node_few r = omega (arith, r.node, r.image.tables.few_nodes)
 
+-- where the ends were read the rows are in runs, and where there are none they are not
+pub read_alone : {s : List ℕ} {k : ℕ} {c : Column} → ColumnRead s k c → c.ends ≡ None → in_runs s k ≡ false
+read_alone read e = rw e at read.ends
+
+pub read_told : {s : List ℕ} {k : ℕ} {c : Column} {b : Bool} → ColumnRead s k c → is_some c.ends ≡ b → in_runs s k ≡ b
+read_told {s} {k} {c} {b} read told = cases c.ends refl ∙ told
+  where
+    cases : (ends : Option Numbers) → c.ends ≡ ends → in_runs s k ≡ is_some c.ends
+    cases None e = rw e (read_alone read e)
+    cases (Some v) e = rw e (rw e at read.ends).0
+
+pub read_runs : {s : List ℕ} {k : ℕ} {c : Column} {v : Numbers} → ColumnRead s k c → c.ends ≡ Some v → (in_runs s k ≡ true) × EndsOf s k v
+read_runs read e = rw e at read.ends
+
 module _ {s : List ℕ} {k i : ℕ} {c : Column} where
   -- the first of the rows that are asked
   module _ (r : Side s k i 1) (read : ColumnRead s k c) where
     pub first_small : c.offset + i < 1073741824
     first_small = omega (arith, side_small s k i 1 r, read.offset.value)
 
-    pub first_alone : c.runs ≡ false → Kept s k c i (c.offset + i)
-    first_alone none = record { column = read; same = sym (kept_alone s k (c.offset + i) (sym read.runs ∙ none)) }
+    pub first_alone : in_runs s k ≡ false → Kept s k c i (c.offset + i)
+    first_alone none = record { column = read; same = sym (kept_alone s k (c.offset + i) none) }
 
-    pub first_part : c.runs ≡ true → RunPart s k (c.offset + i)
+    pub first_part : in_runs s k ≡ true → RunPart s k (c.offset + i)
     first_part e =
         let at : offset_of s k + i + 0 ≡ c.offset + i = omega (arith, read.offset.value) in
-        rw at at (row_runs r (sym read.runs ∙ e) 0 (omega arith))
+        rw at at (row_runs r e 0 (omega arith))
 
-    pub first_kept : {run : ℕ} → c.runs ≡ true → run ≡ run_at s k (c.offset + i) → Kept s k c i run
-    first_kept e same = record { column = read; same = same ∙ sym (kept_run_lem s k (c.offset + i) (sym read.runs ∙ e)) }
+    pub first_kept : {run : ℕ} → in_runs s k ≡ true → run ≡ run_at s k (c.offset + i) → Kept s k c i run
+    first_kept e same = record { column = read; same = same ∙ sym (kept_run_lem s k (c.offset + i) e) }
 
-    pub first_remembered : {runs : List ℕ} → Remembered s runs → c.runs ≡ true → get_or runs k 0 ≡ c.offset + i + 1 → Kept s k c i (get_or runs (256 + k) 0)
-    first_remembered t e place = first_kept e (t.run k (c.offset + i) (node_few r) place (first_part e))
+    pub first_remembered : {runs : List (Option KeptRun)} {kept : KeptRun} → Remembered s runs → in_runs s k ≡ true → get_or runs k None ≡ Some kept → kept.element ≡ c.offset + i → Kept s k c i kept.run
+    first_remembered t e there at =
+        let told : RememberedOf s k (Some _) = rw there at (t.of k (node_few r)) in
+        first_kept e (told (rw (sym at) at (first_part e)) ∙ ap (run_at s k) at)
 
   -- the rows from row i on
   module _ {n run : ℕ} (r : Side s k i n) (some : 0 < n) (at : Kept s k c i run) where
@@ -77,7 +98,7 @@ module _ {s : List ℕ} {k i : ℕ} {c : Column} where
     stay_small = omega (arith, side_small s k i n r, at.column.offset.value)
 
     -- where the rows are not in runs, each row is one
-    pub stay_alone : c.runs ≡ false → Stays s k c i n run (record { rows = 1; next = c.offset + i + 1 })
+    pub stay_alone : in_runs s k ≡ false → Stays s k c i n run (record { rows = 1; next = c.offset + i + 1 })
     stay_alone none = record {
       some = omega arith;
       within = omega arith;
@@ -87,23 +108,21 @@ module _ {s : List ℕ} {k i : ℕ} {c : Column} where
       next = record {
         column = at.column;
         alone = λ _. omega arith;
-        held = λ e part.
-            let differ : ◌≡◌ {A = ℕ} 0 1 = cc in
-            absurd (omega arith);
+        held = λ e part. absurd (true≢false (sym e ∙ none));
       };
     }
 
-    module _ (e : c.runs ≡ true) where
+    module _ (e : in_runs s k ≡ true) where
       element : (h : ℕ) → h < n → RunPart s k (c.offset + (i + h))
       element h lt =
           let place : offset_of s k + i + h ≡ c.offset + (i + h) = omega (arith, at.column.offset.value) in
-          rw place at (row_runs r (sym at.column.runs ∙ e) h lt)
+          rw place at (row_runs r e h lt)
 
       cover : RunsCover s k
       cover = runs_cover (element 0 some)
 
       run_held : run ≡ run_at s k (c.offset + i)
-      run_held = at.same ∙ kept_run_lem s k (c.offset + i) (sym at.column.runs ∙ e)
+      run_held = at.same ∙ kept_run_lem s k (c.offset + i) e
 
       pub stay_few : run < 1073741824
       stay_few =
@@ -122,16 +141,16 @@ module _ {s : List ℕ} {k i : ℕ} {c : Column} where
         stays h lt below = run_held ∙ run_stays cover (c.offset + i) (c.offset + (i + h)) (omega arith) (omega (arith, end_held)) (element h lt).element
 
         held : {x : ℕ} (h : ℕ) → x ≡ run_at s k (c.offset + (i + h)) → Kept s k c (i + h) x
-        held h same = record { column = at.column; same = same ∙ sym (kept_run_lem s k (c.offset + (i + h)) (sym at.column.runs ∙ e)) }
+        held h same = record { column = at.column; same = same ∙ sym (kept_run_lem s k (c.offset + (i + h)) e) }
 
-        pub stay_kept : {rows next : ℕ} → rows ≡ min (end - (c.offset + i)) n → next ≡ next_run (c.offset + i + (rows - 1)) run end → Stays s k c i n run (record { rows = rows; next = next })
+        pub stay_kept : {rows next : ℕ} → rows ≡ min n (end - (c.offset + i)) → next ≡ next_run (c.offset + i + (rows - 1)) run end → Stays s k c i n run (record { rows = rows; next = next })
         stay_kept {rows} {next} er en = record {
           some = omega (arith, stay_above);
           within = omega arith;
           same = λ h lt. held h (stays h (omega arith) (omega arith));
           next = record {
             column = at.column;
-            alone = λ none. let differ : ◌≡◌ {A = ℕ} 0 1 = cc in absurd (omega arith);
+            alone = λ none. absurd (true≢false (sym e ∙ none));
             held = λ _ part.
                 let last : c.offset + i + (rows - 1) ≡ c.offset + (i + (rows - 1)) = omega arith in
                 let behind : c.offset + (i + (rows - 1)) + 1 ≡ c.offset + (i + rows) = omega (arith, stay_above) in
@@ -142,69 +161,48 @@ module _ {s : List ℕ} {k i : ℕ} {c : Column} where
 
 -- a row that is there, beside which a run is kept if it is there
 pub behind_kept : {s : List ℕ} {k i n run : ℕ} {c : Column} → Side s k i n → 0 < n → Behind s k c i run → Kept s k c i run
-behind_kept {s} {k} {i} {n} {run} {c} r some at = record { column = at.column; same = cases c.runs refl }
+behind_kept {s} {k} {i} {n} {run} {c} r some at = record { column = at.column; same = cases (in_runs s k) refl }
   where
-    cases : (b : Bool) → c.runs ≡ b → run ≡ kept_run s k (c.offset + i)
+    cases : (b : Bool) → in_runs s k ≡ b → run ≡ kept_run s k (c.offset + i)
     cases true e =
         let place : offset_of s k + i + 0 ≡ c.offset + i = omega (arith, at.column.offset.value) in
-        at.held e (rw place at (row_runs r (sym at.column.runs ∙ e) 0 some)) ∙ sym (kept_run_lem s k (c.offset + i) (sym at.column.runs ∙ e))
-    cases false e = at.alone e ∙ sym (kept_alone s k (c.offset + i) (sym at.column.runs ∙ e))
+        at.held e (rw place at (row_runs r e 0 some)) ∙ sym (kept_run_lem s k (c.offset + i) e)
+    cases false e = at.alone e ∙ sym (kept_alone s k (c.offset + i) e)
 
 pub kept_behind : {s : List ℕ} {k i run : ℕ} {c : Column} → Kept s k c i run → Behind s k c i run
 kept_behind {s} {k} {i} {run} {c} at = record {
   column = at.column;
-  alone = λ e. at.same ∙ kept_alone s k (c.offset + i) (sym at.column.runs ∙ e);
-  held = λ e part. at.same ∙ kept_run_lem s k (c.offset + i) (sym at.column.runs ∙ e);
+  alone = λ e. at.same ∙ kept_alone s k (c.offset + i) e;
+  held = λ e part. at.same ∙ kept_run_lem s k (c.offset + i) e;
 }
 
 -- the runs that are remembered: none at first, then the one behind some rows
-pub none_remembered : (s : List ℕ) → Remembered s (replicate 512 0)
+pub none_remembered : (s : List ℕ) → Remembered s (replicate 256 None)
 none_remembered s = record {
-  sized = length-replicate {A = ℕ} 512 0;
-  run = λ k j lt e part. absurd (omega (arith, e, get_or-replicate {A = ℕ} 512 k 0 0 (omega arith)));
+  sized = length-replicate {A = Option KeptRun} 256 None;
+  of = λ k lt. rw (get_or-replicate {A = Option KeptRun} 256 k None None lt) tt;
 }
 
-remembered_more : {s runs : List ℕ} {k i run : ℕ} {c : Column} → Remembered s runs → k < 256 → Behind s k c i run → Remembered s (remembering runs k c i run)
-unfolding remembering
-remembered_more {s} {runs} {k} {i} {run} {c} t few at = cases c.runs refl
+remembered_more : {s : List ℕ} {runs : List (Option KeptRun)} {k i run : ℕ} {c : Column} → Remembered s runs → k < 256 → Behind s k c i run → Remembered s (remembering runs k c i run)
+remembered_more {s} {runs} {k} {i} {run} {c} t few at = cases c.ends refl
   where
-    all : List ℕ
-    all = set (set runs k (c.offset + i + 1)) (256 + k) run
-
-    long : length (set runs k (c.offset + i + 1)) ≡ 512
-    long = length-set runs k (c.offset + i + 1) ∙ t.sized
-
-    -- of this node
-    here : c.runs ≡ true → (j : ℕ) → get_or all k 0 ≡ j + 1 → RunPart s k j → get_or all (256 + k) 0 ≡ run_at s k j
-    here e j place part =
-        let apart : k ≡ 256 + k → ⊥ = λ (x : k ≡ 256 + k). omega arith in
-        let first : get_or all k 0 ≡ c.offset + i + 1 = get_or-set_other (set runs k (c.offset + i + 1)) (256 + k) k run 0 apart ∙ get_or-set_same runs k (c.offset + i + 1) 0 (omega (arith, t.sized)) in
-        let same : j ≡ c.offset + i = omega arith in
-        get_or-set_same (set runs k (c.offset + i + 1)) (256 + k) run 0 (omega (arith, long)) ∙ at.held e (rw same at part) ∙ ap (run_at s k) (sym same)
-
-    -- of another
-    other : (l : ℕ) → l < 256 → (l ≡ k → ⊥) → (j : ℕ) → get_or all l 0 ≡ j + 1 → RunPart s l j → get_or all (256 + l) 0 ≡ run_at s l j
-    other l lt ne j place part =
-        let a : l ≡ 256 + k → ⊥ = λ (x : l ≡ 256 + k). omega arith in
-        let b : 256 + l ≡ 256 + k → ⊥ = λ (x : 256 + l ≡ 256 + k). ne (omega arith) in
-        let d : 256 + l ≡ k → ⊥ = λ (x : 256 + l ≡ k). omega arith in
-        let first : get_or all l 0 ≡ get_or runs l 0 = get_or-set_other (set runs k (c.offset + i + 1)) (256 + k) l run 0 a ∙ get_or-set_other runs k l (c.offset + i + 1) 0 ne in
-        get_or-set_other (set runs k (c.offset + i + 1)) (256 + k) (256 + l) run 0 b ∙ get_or-set_other runs k (256 + l) (c.offset + i + 1) 0 d ∙ t.run l j lt (sym first ∙ place) part
-
-    of : c.runs ≡ true → (l j : ℕ) → l < 256 → get_or all l 0 ≡ j + 1 → RunPart s l j → get_or all (256 + l) 0 ≡ run_at s l j
-    of e l j lt place part = by (eqb l k) refl
+    more : in_runs s k ≡ true → Remembered s (set runs k (Some (record { element = c.offset + i; run = run })))
+    more e = record {
+      sized = length-set runs k (Some (record { element = c.offset + i; run = run })) ∙ t.sized;
+      of = λ l lt. by l lt (eqb l k) refl;
+    }
       where
-        by : (b : Bool) → eqb l k ≡ b → get_or all (256 + l) 0 ≡ run_at s l j
-        by true t =
-            let x : l ≡ k = eqb-true l k t in
-            rw x (here e j (rw x at place) (rw x at part))
-        by false t = other l lt (eqb-false l k t) j place part
+        by : (l : ℕ) → l < 256 → (b : Bool) → eqb l k ≡ b → RememberedOf s l (get_or (set runs k (Some (record { element = c.offset + i; run = run }))) l None)
+        by l lt true q =
+            let x : l ≡ k = eqb-true l k q in
+            rw (x, get_or-set_same runs k (Some (record { element = c.offset + i; run = run })) None (omega (arith, t.sized))) (at.held e)
+        by l lt false q = rw (get_or-set_other runs k l (Some (record { element = c.offset + i; run = run })) None (eqb-false l k q)) (t.of l lt)
 
-    cases : (b : Bool) → c.runs ≡ b → Remembered s (cond b all runs)
-    cases true e = record { sized = length-set (set runs k (c.offset + i + 1)) (256 + k) run ∙ long; run = of e }
-    cases false e = t
+    cases : (ends : Option Numbers) → c.ends ≡ ends → Remembered s (remembering_by ends runs k (c.offset + i) run)
+    cases None e = t
+    cases (Some v) e = more (read_runs at.column e).0
 
-pub remembered_now : {s runs after : List ℕ} {k i run : ℕ} {c : Column} → after ≡ remembering runs k c i run → Remembered s runs → k < 256 → Behind s k c i run → Remembered s after
+pub remembered_now : {s : List ℕ} {runs after : List (Option KeptRun)} {k i run : ℕ} {c : Column} → after ≡ remembering runs k c i run → Remembered s runs → k < 256 → Behind s k c i run → Remembered s after
 remembered_now e t few at = rw e (remembered_more t few at)
 
 -- rows beside which the same run is kept are the same row

@@ -1,10 +1,12 @@
 -- The run that is kept beside an element, for rows that are asked one after another.
-use Rattle.std.specs.Prelude.{◌≡◌, Bool, true, false, cond, List, ℕ, ◌+◌, ◌≤◌, ◌<◌, eqb, ltb, length, get_or, set}
+use Rattle.std.specs.Prelude.{◌≡◌, Bool, true, false, cond, Option, None, Some, List, ℕ, ◌+◌, ◌≤◌, ◌<◌, eqb, ltb, length, get_or, set}
 use Rattle.image.specs.Record.{code_of, offset_of}
 use Rattle.image.specs.Element.{run_at}
-use Rattle.image.specs.Reads.{Read, Ends}
+use Rattle.image.specs.Reads.{Read, EndsOf}
+use Rattle.image.specs.declared.bytes.Numbers.{Numbers}
 use Rattle.accepted.specs.Parts.{RunPart}
 use Rattle.accepted.specs.declared.column.Column.{Column}
+use Rattle.accepted.specs.declared.column.KeptRun.{KeptRun}
 use Rattle.accepted.specs.declared.column.Stay.{Stay}
 
 -- From element j to the next: the run stays while that one lies below the run's end, else it is the next. Nothing of an
@@ -20,11 +22,15 @@ in_runs s k = eqb (code_of s k) 43
 unfoldable pub kept_run : List ℕ → ℕ → ℕ → ℕ
 kept_run s k j = cond (in_runs s k) (run_at s k j) j
 
+-- the ends of node k's runs as they were read, where its rows are in runs
+abbrev pub EndsRead : List ℕ → ℕ → Option Numbers → Type 0
+EndsRead s k None = in_runs s k ≡ false
+EndsRead s k (Some ends) = (in_runs s k ≡ true) × EndsOf s k ends
+
 -- what is read once of node k
 pub record ColumnRead (s : List ℕ) (k : ℕ) (c : Column) : Type 0 where
-  pub runs : c.runs ≡ in_runs s k
   pub offset : Read (offset_of s k) 32 c.offset
-  pub ends : c.runs ≡ true → Ends s k c.ends
+  pub ends : EndsRead s k c.ends
 
 -- row i of the node, beside which a run is kept
 pub record Kept (s : List ℕ) (k : ℕ) (c : Column) (i run : ℕ) : Type 0 where
@@ -34,8 +40,8 @@ pub record Kept (s : List ℕ) (k : ℕ) (c : Column) (i run : ℕ) : Type 0 whe
 -- row i, which need not be there, beside which a run is kept if it is
 pub record Behind (s : List ℕ) (k : ℕ) (c : Column) (i run : ℕ) : Type 0 where
   pub column : ColumnRead s k c
-  pub alone : c.runs ≡ false → run ≡ c.offset + i
-  pub held : c.runs ≡ true → RunPart s k (c.offset + i) → run ≡ run_at s k (c.offset + i)
+  pub alone : in_runs s k ≡ false → run ≡ c.offset + i
+  pub held : in_runs s k ≡ true → RunPart s k (c.offset + i) → run ≡ run_at s k (c.offset + i)
 
 -- how long the run is kept that is kept at row i: of n rows from there on so many are in it, and the next is kept behind them
 pub record Stays (s : List ℕ) (k : ℕ) (c : Column) (i n run : ℕ) (r : Stay) : Type 0 where
@@ -44,12 +50,20 @@ pub record Stays (s : List ℕ) (k : ℕ) (c : Column) (i n run : ℕ) (r : Stay
   pub same : (h : ℕ) → h < r.rows → Kept s k c (i + h) run
   pub next : Behind s k c (i + r.rows) r.next
 
--- The runs that are remembered, two numbers for each node: the element behind the last that was asked for, and one more; and
--- the run that holds it, if it is there.
-pub record Remembered (s : List ℕ) (runs : List ℕ) : Type 0 where
-  pub sized : length runs ≡ 512
-  pub run : (k j : ℕ) → k < 256 → get_or runs k 0 ≡ j + 1 → RunPart s k j → get_or runs (256 + k) 0 ≡ run_at s k j
+-- what is remembered of node k: nothing, or an element and the run that holds it, if it is there
+abbrev pub RememberedOf : List ℕ → ℕ → Option KeptRun → Type 0
+RememberedOf s k None = Unit
+RememberedOf s k (Some r) = RunPart s k r.element → r.run ≡ run_at s k r.element
 
--- they, and the run behind the rows of node k up to row i
-unfoldable pub remembering : List ℕ → ℕ → Column → ℕ → ℕ → List ℕ
-remembering runs k c i run = cond c.runs (set (set runs k (c.offset + i + 1)) (256 + k) run) runs
+-- the runs that are remembered, one for each node
+pub record Remembered (s : List ℕ) (runs : List (Option KeptRun)) : Type 0 where
+  pub sized : length runs ≡ 256
+  pub of : (k : ℕ) → k < 256 → RememberedOf s k (get_or runs k None)
+
+-- they, and the run behind the rows of node k up to row i, where they are in runs
+abbrev pub remembering_by : Option Numbers → List (Option KeptRun) → ℕ → ℕ → ℕ → List (Option KeptRun)
+remembering_by None runs k j run = runs
+remembering_by (Some ends) runs k j run = set runs k (Some (record { element = j; run = run }))
+
+abbrev pub remembering : List (Option KeptRun) → ℕ → Column → ℕ → ℕ → List (Option KeptRun)
+remembering runs k c i run = remembering_by c.ends runs k (c.offset + i) run

@@ -28,17 +28,3 @@ pub fn view_bytes(node: Node, view: usize, len: usize) -> usize
     }
     long_place(node, node.node_entry(0), view, len)
 }
-
-pub fn data_place(s: &[u8], node: u32, view: usize, len: usize) -> usize
-    requires { Viewed s.now node view len }
-    ensures { ViewBytes s.now node view len result }
-{
-    view_bytes(
-        Node {
-            image: s,
-            number: node,
-        },
-        view,
-        len,
-    )
-}

@@ -1,27 +1,21 @@
 // A node whose rows are asked one after another: what is read of it once, and the run that is kept beside the row.
-ghost use Rattle.std.specs.Prelude.{◌≡◌, ◌+◌, ◌<◌, ◌^◌, length};
+ghost use Rattle.std.specs.Prelude.{◌≡◌, ◌+◌, ◌<◌, ◌^◌};
+ghost use Rattle.image.specs.Of.{◌of◌};
 ghost use Rattle.accepted.specs.Parts.{Side};
 ghost use Rattle.accepted.specs.Runs.{ColumnRead, Kept, Stays, Remembered, remembering};
 
-use crate::runs::{least, next_run, run_of};
-use image::element::{EndsAt, ends_of, run_end};
-use image::record::{Node, code, offset};
+use crate::runs::{next_run, run_of};
+use image::bytes::Numbers;
+use image::record::{MOST_NODES, Node};
 use image::type_code::TypeCode;
 
-// How many nodes an image has at most, and how many numbers the runs have that are remembered: two for each node, the
-// element behind the last that was asked for, and one more; and its run.
-const MOST_NODES: usize = 256;
-
-pub const REMEMBERED: usize = 512;
-
 #[derive(Clone, Copy)]
-pub struct Column {
-    // the rows are in runs
-    pub runs: bool,
+pub struct Column<'a> {
+    pub node: Node<'a>,
     // the element that row 0 reads
     pub offset: usize,
-    // where the ends of the runs stand, if there are runs
-    pub ends: EndsAt,
+    // the ends of the runs, where the rows are in runs
+    pub ends: Option<Numbers<'a>>,
 }
 
 // How long a run is kept: so many rows from a row on, and the run that is kept behind them.
@@ -31,81 +25,91 @@ pub struct Stay {
     pub next: usize,
 }
 
-// What is read once of a node.
-pub fn column_of(s: &[u8], node: u32) -> Column
-    ensures { ColumnRead s.now node result }
-{
-    let first = offset(s, node);
-    if code(s, node) != TypeCode::RUN_END_ENCODED {
-        return Column {
-            runs: false,
-            offset: first,
-            ends: EndsAt { width: 0, place: 0 },
-        };
-    }
-    Column {
-        runs: true,
-        offset: first,
-        ends: ends_of(s, node),
-    }
+// An element of a node, and the run that holds it, if the element is there.
+#[derive(Clone, Copy)]
+pub struct KeptRun {
+    pub element: usize,
+    pub run: usize,
 }
 
-// The run that is kept at row i, the first of a range: the one that is remembered, where the range of the node before it
-// ended at row i; else it is found by bisection.
-pub fn first_run(s: &[u8], node: u32, column: Column, i: usize, runs: &[usize]) -> usize
-    requires side { Side s.now node i 1 }
-    requires column_read { ColumnRead s.now node column }
-    requires remembered { Remembered s.now runs.now }
-    ensures { Kept s.now node column i result }
-{
-    let j = column.offset + i;
-    if !column.runs {
-        return j;
-    }
-    let place = node as usize;
-    if runs[place] == j + 1 {
-        return runs[MOST_NODES + place];
-    }
-    run_of(
-        Node {
-            image: s,
-            number: node,
-        },
-        j,
-    )
-}
+// Of each node the element behind the last that was asked for, and its run.
+pub type KeptRuns = [Option<KeptRun>; MOST_NODES];
 
-// The run behind a range of rows is remembered, that of row i, where the node has runs.
-pub fn remember(node: u32, column: Column, i: usize, run: usize, runs: &mut [usize])
-    requires node_bound { node < 256 }
-    requires i_bound { (column.offset + i < 2 ^ 34) × (length runs.old ≡ 512) }
-    ensures { runs.new ≡ remembering runs.old node column i run }
-{
-    if column.runs {
-        let place = node as usize;
-        runs[place] = column.offset + i + 1;
-        runs[MOST_NODES + place] = run;
+impl<'a> Column<'a> {
+    // What is read once of a node.
+    pub fn new(node: Node<'a>) -> Column<'a>
+        ensures node { result.node ≡ node.entry }
+        ensures read { (ColumnRead of result.node) result }
+    {
+        let offset = node.offset();
+        if node.code() != TypeCode::RUN_END_ENCODED {
+            return Column {
+                node: node,
+                offset: offset,
+                ends: None,
+            };
+        }
+        Column {
+            node: node,
+            offset: offset,
+            ends: Some(node.ends()),
+        }
     }
-}
 
-// How many of the n rows from row i on are in the run that is kept at row i, and the run behind them: of run ends only
-// that of this run is read.
-pub fn stay_of(s: &[u8], node: u32, column: Column, i: usize, n: usize, run: usize) -> Stay
-    requires side { Side s.now node i n × (0 < n) }
-    requires kept { Kept s.now node column i run }
-    ensures { Stays s.now node column i n run result }
-{
-    let j = column.offset + i;
-    if !column.runs {
-        return Stay {
-            rows: 1,
-            next: j + 1,
-        };
+    // The run that is kept at row i, the first of a range: the one that is remembered, where the range of the node before it
+    // ended at row i; else it is found by bisection.
+    pub fn first_run(self, i: usize, runs: &KeptRuns) -> usize
+        requires side { (Side of self.node) i 1 }
+        requires column_read { (ColumnRead of self.node) self }
+        requires remembered { Remembered self.node.image.now runs.now }
+        ensures { (Kept of self.entry.node) self.entry i result }
+    {
+        let j = self.offset + i;
+        if self.ends.is_none() {
+            return j;
+        }
+        if let Some(kept) = runs[self.node.number as usize] {
+            if kept.element == j {
+                return kept.run;
+            }
+        }
+        run_of(self.node, j)
     }
-    let end = run_end(s, node, column.ends, run);
-    let rows = least(end - j, n);
-    Stay {
-        rows: rows,
-        next: next_run(j + (rows - 1), run, end),
+
+    // The run behind a range of rows is remembered, that of row i, where the node has runs.
+    pub fn remember(self, i: usize, run: usize, runs: &mut KeptRuns)
+        requires { (self.node.number < 256) × (self.offset + i < 2 ^ 34) }
+        ensures { runs.new ≡ (remembering runs.old) self.entry.node.number self.entry i run }
+    {
+        if self.ends.is_some() {
+            runs[self.node.number as usize] = Some(KeptRun {
+                element: self.offset + i,
+                run: run,
+            });
+        }
+    }
+
+    // How many of the n rows from row i on are in the run that is kept at row i, and the run behind them: of run ends only
+    // that of this run is read.
+    pub fn stay(self, i: usize, n: usize, run: usize) -> Stay
+        requires side { (Side of self.node) i n × (0 < n) }
+        requires kept { (Kept of self.node) self i run }
+        ensures { (Stays of self.entry.node) self.entry i n run result }
+    {
+        let j = self.offset + i;
+        match self.ends {
+            None => Stay {
+                rows: 1,
+                next: j + 1,
+            },
+            Some(ends) => {
+                let end = ends.at(run);
+                let rows = n.min(end - j);
+                Stay {
+                    rows: rows,
+                    next: next_run(j + (rows - 1), run, end),
+                }
+            }
+        }
     }
 }

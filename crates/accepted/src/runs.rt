@@ -1,5 +1,5 @@
 // The run of an element of a run-end encoded node. Translated from src/equal/run.rs of arrow-data 60.1.0 (Apache-2.0).
-ghost use Rattle.std.specs.Prelude.{◌≡◌, ◌<◌, ◌^◌, min};
+ghost use Rattle.std.specs.Prelude.{◌≡◌, ◌<◌, ◌^◌};
 ghost use Rattle.image.specs.Element.{run_at};
 ghost use Rattle.accepted.specs.Parts.{RunPart};
 ghost use Rattle.accepted.specs.Runs.{next_run};
@@ -23,12 +23,6 @@ pub fn run_of(node: Node, j: usize) -> usize
         }
     }
     low
-}
-
-pub fn least(x: usize, y: usize) -> usize
-    ensures { result ≡ min x y }
-{
-    x.min(y)
 }
 
 // The run that holds the element after j, from the run of j and its end.

@@ -8,13 +8,13 @@ ghost use Rattle.image.specs.Equality.{tables_equal};
 ghost use Rattle.image.specs.Faults.{check_image};
 ghost use Rattle.answers.specs.Answers.{compare_answer, paired_of, bounds_of, compare_range_answer, difference_answer, digits_answer, map_names_answer, write_answer, write_output, build_answer, build_output, exceeds, side_checked};
 
-use accepted::column::REMEMBERED;
+use accepted::column::KeptRuns;
 use answers::{BuildRefusal, DigitsRefusal, RangeRefusal, SideFault, WriteRefusal};
 use builder::is_readable;
 use digits::{digits_equal, not_digits};
 use equal::rows_equal;
 use image::answer::{Fault, Side};
-use image::record::{MAX_DEPTH, Node};
+use image::record::{MAX_DEPTH, MOST_NODES, Node};
 use names::maps_named;
 use rows::measure::measure_rows;
 use rows::write::write_rows;
@@ -219,7 +219,7 @@ pub fn write(
         return Err(WriteRefusal::OutOfRange);
     }
     let room = out.len();
-    let mut runs = [0usize; REMEMBERED];
+    let mut runs: KeptRuns = [None; MOST_NODES];
     let table = Node {
         image: image,
         number: 0,

@@ -1,5 +1,4 @@
 pub mod Bools
-pub mod ById
 pub mod ChildTable
 pub mod CodeTable
 pub mod Compare

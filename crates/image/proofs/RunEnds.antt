@@ -10,8 +10,7 @@ use Rattle.image.specs.Record.{code_of, offset_of, first_child, buffer_place}
 use Rattle.image.specs.TypeCode.{integer_width}
 use Rattle.image.specs.Element.{run_end_width, run_end_at}
 use Rattle.image.specs.declared.bytes.Numbers.{Numbers}
-use Rattle.image.specs.declared.element.EndsAt.{EndsAt}
-use Rattle.image.specs.Reads.{Read, Nth, EndsOf, Ends}
+use Rattle.image.specs.Reads.{Read, Nth, EndsOf}
 use Rattle.image.proofs.Widths.{integer_width_lem, integer_width_least}
 
 -- where run ends start, as it is read
@@ -20,17 +19,6 @@ ends_small c {x} {y} {p} {o} {w} ep eo ew =
     let narrow : w ≤ 8 = rw ew (integer_width_lem c) in
     let most : o * w ≤ o * 8 = mul-le-mul_left o narrow in
     omega (arith, ep.small, eo.small)
-
-pub ends_read : (s : List ℕ) (k : ℕ) (v : EndsAt) {e c p o : ℕ} → Read (first_child s k) 16 e → c ≡ code_of s e → v.width ≡ integer_width c → Read (buffer_place s e 0) 32 p → Read (offset_of s e) 32 o
-    → v.place ≡ p + o * v.width → Ends s k v
-unfolding run_end_width
-ends_read s k v {e} {c} ee ec ew ep eo at = record {
-  width = rw (← ee.value, ← ec) ew;
-  place = rw (← ee.value, ← ep.value, ← eo.value) at;
-  some = rw ew (integer_width_least c);
-  narrow = rw ew (integer_width_lem c);
-  near = rw at (ends_small c ep eo ew);
-}
 
 pub ends_of : (s : List ℕ) (k : ℕ) (v : Numbers) {e c p o : ℕ} → v.bytes.now ≡ s → e ≡ first_child s k → c ≡ code_of s e → v.width ≡ integer_width c → Read (buffer_place s e 0) 32 p → Read (offset_of s e) 32 o
     → v.place ≡ p + o * v.width → EndsOf s k v
@@ -51,16 +39,6 @@ ends_nth f lt = record { near = f.near; narrow = f.narrow; few = omega arith }
 pub ends_at : (s : List ℕ) (k r : ℕ) (v : Numbers) → EndsOf s k v → number_at v.width s (v.place + r * v.width) ≡ run_end_at s k r
 unfolding run_end_at
 ends_at s k r v f =
-    let d : (offset_of s (first_child s k) + r) * v.width ≡ offset_of s (first_child s k) * v.width + r * v.width = add-mul (offset_of s (first_child s k)) r v.width in
-    let at : buffer_place s (first_child s k) 0 + (offset_of s (first_child s k) + r) * v.width ≡ v.place + r * v.width = omega (arith, f.place) in
-    rw (← f.width, at)
-
-pub run_end_nth : {s : List ℕ} {k r : ℕ} {v : EndsAt} → Ends s k v → r < 2 ^ 33 → Nth v.place v.width r
-run_end_nth f lt = record { near = f.near; narrow = f.narrow; few = omega arith }
-
-pub run_end_is : (s : List ℕ) (k r : ℕ) (v : EndsAt) → Ends s k v → number_at v.width s (v.place + r * v.width) ≡ run_end_at s k r
-unfolding run_end_at
-run_end_is s k r v f =
     let d : (offset_of s (first_child s k) + r) * v.width ≡ offset_of s (first_child s k) * v.width + r * v.width = add-mul (offset_of s (first_child s k)) r v.width in
     let at : buffer_place s (first_child s k) 0 + (offset_of s (first_child s k) + r) * v.width ≡ v.place + r * v.width = omega (arith, f.place) in
     rw (← f.width, at)

@@ -2,7 +2,6 @@
 use Rattle.std.specs.Prelude.{◌≡◌, Bool, true, false, ◌||◌, Option, None, Some, List, ℕ, ◌+◌, ◌*◌, ◌<◌, ◌≤◌, ◌^◌, eqb, length, get_or}
 use Rattle.image.specs.declared.bytes.Numbers.{Numbers}
 use Rattle.image.specs.declared.element.Bitmap.{Bitmap}
-use Rattle.image.specs.declared.element.EndsAt.{EndsAt}
 use Rattle.image.specs.Record.{has_bitmap, bitmap_place, first_bit, first_child, offset_of, buffer_place}
 use Rattle.image.specs.Element.{child_end, child_with_id, run_end_width}
 
@@ -25,26 +24,6 @@ is_width w = eqb w 1 || eqb w 2 || eqb w 4 || eqb w 8
 pub record Packed (n place w count : ℕ) : Type 0 where
   pub width : is_width w ≡ true
   pub inside : place + count * w ≤ n
-
--- a table of the children of union k by their type ids: entry id is the child that has it, or the children's end
-pub record ById (s : List ℕ) (k : ℕ) (table : List ℕ) : Type 0 where
-  pub sized : length table ≡ 256
-  pub entry : (id : ℕ) → id < 256 → get_or table id 0 ≡ child_with_id s k id
-  pub small : (id : ℕ) → id < 256 → get_or table id 0 < 2 ^ 17
-
--- of node k's null mask: whether there is a bitmap, where it starts, and the bit of row 0
-pub record MaskRead (s : List ℕ) (k : ℕ) (some : Bool) (place first : ℕ) : Type 0 where
-  pub is_there : some ≡ has_bitmap s k
-  pub start : place ≡ bitmap_place s k
-  pub row : Read (first_bit s k) 32 first
-
--- where the ends of a run node's runs start, and how wide they are
-pub record Ends (s : List ℕ) (k : ℕ) (r : EndsAt) : Type 0 where
-  pub width : r.width ≡ run_end_width s k
-  pub place : r.place ≡ buffer_place s (first_child s k) 0 + offset_of s (first_child s k) * r.width
-  pub some : 1 ≤ r.width
-  pub narrow : r.width ≤ 8
-  pub near : r.place < 2 ^ 40
 
 -- the bitmap of node k as it was read: none where it has none, else where it starts and the bit of row 0
 pub record BitmapParts (s : List ℕ) (k : ℕ) (m : Bitmap) : Type 0 where

@@ -26,14 +26,3 @@ impl Node<'_> {
         true
     }
 }
-
-pub fn name_is(image: &[u8], node: u32, other: &[u8], at: usize, n: usize) -> bool
-    requires { at < 2 ^ 32 }
-    ensures { result ≡ same_bytes (name_of image.now node) (bytes_at other.now at n) }
-{
-    Node {
-        image: image,
-        number: node,
-    }
-    .name_is(other, at, n)
-}

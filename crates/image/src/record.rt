@@ -7,7 +7,7 @@ ghost use Rattle.image.specs.Bytes.{byte_at, number_at};
 ghost use Rattle.image.specs.Reads.{Read};
 ghost use Rattle.image.specs.Record.{record_size, node_count, buffer_total, record_place, entry_place, code_of, flags_of, id_of, name_length, p1_of, p2_of, length_of, offset_of, name_place, bitmap_place, bitmap_length, first_bit, first_child, child_count, first_buffer, buffer_count, nullable, has_bitmap, elements_of, buffer_place, buffer_length, tables_end};
 
-use crate::bytes::{byte, le};
+use crate::bytes::{Numbers, byte, le};
 
 // A table's depth is at most so much, the root being 1.
 pub const MAX_DEPTH: usize = 16;
@@ -16,6 +16,9 @@ pub const MAX_DEPTH: usize = 16;
 pub const LONGEST_IMAGE: usize = 16777216;
 
 pub const MOST_ELEMENTS: usize = 1073741824;
+
+// And at most so many nodes.
+pub const MOST_NODES: usize = 256;
 
 // The sizes of the header, of a node's record and of a buffer's entry.
 pub const HEADER_SIZE: usize = 4;
@@ -254,6 +257,19 @@ impl<'a> Node<'a> {
     {
         le::<4>(self.image, self.node_entry(j) + 4)
     }
+
+    // The numbers of a width that stand in buffer j of a node.
+    pub fn numbers(self, j: u32, width: usize) -> Numbers<'a>
+        ensures bytes { result.bytes ≡ self.entry.image }
+        ensures place { Read ((buffer_place of self.entry) j) 32 result.place }
+        ensures width { result.width ≡ width }
+    {
+        Numbers {
+            bytes: self.image,
+            place: self.buffer_place(j),
+            width: width,
+        }
+    }
 }
 
 // Each node of an image passes the test of its number.
@@ -267,224 +283,4 @@ pub fn all_nodes<F: Fn(u32) -> bool>(image: &[u8], test: F) -> bool
         }
     }
     true
-}
-
-pub fn code(image: &[u8], node: u32) -> u8
-    ensures { Read (code_of image.now node) 8 result }
-{
-    Node {
-        image: image,
-        number: node,
-    }
-    .code()
-}
-
-pub fn flags(image: &[u8], node: u32) -> u8
-    ensures { Read (flags_of image.now node) 8 result }
-{
-    Node {
-        image: image,
-        number: node,
-    }
-    .flags()
-}
-
-pub fn type_id(image: &[u8], node: u32) -> u8
-    ensures { Read (id_of image.now node) 8 result }
-{
-    Node {
-        image: image,
-        number: node,
-    }
-    .type_id()
-}
-
-pub fn name_length(image: &[u8], node: u32) -> usize
-    ensures { Read (name_length image.now node) 8 result }
-{
-    Node {
-        image: image,
-        number: node,
-    }
-    .name_length()
-}
-
-pub fn p1(image: &[u8], node: u32) -> usize
-    ensures { Read (p1_of image.now node) 32 result }
-{
-    Node {
-        image: image,
-        number: node,
-    }
-    .p1()
-}
-
-pub fn p2(image: &[u8], node: u32) -> usize
-    ensures { Read (p2_of image.now node) 32 result }
-{
-    Node {
-        image: image,
-        number: node,
-    }
-    .p2()
-}
-
-pub fn length(image: &[u8], node: u32) -> usize
-    ensures { Read (length_of image.now node) 32 result }
-{
-    Node {
-        image: image,
-        number: node,
-    }
-    .length()
-}
-
-pub fn offset(image: &[u8], node: u32) -> usize
-    ensures { Read (offset_of image.now node) 32 result }
-{
-    Node {
-        image: image,
-        number: node,
-    }
-    .offset()
-}
-
-pub fn name_place(image: &[u8], node: u32) -> usize
-    ensures { Read (name_place image.now node) 32 result }
-{
-    Node {
-        image: image,
-        number: node,
-    }
-    .name_place()
-}
-
-pub fn bitmap_place(image: &[u8], node: u32) -> usize
-    ensures { Read (bitmap_place image.now node) 32 result }
-{
-    Node {
-        image: image,
-        number: node,
-    }
-    .bitmap_place()
-}
-
-pub fn bitmap_length(image: &[u8], node: u32) -> usize
-    ensures { Read (bitmap_length image.now node) 32 result }
-{
-    Node {
-        image: image,
-        number: node,
-    }
-    .bitmap_length()
-}
-
-pub fn first_bit(image: &[u8], node: u32) -> usize
-    ensures { Read (first_bit image.now node) 32 result }
-{
-    Node {
-        image: image,
-        number: node,
-    }
-    .first_bit()
-}
-
-pub fn first_child(image: &[u8], node: u32) -> u32
-    ensures { Read (first_child image.now node) 16 result }
-{
-    Node {
-        image: image,
-        number: node,
-    }
-    .first_child()
-}
-
-pub fn child_count(image: &[u8], node: u32) -> u32
-    ensures { Read (child_count image.now node) 16 result }
-{
-    Node {
-        image: image,
-        number: node,
-    }
-    .child_count()
-}
-
-pub fn first_buffer(image: &[u8], node: u32) -> u32
-    ensures { Read (first_buffer image.now node) 16 result }
-{
-    Node {
-        image: image,
-        number: node,
-    }
-    .first_buffer()
-}
-
-pub fn buffer_count(image: &[u8], node: u32) -> u32
-    ensures { Read (buffer_count image.now node) 16 result }
-{
-    Node {
-        image: image,
-        number: node,
-    }
-    .buffer_count()
-}
-
-pub fn is_nullable(image: &[u8], node: u32) -> bool
-    ensures { result ≡ nullable image.now node }
-{
-    Node {
-        image: image,
-        number: node,
-    }
-    .is_nullable()
-}
-
-pub fn has_bitmap(image: &[u8], node: u32) -> bool
-    ensures { result ≡ has_bitmap image.now node }
-{
-    Node {
-        image: image,
-        number: node,
-    }
-    .has_bitmap()
-}
-
-pub fn elements(image: &[u8], node: u32) -> usize
-    ensures { Read (elements_of image.now node) 33 result }
-{
-    Node {
-        image: image,
-        number: node,
-    }
-    .elements()
-}
-
-pub fn node_entry(image: &[u8], node: u32, j: u32) -> usize
-    ensures { Read (entry_place image.now (first_buffer image.now node + j)) 40 result }
-{
-    Node {
-        image: image,
-        number: node,
-    }
-    .node_entry(j)
-}
-
-pub fn buffer_place(image: &[u8], node: u32, j: u32) -> usize
-    ensures { Read (buffer_place image.now node j) 32 result }
-{
-    Node {
-        image: image,
-        number: node,
-    }
-    .buffer_place(j)
-}
-
-pub fn buffer_length(image: &[u8], node: u32, j: u32) -> usize
-    ensures { Read (buffer_length image.now node j) 32 result }
-{
-    Node {
-        image: image,
-        number: node,
-    }
-    .buffer_length(j)
 }

@@ -13,7 +13,7 @@ ghost use Rattle.rows.specs.Value.{leaf_value, nested_value, is_null};
 ghost use Rattle.rows.specs.ValueOf.{rows_value, union_value, value_of};
 
 use accepted::byte_view::view_bytes;
-use image::bytes::{Numbers, bit, byte, le};
+use image::bytes::{bit, byte, le};
 use image::element::VIEW_SIZE;
 use image::record::Node;
 use image::type_code::{Layout, TypeCode};
@@ -131,12 +131,7 @@ fn list_view_value(node: Node, j: usize) -> Value
     ensures { result ≡ (value_of ListView of node.entry) j }
 {
     let from = node.offset_at(j);
-    let count = Numbers {
-        bytes: node.image,
-        place: node.buffer_place(1),
-        width: node.element_width(),
-    }
-    .at(j);
+    let count = node.numbers(1, node.element_width()).at(j);
     nested(count, COUNT_WIDTH, node.first_child(), 1, from, count)
 }
 

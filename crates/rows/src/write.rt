@@ -10,7 +10,7 @@ ghost use Rattle.rows.specs.Value.{own_bytes};
 
 use crate::output::{put_bytes, put_number, put_times};
 use crate::value::{Value, is_null, value_at};
-use accepted::column::{Column, column_of, first_run, remember, stay_of};
+use accepted::column::{Column, KeptRuns};
 use image::record::Node;
 
 // The first byte of a row.
@@ -35,31 +35,30 @@ fn put_own(s: &[u8], v: Value, out: &mut [u8], at: usize) -> usize
 // Row i of a node, beside which a run is kept, put at a place of the buffer; the answer is the place after it.
 #[cycle(write_row_write_rows)]
 fn write_row(
-    node: Node,
     column: Column,
     i: usize,
     run: usize,
     depth: usize,
-    runs: &mut [usize],
+    runs: &mut KeptRuns,
     out: &mut [u8],
     at: usize,
 ) -> usize
-    requires side { (Side of node) i 1 }
-    requires kept { (Kept of node) column i run }
-    requires remembered { Remembered node.image.now runs.old }
-    requires fits { Fits out.old at (row_bytes ((row_at depth of node) i)) }
-    ensures value { result ≡ at + length (row_bytes ((row_at depth of node.entry) i)) }
-    ensures out_after { out.new ≡ over out.old at (row_bytes ((row_at depth of node.entry) i)) }
-    ensures remembered_2 { Remembered node.entry.image.now runs.new }
+    requires side { (Side of column.node) i 1 }
+    requires kept { (Kept of column.node) column i run }
+    requires remembered { Remembered column.node.image.now runs.old }
+    requires fits { Fits out.old at (row_bytes ((row_at depth of column.node) i)) }
+    ensures value { result ≡ at + length (row_bytes ((row_at depth of column.entry.node) i)) }
+    ensures out_after { out.new ≡ over out.old at (row_bytes ((row_at depth of column.entry.node) i)) }
+    ensures remembered_after { Remembered column.entry.node.image.now runs.new }
 {
-    if is_null(node, i, depth) {
+    if is_null(column.node, i, depth) {
         return put_number(out, at, NULL, MARK_WIDTH);
     }
-    let v = value_at(node, column.offset + i, run);
-    let mut next = put_own(node.image, v, out, at);
+    let v = value_at(column.node, column.offset + i, run);
+    let mut next = put_own(column.node.image, v, out, at);
     for c in 0..v.parts {
         let child = Node {
-            image: node.image,
+            image: column.node.image,
             number: v.child + c,
         };
         next = write_rows(child, v.start, v.count, depth - 1, runs, out, next);
@@ -75,7 +74,7 @@ pub fn write_rows(
     i: usize,
     n: usize,
     depth: usize,
-    runs: &mut [usize],
+    runs: &mut KeptRuns,
     out: &mut [u8],
     at: usize,
 ) -> usize
@@ -84,22 +83,22 @@ pub fn write_rows(
     requires fits { Fits out.old at (rows_bytes (range (row_at depth of node) i n)) }
     ensures value { result ≡ at + length (rows_bytes (range (row_at depth of node.entry) i n)) }
     ensures out_after { out.new ≡ over out.old at (rows_bytes (range (row_at depth of node.entry) i n)) }
-    ensures remembered_2 { Remembered node.entry.image.now runs.new }
+    ensures remembered_after { Remembered node.entry.image.now runs.new }
 {
     if n == 0 {
         return at;
     }
-    let column = column_of(node.image, node.number);
-    let mut run = first_run(node.image, node.number, column, i, runs);
+    let column = Column::new(node);
+    let mut run = column.first_run(i, runs);
     let mut next = at;
     let mut k: usize = 0;
     while k < n {
-        let stay = stay_of(node.image, node.number, column, i + k, n - k, run);
-        let end = write_row(node, column, i + k, run, depth, runs, out, next);
+        let stay = column.stay(i + k, n - k, run);
+        let end = write_row(column, i + k, run, depth, runs, out, next);
         next = put_times(out, end, end - next, stay.rows - 1);
         run = stay.next;
         k += stay.rows;
     }
-    remember(node.number, column, i + k, run, runs);
+    column.remember(i + k, run, runs);
     next
 }

@@ -9,7 +9,7 @@ ghost use Rattle.image.specs.Utf8.{well_formed};
 ghost use Rattle.laws.specs.Accepted.{NoneBelow};
 ghost use Rattle.validate.specs.Texts.{TextNode, TextsRead, TextRow, TextSpan, EachBuffer, plain_buffer, formed_buffer, Found, Stretch, splits};
 
-use accepted::byte_view::data_place;
+use accepted::byte_view::view_bytes;
 use image::bytes::{Numbers, load};
 use image::element::{INLINE_LENGTH, VIEW_SIZE};
 use image::record::Node;
@@ -66,7 +66,7 @@ fn text_of(node: Node, at: TextsAt, i: usize) -> Span
         let view = at.place + i * VIEW_SIZE;
         let len = load::<4>(node.image, view);
         return Span {
-            place: data_place(node.image, node.number, view, len),
+            place: view_bytes(node, view, len),
             len: len,
         };
     }
@@ -108,7 +108,7 @@ fn cut_well(node: Node, at: TextsAt, i: usize) -> bool
     }
     let buffer = (1 + load::<4>(node.image, view + 8)) as u32;
     let end = node.buffer_place(buffer) + node.buffer_length(buffer);
-    let start = data_place(node.image, node.number, view, len);
+    let start = view_bytes(node, view, len);
     if is_tail(node.image[start]) {
         return false;
     }

@@ -15,7 +15,7 @@ pub measure_row-is_null-requires : goal.measure_row-is_null-requires
 measure_row-is_null-requires t c = omega (arith, side_few c.requires.side)
 
 pub measure_row-returns-then-is_null : goal.measure_row-returns-then-is_null
-measure_row-returns-then-is_null t c = record { value = null_left _ (row_null _ _ _ _ (sym c.is_null.ensures ∙ c.if-is_null.true)) c.checked_sub.ensures; remembered_2 = c.requires.remembered }
+measure_row-returns-then-is_null t c = record { value = null_left _ (row_null _ _ _ _ (sym c.is_null.ensures ∙ c.if-is_null.true)) c.checked_sub.ensures; remembered_after = c.requires.remembered }
 
 pub measure_row-overflow_add-column : goal.measure_row-overflow_add-column
 measure_row-overflow_add-column t c = omega (arith, side_few c.requires.side, c.requires.kept.column.offset.value)
@@ -30,7 +30,7 @@ pub measure_row-overflow_add-v-2 : goal.measure_row-overflow_add-v-2
 measure_row-overflow_add-v-2 t c = omega (arith, (value_of_lem _ c.requires.side c.is_null.ensures c.if-is_null.false c.requires.kept.column.offset c.value_at-v.ensures).placed.narrow, (value_of_lem _ c.requires.side c.is_null.ensures c.if-is_null.false c.requires.kept.column.offset c.value_at-v.ensures).placed.inside, c.well_formed.0.1)
 
 pub measure_row-returns-in_err-left : goal.measure_row-returns-in_err-left
-measure_row-returns-in_err-left t c = record { value = c.from_residual.ensures ∙ value_short (value_of_lem _ c.requires.side c.is_null.ensures c.if-is_null.false c.requires.kept.column.offset c.value_at-v.ensures) c.args.room c.in_err-left.ensures; remembered_2 = c.requires.remembered }
+measure_row-returns-in_err-left t c = record { value = c.from_residual.ensures ∙ value_short (value_of_lem _ c.requires.side c.is_null.ensures c.if-is_null.false c.requires.kept.column.offset c.value_at-v.ensures) c.args.room c.in_err-left.ensures; remembered_after = c.requires.remembered }
 
 pub measure_row-loop-c-init : goal.measure_row-loop-c-init
 measure_row-loop-c-init t c = ((value_of_lem _ c.requires.side c.is_null.ensures c.if-is_null.false c.requires.kept.column.offset c.value_at-v.ensures), (measuring_start _ _ _, c.requires.remembered))
@@ -42,25 +42,22 @@ pub measure_row-measure_rows-requires : goal.measure_row-measure_rows-requires
 measure_row-measure_rows-requires t c = (omega (arith, c.decreases, c.loop-c.invariant.0.deep), (c.loop-c.invariant.0.placed.parts c.loop-c.c c.loop-c-test.true, c.loop-c.invariant.1.1))
 
 pub measure_row-returns-in_err-left-2 : goal.measure_row-returns-in_err-left-2
-measure_row-returns-in_err-left-2 t c = record { value = c.from_residual-in_err-left-2.ensures ∙ measuring_short c.loop-c.invariant.1.0 c.loop-c-test.true (sym c.in_err-left-2.was ∙ c.measure_rows.ensures.value) ∙ value_left c.loop-c.invariant.0 c.args.room c.in_ok-left.ensures; remembered_2 = c.measure_rows.ensures.remembered_2 }
+measure_row-returns-in_err-left-2 t c = record { value = c.from_residual-in_err-left-2.ensures ∙ measuring_short c.loop-c.invariant.1.0 c.loop-c-test.true (sym c.in_err-left-2.was ∙ c.measure_rows.ensures.value) ∙ value_left c.loop-c.invariant.0 c.args.room c.in_ok-left.ensures; remembered_after = c.measure_rows.ensures.remembered_after }
 
 pub measure_row-loop-c-preserved : goal.measure_row-loop-c-preserved
-measure_row-loop-c-preserved t c = (c.loop-c.invariant.0, (measuring_more c.loop-c.invariant.1.0 c.loop-c-test.true (sym c.in_ok-left-2.was ∙ c.measure_rows.ensures.value), c.measure_rows.ensures.remembered_2))
-
-pub measure_row-shape_of-runs : goal.measure_row-shape_of-runs
-measure_row-shape_of-runs t c = c.loop-c.invariant.1.1.sized ∙ sym c.requires.remembered.sized
+measure_row-loop-c-preserved t c = (c.loop-c.invariant.0, (measuring_more c.loop-c.invariant.1.0 c.loop-c-test.true (sym c.in_ok-left-2.was ∙ c.measure_rows.ensures.value), c.measure_rows.ensures.remembered_after))
 
 pub measure_row-returns : goal.measure_row-returns
-measure_row-returns t c = record { value = measuring_done c.loop-c.invariant.1.0 c.loop-c-test.false ∙ value_left c.loop-c.invariant.0 c.args.room c.in_ok-left.ensures; remembered_2 = c.loop-c.invariant.1.1 }
+measure_row-returns t c = record { value = measuring_done c.loop-c.invariant.1.0 c.loop-c-test.false ∙ value_left c.loop-c.invariant.0 c.args.room c.in_ok-left.ensures; remembered_after = c.loop-c.invariant.1.1 }
 
 pub measure_rows-returns-then-n-eq0 : goal.measure_rows-returns-then-n-eq0
-measure_rows-returns-then-n-eq0 t c = record { value = none_measured _ _ _ _ _ c.if-n-eq0.true _; remembered_2 = c.requires.remembered }
+measure_rows-returns-then-n-eq0 t c = record { value = none_measured _ _ _ _ _ c.if-n-eq0.true _; remembered_after = c.requires.remembered }
 
 pub measure_rows-first_run-run-requires : goal.measure_rows-first_run-run-requires
-measure_rows-first_run-run-requires t c = record { side = first_row c.requires.side c.if-n-eq0.false; column_read = c.column_of-column.ensures; remembered = c.requires.remembered }
+measure_rows-first_run-run-requires t c = (record { side = first_row (rw c.new-column.ensures.node c.requires.side) c.if-n-eq0.false; column_read = c.new-column.ensures.read; remembered = rw c.new-column.ensures.node c.requires.remembered })
 
 pub measure_rows-loop-k-init : goal.measure_rows-loop-k-init
-measure_rows-loop-k-init t c = (measured_start _ _ _ _ _ _ c.first_run-run.ensures, c.requires.remembered)
+measure_rows-loop-k-init t c = (measured_start _ _ _ _ _ _ c.first_run-run.ensures, rw c.new-column.ensures.node c.requires.remembered)
 
 pub measure_rows-overflow_add-i : goal.measure_rows-overflow_add-i
 measure_rows-overflow_add-i t c = omega (arith, side_few c.requires.side, c.loop-k-test.true)
@@ -68,44 +65,41 @@ measure_rows-overflow_add-i t c = omega (arith, side_few c.requires.side, c.loop
 pub measure_rows-overflow_sub-n : goal.measure_rows-overflow_sub-n
 measure_rows-overflow_sub-n t c = omega (arith, c.loop-k-test.true)
 
-pub measure_rows-stay_of-stay-requires : goal.measure_rows-stay_of-stay-requires
-measure_rows-stay_of-stay-requires t c = record { side = (rows_from c.requires.side _ c.loop-k-test.true, omega (arith, c.loop-k-test.true)); kept = row_kept c.requires.side _ c.loop-k-test.true c.loop-k.invariant.0.kept }
+pub measure_rows-stay-stay-requires : goal.measure_rows-stay-stay-requires
+measure_rows-stay-stay-requires t c = (record { side = (rows_from (rw c.new-column.ensures.node c.requires.side) _ c.loop-k-test.true, omega (arith, c.loop-k-test.true)); kept = row_kept (rw c.new-column.ensures.node c.requires.side) _ c.loop-k-test.true c.loop-k.invariant.0.kept })
 
 pub measure_rows-overflow_add-i-in-loop-k : goal.measure_rows-overflow_add-i-in-loop-k
 measure_rows-overflow_add-i-in-loop-k t c = omega (arith, side_few c.requires.side, c.loop-k-test.true)
 
 pub measure_rows-measure_row-requires : goal.measure_rows-measure_row-requires
-measure_rows-measure_row-requires t c = (omega (arith, c.decreases), (side_row c.requires.side c.loop-k-test.true, (row_kept c.requires.side _ c.loop-k-test.true c.loop-k.invariant.0.kept, c.loop-k.invariant.1)))
+measure_rows-measure_row-requires t c = (omega (arith, c.decreases), (side_row (rw c.new-column.ensures.node c.requires.side) c.loop-k-test.true, (row_kept (rw c.new-column.ensures.node c.requires.side) _ c.loop-k-test.true c.loop-k.invariant.0.kept, c.loop-k.invariant.1)))
 
 pub measure_rows-returns-in_err-one : goal.measure_rows-returns-in_err-one
-measure_rows-returns-in_err-one t c = record { value = c.from_residual.ensures ∙ row_short c.loop-k.invariant.0 c.loop-k-test.true (sym c.in_err-one.was ∙ c.measure_row.ensures.value); remembered_2 = c.measure_row.ensures.remembered_2 }
+measure_rows-returns-in_err-one t c = record { value = c.from_residual.ensures ∙ rw c.new-column.ensures.node at (row_short c.loop-k.invariant.0 c.loop-k-test.true (sym c.in_err-one.was ∙ c.measure_row.ensures.value)); remembered_after = rw c.new-column.ensures.node at (c.measure_row.ensures.remembered_after) }
 
 pub measure_rows-overflow_sub-left : goal.measure_rows-overflow_sub-left
 measure_rows-overflow_sub-left t c = omega (arith, row_took c.loop-k.invariant.0 c.loop-k-test.true (sym c.in_ok-one.was ∙ c.measure_row.ensures.value))
 
 pub measure_rows-overflow_sub-stay : goal.measure_rows-overflow_sub-stay
-measure_rows-overflow_sub-stay t c = omega (arith, c.stay_of-stay.ensures.some)
+measure_rows-overflow_sub-stay t c = omega (arith, c.stay-stay.ensures.some)
 
 pub measure_rows-returns-in_err-left : goal.measure_rows-returns-in_err-left
-measure_rows-returns-in_err-left t c = record { value = c.from_residual-in_err-left.ensures ∙ others_short c.loop-k.invariant.0 c.loop-k-test.true (sym c.in_ok-one.was ∙ c.measure_row.ensures.value) c.requires.side c.stay_of-stay.ensures (sym c.in_err-left.was ∙ c.room_after.ensures); remembered_2 = c.measure_row.ensures.remembered_2 }
+measure_rows-returns-in_err-left t c = record { value = c.from_residual-in_err-left.ensures ∙ rw c.new-column.ensures.node at (others_short c.loop-k.invariant.0 c.loop-k-test.true (sym c.in_ok-one.was ∙ c.measure_row.ensures.value) (rw c.new-column.ensures.node c.requires.side) c.stay-stay.ensures (sym c.in_err-left.was ∙ c.room_after.ensures)); remembered_after = rw c.new-column.ensures.node at (c.measure_row.ensures.remembered_after) }
 
 pub measure_rows-overflow_add-k : goal.measure_rows-overflow_add-k
-measure_rows-overflow_add-k t c = omega (arith, c.stay_of-stay.ensures.within, side_few c.requires.side, c.loop-k-test.true)
+measure_rows-overflow_add-k t c = omega (arith, c.stay-stay.ensures.within, side_few c.requires.side, c.loop-k-test.true)
 
 pub measure_rows-loop-k-smaller : goal.measure_rows-loop-k-smaller
-measure_rows-loop-k-smaller t c = omega (arith, c.stay_of-stay.ensures.some, c.stay_of-stay.ensures.within, c.loop-k-test.true)
+measure_rows-loop-k-smaller t c = omega (arith, c.stay-stay.ensures.some, c.stay-stay.ensures.within, c.loop-k-test.true)
 
 pub measure_rows-loop-k-preserved : goal.measure_rows-loop-k-preserved
-measure_rows-loop-k-preserved t c = (measured_more c.loop-k.invariant.0 c.loop-k-test.true (sym c.in_ok-one.was ∙ c.measure_row.ensures.value) c.requires.side c.stay_of-stay.ensures (sym c.in_ok-left.was ∙ c.room_after.ensures), c.measure_row.ensures.remembered_2)
+measure_rows-loop-k-preserved t c = (measured_more c.loop-k.invariant.0 c.loop-k-test.true (sym c.in_ok-one.was ∙ c.measure_row.ensures.value) (rw c.new-column.ensures.node c.requires.side) c.stay-stay.ensures (sym c.in_ok-left.was ∙ c.room_after.ensures), c.measure_row.ensures.remembered_after)
 
 pub measure_rows-overflow_add-i-2 : goal.measure_rows-overflow_add-i-2
 measure_rows-overflow_add-i-2 t c = omega (arith, side_few c.requires.side, c.loop-k.invariant.0.few)
 
 pub measure_rows-remember-requires : goal.measure_rows-remember-requires
-measure_rows-remember-requires t c = record { node_bound = node_few c.requires.side; i_bound = (omega (arith, side_few c.requires.side, c.loop-k.invariant.0.few, c.column_of-column.ensures.offset.value), c.loop-k.invariant.1.sized) }
-
-pub measure_rows-shape_of-runs : goal.measure_rows-shape_of-runs
-measure_rows-shape_of-runs t c = (remembered_now c.remember.ensures c.loop-k.invariant.1 (node_few c.requires.side) c.loop-k.invariant.0.kept).sized ∙ sym c.requires.remembered.sized
+measure_rows-remember-requires t c = (rw c.new-column.ensures.node (node_few c.requires.side), omega (arith, side_few c.requires.side, c.loop-k.invariant.0.few, c.new-column.ensures.read.offset.value))
 
 pub measure_rows-returns : goal.measure_rows-returns
-measure_rows-returns t c = record { value = measured_done c.loop-k.invariant.0 c.loop-k-test.false; remembered_2 = remembered_now c.remember.ensures c.loop-k.invariant.1 (node_few c.requires.side) c.loop-k.invariant.0.kept }
+measure_rows-returns t c = record { value = rw c.new-column.ensures.node at (measured_done c.loop-k.invariant.0 c.loop-k-test.false); remembered_after = rw c.new-column.ensures.node at (remembered_now c.remember.ensures c.loop-k.invariant.1 (rw c.new-column.ensures.node (node_few c.requires.side)) c.loop-k.invariant.0.kept) }

@@ -9,10 +9,12 @@ offset_at-from-requires c = ((part_node c.requires.part).widths.list_view c.requ
 
 pub at-count-requires : goal.at-count-requires
 at-count-requires c = record {
-  near = omega (arith, c.buffer_place.ensures.small);
-  narrow = omega (arith, c.element_width.ensures, (part_node c.requires.part).widths.list_view c.requires.node_value);
+  near = omega (arith, c.numbers.ensures.place.small);
+  narrow = omega (arith, c.numbers.ensures.width, c.element_width.ensures, (part_node c.requires.part).widths.list_view c.requires.node_value);
   few = omega (arith, part_small c.requires.part);
 }
 
 pub returns : goal.returns
-returns c = rw (c.nested.ensures, c.offset_at-from.ensures, size_read _ _ _ c.element_width.ensures c.buffer_place.ensures c.at-count.ensures, c.first_child.ensures.value)
+returns c =
+    let count = rw (c.numbers.ensures.bytes, c.numbers.ensures.width) at c.at-count.ensures in
+    rw (c.nested.ensures, c.offset_at-from.ensures, size_read _ _ _ c.element_width.ensures c.numbers.ensures.place count, c.first_child.ensures.value)

@@ -31,26 +31,26 @@ overflow_add-buffer c = omega (arith, few_buffers c.requires.0.node c.requires.0
 pub overflow_cast-buffer : goal.overflow_cast-buffer
 overflow_cast-buffer c = omega (arith, few_buffers c.requires.0.node c.requires.0.read c.requires.1 _ c.load-len.ensures.value c.requires.0.row c.requires.0.not_null c.if-len-le-INLINE_LENGTH.false c.load.ensures.value)
 
-pub data_place-start-requires : goal.data_place-start-requires
-data_place-start-requires c = viewed c.requires.0.node c.requires.0.read c.requires.1 _ c.load-len.ensures.value c.requires.0.row c.requires.0.not_null
+pub view_bytes-start-requires : goal.view_bytes-start-requires
+view_bytes-start-requires c = viewed c.requires.0.node c.requires.0.read c.requires.1 _ c.load-len.ensures.value c.requires.0.row c.requires.0.not_null
 
 pub bounds-node-start : goal.bounds-node-start
-bounds-node-start c = omega (arith, c.data_place-start.ensures.inside, c.if-len-le-INLINE_LENGTH.false)
+bounds-node-start c = omega (arith, c.view_bytes-start.ensures.inside, c.if-len-le-INLINE_LENGTH.false)
 
 pub returns-then-is_tail : goal.returns-then-is_tail
 returns-then-is_tail c = λ e formed. absurd (false≢true e)
 
 pub overflow_add-start : goal.overflow_add-start
-overflow_add-start c = omega (arith, c.data_place-start.ensures.inside, small_image c.requires.0.node)
+overflow_add-start c = omega (arith, c.view_bytes-start.ensures.inside, small_image c.requires.0.node)
 
 pub overflow_add-start-then-start-len : goal.overflow_add-start-then-start-len
-overflow_add-start-then-start-len c = omega (arith, c.data_place-start.ensures.inside, small_image c.requires.0.node)
+overflow_add-start-then-start-len c = omega (arith, c.view_bytes-start.ensures.inside, small_image c.requires.0.node)
 
 pub bounds-node-start-then-start-len : goal.bounds-node-start-then-start-len
 bounds-node-start-then-start-len c = omega (arith, c.if-start-len.true, c.buffer_place.ensures.value, c.buffer_length.ensures.value, buffer_inside c.requires.0.node c.requires.0.read c.requires.1 _ c.load-len.ensures.value c.requires.0.row c.requires.0.not_null c.if-len-le-INLINE_LENGTH.false c.load.ensures.value)
 
 pub returns-then-start-len : goal.returns-then-start-len
-returns-then-start-len c = λ e formed. cut_view c.requires.0.node c.requires.0.read c.requires.1 _ c.load-len.ensures.value c.requires.0.row c.requires.0.not_null c.if-len-le-INLINE_LENGTH.false c.load.ensures.value c.data_place-start.ensures c.buffer_place.ensures.value c.buffer_length.ensures.value formed (λ lt. sym c.is_tail.ensures ∙ c.if-is_tail.false) (λ lt. sym c.is_tail-then-start-len.ensures ∙ not-true _ e)
+returns-then-start-len c = λ e formed. cut_view c.requires.0.node c.requires.0.read c.requires.1 _ c.load-len.ensures.value c.requires.0.row c.requires.0.not_null c.if-len-le-INLINE_LENGTH.false c.load.ensures.value c.view_bytes-start.ensures c.buffer_place.ensures.value c.buffer_length.ensures.value formed (λ lt. sym c.is_tail.ensures ∙ c.if-is_tail.false) (λ lt. sym c.is_tail-then-start-len.ensures ∙ not-true _ e)
 
 pub returns : goal.returns
-returns c = λ e formed. cut_view c.requires.0.node c.requires.0.read c.requires.1 _ c.load-len.ensures.value c.requires.0.row c.requires.0.not_null c.if-len-le-INLINE_LENGTH.false c.load.ensures.value c.data_place-start.ensures c.buffer_place.ensures.value c.buffer_length.ensures.value formed (λ lt. sym c.is_tail.ensures ∙ c.if-is_tail.false) (λ lt. absurd (omega (arith, c.if-start-len.false)))
+returns c = λ e formed. cut_view c.requires.0.node c.requires.0.read c.requires.1 _ c.load-len.ensures.value c.requires.0.row c.requires.0.not_null c.if-len-le-INLINE_LENGTH.false c.load.ensures.value c.view_bytes-start.ensures c.buffer_place.ensures.value c.buffer_length.ensures.value formed (λ lt. sym c.is_tail.ensures ∙ c.if-is_tail.false) (λ lt. absurd (omega (arith, c.if-start-len.false)))

@@ -14,11 +14,11 @@ overflow_add-view c = omega (arith, view_fits c.requires.node c.requires.read c.
 pub load-len-requires : goal.load-len-requires
 load-len-requires c = (omega arith, omega (arith, view_fits c.requires.node c.requires.read c.if-at.true _ c.requires.row))
 
-pub data_place-requires : goal.data_place-requires
-data_place-requires c = viewed c.requires.node c.requires.read c.if-at.true _ c.load-len.ensures.value c.requires.row c.requires.not_null
+pub view_bytes-requires : goal.view_bytes-requires
+view_bytes-requires c = viewed c.requires.node c.requires.read c.if-at.true _ c.load-len.ensures.value c.requires.row c.requires.not_null
 
 pub returns-then-at : goal.returns-then-at
-returns-then-at c = view_span c.requires.node c.requires.read c.if-at.true _ c.load-len.ensures.value c.data_place.ensures
+returns-then-at c = view_span c.requires.node c.requires.read c.if-at.true _ c.load-len.ensures.value c.view_bytes.ensures
 
 pub inside-from-requires : goal.inside-from-requires
 inside-from-requires c = offset_inside c.requires.node c.requires.read c.if-at.false _ (omega (arith, c.requires.row))
