@@ -7,7 +7,7 @@ use Prim.Native.Nat.{ℕ, suc, ◌+◌, ◌-◌, ◌≤◌, ◌<◌}
 use native.Mathlib.Nat.{eq-or-lt_of_le}
 use native.Mathlib.Omega.{arith}
 use borrow.Rule.Slice.PartMut.{mid_of, put_mid, same_len_mid}
-use lib.ListN.{length, get_or, set, take, drop, replicate, length-set, length-drop, length-replicate, get_or-append, get_or-replicate}
+use lib.ListN.{length, get_or, set, take, drop, replicate, length-drop, length-replicate, get_or-append, get_or-replicate}
 use lib.Seq.{get_or-set_same, get_or-take, get_or-append-add, length-take-le}
 use Rattle.image.specs.Record.{node_count, first_child, child_count}
 use Rattle.image.specs.Element.{child_end}
@@ -44,7 +44,6 @@ module _ {old : List ℕ} {place n x : ℕ} (fits : place + n ≤ length old) wh
 
 pub lengths_start : (s spans old : List ℕ) (count : ℕ) → length old ≡ 256 → LengthsTo s count spans (set old 0 count) 0
 lengths_start s spans old count sized = record {
-  sized = length-set old 0 count ∙ sized;
   root = get_or-set_same old 0 count 0 (omega (arith, sized));
   child = λ p i lt few. absurd (omega arith);
 }
@@ -64,7 +63,7 @@ module _ {s : List ℕ} (image : AcceptedImage s) (k : ℕ) (node : k < node_cou
       → x ≡ child_rows s lengths spans k → Filled lengths first n x new → LengthsTo s count spans new (k + 1)
   unfolding child_end
   lengths_more {spans} {lengths} {new} {count} {first} {n} {x} l e f rows filled =
-      record { sized = filled.sized ∙ l.sized; root = kept 0 (omega arith) ∙ l.root; child = λ p i lt few. cases p i few (eq-or-lt_of_le {n = suc p} {m = k + 1} (omega arith)) }
+      record { root = kept 0 (omega arith) ∙ l.root; child = λ p i lt few. cases p i few (eq-or-lt_of_le {n = suc p} {m = k + 1} (omega arith)) }
     where
       kept : (j : ℕ) → j ≤ k → get_or new j 0 ≡ get_or lengths j 0
       kept j le = filled.before j (omega (arith, e, (image.node k node).tree.below))

@@ -7,7 +7,7 @@ use mathlib.Core.Logic.{◌⊎◌, inl, inr}
 use Prim.Native.Nat.{ℕ, suc, ◌+◌, ◌*◌, ◌-◌, ◌/◌, ◌≤◌, ◌<◌}
 use native.Mathlib.Nat.{eq-or-lt_of_le, add-zero}
 use native.Mathlib.Omega.{arith}
-use lib.ListN.{length, get_or, set, length-set}
+use lib.ListN.{length, get_or, set}
 use lib.Seq.{get_or-set_same, get_or-set_other}
 use lib.Dec.{ltb}
 use borrow.Author.Tests.{lt-ltb, le-ltb, ltb-false}
@@ -130,7 +130,6 @@ planning_start s lengths spans places place sized r =
     let here : place ≡ name_start s (node_count s) + 0 = omega (arith, r.value) in
     record {
       table = record {
-        sized = length-set places 0 place ∙ sized;
         place = λ i le.
             let none : i ≡ 0 = omega arith in
             rw none (get_or-set_same places 0 place 0 (omega (arith, sized)) ∙ here);
@@ -148,10 +147,9 @@ module _ {s lengths spans places : List ℕ} where
           let e : q + 1 ≡ suc q = omega arith in
           rw e (omega (arith, place_next s lengths spans q, p.here, is))
 
-      pub planning_more : node_count s ≤ 256 → size ≤ longest_image - place → Planning s lengths spans (set places (q + 1) (place + size)) (place + size) (q + 1)
-      planning_more few fits = record {
+      pub planning_more : node_count s ≤ 256 → length places ≡ 769 → size ≤ longest_image - place → Planning s lengths spans (set places (q + 1) (place + size)) (place + size) (q + 1)
+      planning_more few sized fits = record {
         table = record {
-          sized = length-set places (q + 1) (place + size) ∙ p.table.sized;
           place = λ i le. cases i (eq-or-lt_of_le le);
         };
         within = omega arith;
@@ -160,7 +158,7 @@ module _ {s lengths spans places : List ℕ} where
       }
         where
           cases : (i : ℕ) → (i ≡ q + 1) ⊎ (i < q + 1) → get_or (set places (q + 1) (place + size)) i 0 ≡ place_of s lengths spans i
-          cases i (inl e) = rw e (get_or-set_same places (q + 1) (place + size) 0 (omega (arith, p.table.sized)) ∙ next_here)
+          cases i (inl e) = rw e (get_or-set_same places (q + 1) (place + size) 0 (omega (arith, sized)) ∙ next_here)
           cases i (inr less) = get_or-set_other places (q + 1) i (place + size) 0 (λ e. omega arith) ∙ p.table.place i (omega arith)
 
       -- a part that is too long
@@ -189,6 +187,5 @@ module _ {s lengths spans places : List ℕ} where
 -- the places rise
 pub places_rise : {s lengths spans places : List ℕ} → Places s lengths spans places → Rise s places
 places_rise {s} {lengths} {spans} t = record {
-  sized = t.sized;
   rise = λ q lt. omega (arith, t.place q (omega arith), t.place (suc q) lt, place_grows s lengths spans q (suc q) (omega arith));
 }

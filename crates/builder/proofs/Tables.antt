@@ -29,7 +29,7 @@ use Rattle.built.proofs.Calls.{Told, told}
 use Rattle.parse.specs.Answer.{are_rows, Spanned}
 use Rattle.rows.specs.Output.{over, Fits}
 use Rattle.rows.proofs.Over.{over_length, over_over}
-use Rattle.fill.specs.Filling.{ToFill, filling}
+use Rattle.fill.specs.Filling.{ToFill}
 use Rattle.std.specs.Prelude.{None, Some}
 use Rattle.builder.specs.Plan.{Lengths, Places, plan_answer, built_of}
 use Rattle.builder.specs.Front.{Rise, front_from}
@@ -85,7 +85,6 @@ module _ {s : List ℕ} {n : ℕ} {b lengths places : List ℕ} {size : ℕ} {ou
   pub laid_rise : Rise s places
   laid_rise =
       record {
-        sized = l.places_sized;
         rise = λ q lt. omega (arith, l.place q (omega arith), l.place (suc q) lt, places_grow q (suc q) (omega arith));
       }
 
@@ -121,20 +120,17 @@ module _ {s : List ℕ} {n : ℕ} {b lengths places : List ℕ} {size : ℕ} {ou
       second_long : length second ≡ length first
       second_long = ap length cleared ∙ over_length first at (replicate (size - at) 0) (omega (arith, zeros_length, put.0, whole, laid_clear.1))
 
-      pub laid_fill : {rows spans : List ℕ} → rows ≡ replicate 256 0 → spans ≡ replicate 256 0 → ToFill s n b places (filling second rows spans)
-      laid_fill er es =
+      pub laid_fill : ToFill s n b places second
+      laid_fill =
           record {
             accepted = l.accepted;
             coded = l.coded;
             read = l.read;
             few = l.few;
-            places_sized = l.places_sized;
             place = l.place;
             inside = omega (arith, second_long, end_is, laid_clear.1);
             short = omega (arith, l.short, end_is);
             blank = λ p low high. rw cleared (zeros_stand first at size laid_clear.0 laid_clear.1 p (omega (arith, put.0, front_end)) (omega (arith, end_is)));
-            rows_none = er;
-            spans_none = es;
           }
 
       pub laid_put : {third : List ℕ} → third ≡ over second (part_start s the_rows_lem 0) parts → third ≡ over out 0 (image_of s (rows_in s n b))
@@ -199,8 +195,6 @@ module _ (s : List ℕ) (n : ℕ) (b out : List ℕ) {spans lengths : List ℕ} 
           coded = given.1;
           read = read;
           few = rw same at fit.few;
-          lengths_sized = l.sized;
-          places_sized = t.sized;
           place = places_are scanned l t;
           front = front_is scanned l t;
           long = rw same at (sym fit.size);

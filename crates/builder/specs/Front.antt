@@ -1,22 +1,20 @@
 -- What stands before the parts of a built image: header, records, entries and names, from the lengths of its nodes and the
 -- places of its parts.
-use Rattle.std.specs.Prelude.{cond, List, ◌++◌, ℕ, suc, ◌+◌, ◌*◌, ◌-◌, ◌%◌, ◌<◌, ◌≤◌, ◌≡◌, length, get_or, eqb}
+use Rattle.std.specs.Prelude.{cond, List, ◌++◌, ℕ, suc, ◌+◌, ◌*◌, ◌-◌, ◌%◌, ◌<◌, ◌≤◌, get_or, eqb}
 use Rattle.image.specs.Ranges.{pieces}
 use Rattle.image.specs.Record.{node_count, buffer_total, code_of, flags_of, name_length, p1_of, p2_of, first_child, child_count, first_buffer, buffer_count}
 use Rattle.image.specs.TypeCode.{layout_of, takes_bitmap}
 use Rattle.image.specs.Types.{name_of}
 use Rattle.image.specs.Built.{name_start, u8, u16, u32}
 
--- there is a place for each part and for the end, and none lies before the one before it
+-- no part and not the end lies before the part before it
 pub record Rise (s places : List ℕ) : Type 0 where
-  pub sized : length places ≡ 769
   pub rise : (q : ℕ) → q < 3 * node_count s → get_or places q 0 ≤ get_or places (suc q) 0
 
--- the lengths of nodes and the places of parts, read at node k
-pub record NodeFrom (s : List ℕ) (k : ℕ) (lengths places : List ℕ) : Type 0 where
+-- the places of parts, read at node k
+pub record NodeFrom (s : List ℕ) (k : ℕ) (places : List ℕ) : Type 0 where
   pub node : k < node_count s
   pub few : node_count s ≤ 256
-  pub sized : length lengths ≡ 256
   pub risen : Rise s places
 
 -- how many bytes part q has

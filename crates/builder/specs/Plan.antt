@@ -1,6 +1,6 @@
 -- How long the nodes of a built image are, how many bytes each part takes, and where each part stands: from the row count of
 -- the root, and from how far the offsets of each node go on in all (its span).
-use Rattle.std.specs.Prelude.{◌≡◌, Bool, cond, ◌||◌, List, ℕ, ◌+◌, ◌*◌, ◌/◌, ◌%◌, ◌<◌, ◌≤◌, length, get_or, eqb, ltb, Option, Some, None, Result, Ok, Err}
+use Rattle.std.specs.Prelude.{◌≡◌, Bool, cond, ◌||◌, List, ℕ, ◌+◌, ◌*◌, ◌/◌, ◌%◌, ◌<◌, ◌≤◌, get_or, eqb, ltb, Option, Some, None, Result, Ok, Err}
 use Rattle.image.specs.declared.type_code.Layout.{Layout}
 use Rattle.image.specs.declared.type_code.Layout.TheVariants.{Null, Boolean, FixedWidth, VariableSize, View, List as Lists, ListView, FixedList, Struct, DenseUnion, SparseUnion, Dictionary, Runs}
 use Rattle.image.specs.Ranges.{any, sum_to}
@@ -17,7 +17,6 @@ child_rows s lengths spans p = cond (eqb (code_of s p) 38) (get_or lengths p 0) 
 
 -- the lengths of the nodes, those of the children of the nodes below k
 pub record LengthsTo (s : List ℕ) (count : ℕ) (spans lengths : List ℕ) (k : ℕ) : Type 0 where
-  pub sized : length lengths ≡ 256
   pub root : get_or lengths 0 0 ≡ count
   pub child : (p i : ℕ) → p < k → i < child_count s p → get_or lengths (first_child s p + i) 0 ≡ child_rows s lengths spans p
 
@@ -79,7 +78,6 @@ place_of s lengths spans q = name_start s (node_count s) + sum_to (part_size s l
 
 -- the places of the parts before part q, and of part q
 pub record PlacesTo (s lengths spans places : List ℕ) (q : ℕ) : Type 0 where
-  pub sized : length places ≡ 769
   pub place : (i : ℕ) → i ≤ q → get_or places i 0 ≡ place_of s lengths spans i
 
 -- the places of all parts, and the image's end

@@ -15,8 +15,6 @@ pub record Laid (s : List ℕ) (n : ℕ) (b lengths places : List ℕ) (size : �
   pub coded : readable s ≡ true
   pub read : rows_in s n b ≡ parsed (the_rows (rows_in s n b)) []
   pub few : (k : ℕ) → k < node_count s → count (column s (the_rows (rows_in s n b)) k) ≤ most_elements
-  pub lengths_sized : length lengths ≡ 256
-  pub places_sized : length places ≡ 769
   pub place : (q : ℕ) → q ≤ 3 * node_count s → get_or places q 0 ≡ part_start s (the_rows (rows_in s n b)) q
   pub front : front_from s lengths places ++ pieces (part_at s (the_rows (rows_in s n b))) 0 (3 * node_count s) ≡ built_image s (the_rows (rows_in s n b))
   pub long : size ≡ length (built_image s (the_rows (rows_in s n b)))

@@ -12,6 +12,7 @@ ghost use Rattle.laws.specs.Accepted.{Tables, Named};
 ghost use Rattle.rows.specs.Output.{over, Fits};
 ghost use Rattle.builder.specs.Front.{Rise, NodeFrom, length_from, built_flags, built_name, bitmap_from, type_fields, row_fields, table_fields, record_from, entry_from, entries_from, front_from};
 
+use crate::plan::Plan;
 use image::record::{Node, buffer_total, node_count, tables_end};
 use image::type_code::TypeCode;
 use rows::output::{put_bytes, put_number};
@@ -38,23 +39,25 @@ fn built_name(node: Node, name: usize) -> usize
     name
 }
 
-// Where the bitmap of a node stands, 0 where its code may have none.
-fn bitmap_from(node: Node, places: &[usize]) -> usize
-    requires { (node.number < 256) × (length places.now ≡ 769) }
-    ensures { result ≡ bitmap_from node.entry.image.now places.now node.entry.number }
-{
-    if TypeCode::takes_bitmap(node.code()) {
-        return places[3 * node.number as usize];
+impl Plan {
+    // Where the bitmap of a node stands, 0 where its code may have none.
+    fn bitmap_from(&self, node: Node) -> usize
+        requires { node.number < 256 }
+        ensures { result ≡ bitmap_from node.entry.image.now self.now.places node.entry.number }
+    {
+        if TypeCode::takes_bitmap(node.code()) {
+            return self.places[3 * node.number as usize];
+        }
+        0
     }
-    0
-}
 
-// How many bytes part q has.
-fn length_from(image: &[u8], places: &[usize], q: usize) -> usize
-    requires { Rise image.now places.now × (q < 3 * node_count image.now) × (q < 768) }
-    ensures { result ≡ length_from places.now q }
-{
-    places[q + 1] - places[q]
+    // How many bytes part q has.
+    fn length_from(&self, image: &[u8], q: usize) -> usize
+        requires { Rise image.now self.now.places × (q < 3 * node_count image.now) × (q < 768) }
+        ensures { result ≡ length_from self.now.places q }
+    {
+        self.places[q + 1] - self.places[q]
+    }
 }
 
 // The first fields of a node's record: its code, flags, name length, p1 and p2.
@@ -72,26 +75,19 @@ fn put_type(node: Node, out: &mut [u8], at: usize) -> usize
 }
 
 // The next fields: the rows, the name's place, the bitmap's place and length; `name` is where the name would stand.
-fn put_rows(
-    node: Node,
-    lengths: &[usize],
-    places: &[usize],
-    name: usize,
-    out: &mut [u8],
-    at: usize,
-) -> usize
-    requires node_from { (NodeFrom of node) lengths.now places.now }
+fn put_rows(node: Node, plan: &Plan, name: usize, out: &mut [u8], at: usize) -> usize
+    requires node_from { (NodeFrom of node) plan.now.places }
     requires name_value { name ≡ name_start of node }
-    requires fits { Fits out.old at (row_fields node.image.now lengths.now places.now node.number) }
-    ensures value { result ≡ at + length (row_fields node.entry.image.now lengths.now places.now node.entry.number) }
-    ensures out_after { out.new ≡ over out.old at (row_fields node.entry.image.now lengths.now places.now node.entry.number) }
+    requires fits { Fits out.old at (row_fields node.image.now plan.now.lengths plan.now.places node.number) }
+    ensures value { result ≡ at + length (row_fields node.entry.image.now plan.now.lengths plan.now.places node.entry.number) }
+    ensures out_after { out.new ≡ over out.old at (row_fields node.entry.image.now plan.now.lengths plan.now.places node.entry.number) }
 {
     let k = node.number as usize;
-    let a = put_number(out, at, lengths[k], 4);
+    let a = put_number(out, at, plan.lengths[k], 4);
     let b = put_number(out, a, 0, 4);
     let c = put_number(out, b, built_name(node, name), 4);
-    let d = put_number(out, c, bitmap_from(node, places), 4);
-    let e = put_number(out, d, length_from(node.image, places, 3 * k), 4);
+    let d = put_number(out, c, plan.bitmap_from(node), 4);
+    let e = put_number(out, d, plan.length_from(node.image, 3 * k), 4);
     put_number(out, e, 0, 4)
 }
 
@@ -108,90 +104,77 @@ fn put_tables(node: Node, out: &mut [u8], at: usize) -> usize
 }
 
 // The record of a node; `name` is where its name would stand.
-fn put_record(
-    node: Node,
-    lengths: &[usize],
-    places: &[usize],
-    name: usize,
-    out: &mut [u8],
-    at: usize,
-) -> usize
-    requires node_from { (NodeFrom of node) lengths.now places.now }
+fn put_record(node: Node, plan: &Plan, name: usize, out: &mut [u8], at: usize) -> usize
+    requires node_from { (NodeFrom of node) plan.now.places }
     requires name_value { name ≡ name_start of node }
-    requires fits { Fits out.old at (record_from node.image.now lengths.now places.now node.number) }
-    ensures value { result ≡ at + length (record_from node.entry.image.now lengths.now places.now node.entry.number) }
-    ensures out_after { out.new ≡ over out.old at (record_from node.entry.image.now lengths.now places.now node.entry.number) }
+    requires fits { Fits out.old at (record_from node.image.now plan.now.lengths plan.now.places node.number) }
+    ensures value { result ≡ at + length (record_from node.entry.image.now plan.now.lengths plan.now.places node.entry.number) }
+    ensures out_after { out.new ≡ over out.old at (record_from node.entry.image.now plan.now.lengths plan.now.places node.entry.number) }
 {
     let rows = put_type(node, out, at);
-    let tables = put_rows(node, lengths, places, name, out, rows);
+    let tables = put_rows(node, plan, name, out, rows);
     put_tables(node, out, tables)
 }
 
 // The records of all nodes.
-fn put_records(
-    image: &[u8],
-    lengths: &[usize],
-    places: &[usize],
-    out: &mut [u8],
-    at: usize,
-) -> usize
+fn put_records(image: &[u8], plan: &Plan, out: &mut [u8], at: usize) -> usize
     requires tables { Tables image.now }
-    requires rise { Rise image.now places.now × (length lengths.now ≡ 256) }
-    requires fits { Fits out.old at (pieces (record_from image.now lengths.now places.now) 0 (node_count image.now)) }
-    ensures value { result ≡ at + length (pieces (record_from image.now lengths.now places.now) 0 (node_count image.now)) }
-    ensures out_after { out.new ≡ over out.old at (pieces (record_from image.now lengths.now places.now) 0 (node_count image.now)) }
+    requires rise { Rise image.now plan.now.places }
+    requires fits { Fits out.old at (pieces (record_from image.now plan.now.lengths plan.now.places) 0 (node_count image.now)) }
+    ensures value { result ≡ at + length (pieces (record_from image.now plan.now.lengths plan.now.places) 0 (node_count image.now)) }
+    ensures out_after { out.new ≡ over out.old at (pieces (record_from image.now plan.now.lengths plan.now.places) 0 (node_count image.now)) }
 {
     let n = node_count(image);
     let mut name = tables_end(image);
     let mut next = at;
     for k in 0..n {
         let node = Node { image, number: k };
-        next = put_record(node, lengths, places, name, out, next);
+        next = put_record(node, plan, name, out, next);
         name += node.name_length();
     }
     next
 }
 
 // The entry of a buffer, which is part q: its place and its length.
-fn put_entry(image: &[u8], places: &[usize], q: usize, out: &mut [u8], at: usize) -> usize
-    requires rise { Rise image.now places.now × (q < 3 * node_count image.now) × (q < 768) }
-    requires fits { Fits out.old at (entry_from places.now q) }
-    ensures value { result ≡ at + length (entry_from places.now q) }
-    ensures out_after { out.new ≡ over out.old at (entry_from places.now q) }
+fn put_entry(image: &[u8], plan: &Plan, q: usize, out: &mut [u8], at: usize) -> usize
+    requires rise { Rise image.now plan.now.places × (q < 3 * node_count image.now) × (q < 768) }
+    requires fits { Fits out.old at (entry_from plan.now.places q) }
+    ensures value { result ≡ at + length (entry_from plan.now.places q) }
+    ensures out_after { out.new ≡ over out.old at (entry_from plan.now.places q) }
 {
-    let next = put_number(out, at, places[q], 4);
-    put_number(out, next, length_from(image, places, q), 4)
+    let next = put_number(out, at, plan.places[q], 4);
+    put_number(out, next, plan.length_from(image, q), 4)
 }
 
 // The entries of a node's buffers, which are its parts from 1 on.
-fn put_entries(node: Node, places: &[usize], out: &mut [u8], at: usize) -> usize
-    requires rise { Rise node.image.now places.now × (node.number < node_count node.image.now) × (node_count node.image.now ≤ 256) }
+fn put_entries(node: Node, plan: &Plan, out: &mut [u8], at: usize) -> usize
+    requires rise { Rise node.image.now plan.now.places × (node.number < node_count node.image.now) × (node_count node.image.now ≤ 256) }
     requires node_bound { (buffer_count of node) ≤ 2 }
-    requires fits { Fits out.old at (entries_from node.image.now places.now node.number) }
-    ensures value { result ≡ at + length (entries_from node.entry.image.now places.now node.entry.number) }
-    ensures out_after { out.new ≡ over out.old at (entries_from node.entry.image.now places.now node.entry.number) }
+    requires fits { Fits out.old at (entries_from node.image.now plan.now.places node.number) }
+    ensures value { result ≡ at + length (entries_from node.entry.image.now plan.now.places node.entry.number) }
+    ensures out_after { out.new ≡ over out.old at (entries_from node.entry.image.now plan.now.places node.entry.number) }
 {
     let first = 3 * node.number as usize + 1;
     let n = node.buffer_count() as usize;
     let mut next = at;
     for j in 0..n {
-        next = put_entry(node.image, places, first + j, out, next);
+        next = put_entry(node.image, plan, first + j, out, next);
     }
     next
 }
 
 // The entries of all nodes.
-fn put_all_entries(image: &[u8], places: &[usize], out: &mut [u8], at: usize) -> usize
+fn put_all_entries(image: &[u8], plan: &Plan, out: &mut [u8], at: usize) -> usize
     requires image_value { (check_image image.now ≡ Ok tt) × (readable image.now ≡ true) }
-    requires rise { Rise image.now places.now }
-    requires fits { Fits out.old at (pieces (entries_from image.now places.now) 0 (node_count image.now)) }
-    ensures value { result ≡ at + length (pieces (entries_from image.now places.now) 0 (node_count image.now)) }
-    ensures out_after { out.new ≡ over out.old at (pieces (entries_from image.now places.now) 0 (node_count image.now)) }
+    requires rise { Rise image.now plan.now.places }
+    requires fits { Fits out.old at (pieces (entries_from image.now plan.now.places) 0 (node_count image.now)) }
+    ensures value { result ≡ at + length (pieces (entries_from image.now plan.now.places) 0 (node_count image.now)) }
+    ensures out_after { out.new ≡ over out.old at (pieces (entries_from image.now plan.now.places) 0 (node_count image.now)) }
 {
     let n = node_count(image);
     let mut next = at;
     for k in 0..n {
-        next = put_entries(Node { image, number: k }, places, out, next);
+        next = put_entries(Node { image, number: k }, plan, out, next);
     }
     next
 }
@@ -226,16 +209,16 @@ fn put_names(image: &[u8], out: &mut [u8], at: usize) -> usize
 }
 
 // Header, records, entries and names, from the buffer's start on.
-pub fn put_front(image: &[u8], lengths: &[usize], places: &[usize], out: &mut [u8]) -> usize
+pub fn put_front(image: &[u8], plan: &Plan, out: &mut [u8]) -> usize
     requires image_value { (check_image image.now ≡ Ok tt) × (readable image.now ≡ true) }
-    requires rise { Rise image.now places.now × (length lengths.now ≡ 256) }
-    requires fits { Fits out.old 0 (front_from image.now lengths.now places.now) }
-    ensures value { result ≡ length (front_from image.now lengths.now places.now) }
-    ensures out_after { out.new ≡ over out.old 0 (front_from image.now lengths.now places.now) }
+    requires rise { Rise image.now plan.now.places }
+    requires fits { Fits out.old 0 (front_from image.now plan.now.lengths plan.now.places) }
+    ensures value { result ≡ length (front_from image.now plan.now.lengths plan.now.places) }
+    ensures out_after { out.new ≡ over out.old 0 (front_from image.now plan.now.lengths plan.now.places) }
 {
     let buffers = put_number(out, 0, node_count(image) as usize, 2);
     let records = put_number(out, buffers, buffer_total(image) as usize, 2);
-    let entries = put_records(image, lengths, places, out, records);
-    let names = put_all_entries(image, places, out, entries);
+    let entries = put_records(image, plan, out, records);
+    let names = put_all_entries(image, plan, out, entries);
     put_names(image, out, names)
 }

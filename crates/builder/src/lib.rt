@@ -2,7 +2,6 @@
 // into a lent buffer.
 #![tactic(auto)]
 
-pub mod clear;
 pub mod front;
 pub mod plan;
 
@@ -14,11 +13,11 @@ ghost use Rattle.answers.specs.Answers.{rows_answer, image_of, written_over};
 ghost use Rattle.rows.specs.Output.{over};
 ghost use Rattle.builder.specs.Table.{Laid};
 
-use crate::clear::clear;
 use crate::front::put_front;
-use crate::plan::{MOST_NODES, MOST_PLACES, lengths_of, plan};
+use crate::plan::Plan;
 use answers::BuildRefusal;
 use fill::fill;
+use fill::put::{MOST_NODES, MOST_PLACES};
 use image::record::{Node, all_nodes};
 use image::type_code::TypeCode;
 use parse::is_rows;
@@ -42,23 +41,13 @@ pub fn is_readable(image: &[u8]) -> bool
 }
 
 // Puts the image of so many rows, which are the string b: what stands before its parts, zeros behind that, and over them the parts.
-fn put_table(
-    s: &[u8],
-    count: usize,
-    b: &[u8],
-    lengths: &[usize],
-    places: &[usize],
-    size: usize,
-    out: &mut [u8],
-)
-    requires { Laid s.now count b.now lengths.now places.now size out.old }
+fn put_table(s: &[u8], count: usize, b: &[u8], plan: &Plan, size: usize, out: &mut [u8])
+    requires { Laid s.now count b.now plan.now.lengths plan.now.places size out.old }
     ensures { out.new ≡ over out.old 0 (image_of s.now (rows_in s.now count b.now)) }
 {
-    let parts = put_front(s, lengths, places, out);
-    clear(out, parts, size);
-    let mut rows = [0usize; MOST_NODES];
-    let mut spans = [0usize; MOST_NODES];
-    fill(s, count, b, places, &mut rows, &mut spans, out);
+    let parts = put_front(s, plan, out);
+    out[parts..size].fill(0);
+    fill(s, count, b, &plan.places, out);
 }
 
 // The table of so many rows, which are the string b, of the type that the image s has: its image, at the front of `out`. A
@@ -68,17 +57,18 @@ pub fn build(s: &[u8], count: usize, b: &[u8], out: &mut [u8]) -> Result<usize, 
     ensures value { result ≡ rows_answer s.now (rows_in s.now count b.now) out.old }
     ensures out_after { out.new ≡ written_over (rows_answer s.now (rows_in s.now count b.now) out.old) (image_of s.now (rows_in s.now count b.now)) out.old }
 {
-    let mut spans = [0usize; MOST_NODES];
-    if !is_rows(s, count, b, &mut spans) {
+    let mut plan = Plan {
+        lengths: [0; MOST_NODES],
+        spans: [0; MOST_NODES],
+        places: [0; MOST_PLACES],
+    };
+    if !is_rows(s, count, b, &mut plan.spans) {
         return Err(BuildRefusal::NotRows);
     }
-    let mut lengths = [0usize; MOST_NODES];
-    lengths_of(s, count, &spans, &mut lengths);
-    let mut places = [0usize; MOST_PLACES];
-    let room = out.len();
-    let Some(size) = plan(s, &lengths, &spans, room, &mut places) else {
+    plan.give_lengths(s, count);
+    let Some(size) = plan.give_places(s, out.len()) else {
         return Err(BuildRefusal::TooLong);
     };
-    put_table(s, count, b, &lengths, &places, size, out);
+    put_table(s, count, b, &plan, size, out);
     Ok(size)
 }

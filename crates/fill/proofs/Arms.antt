@@ -22,7 +22,7 @@ use Rattle.laws.proofs.Lengths.{bytes_length}
 use Rattle.built.specs.Walk.{own, over_nodes, over_each, deeper, gives, total, the_row, the_rows}
 use Rattle.built.proofs.Parsed.{failed_not}
 use Rattle.built.proofs.Walk.{then_none}
-use Rattle.fill.specs.Filling.{Filling, Rooms, Ready, Getting, Filled, StructFilled, ListFilled, Walked, RowWalk, RowWalked, RowsWalk, RowsWalked, row_gives, gap_gives}
+use Rattle.fill.specs.Filling.{State, Rooms, Ready, Getting, Filled, StructFilled, ListFilled, Walked, RowWalk, RowWalked, RowsWalk, RowsWalked, row_gives, gap_gives}
 use Rattle.fill.proofs.Steps.{filled_none, filled_as, filled_then, rooms_as, rooms_first, rooms_rest, ready_after}
 use Rattle.fill.proofs.Reading.{Mark, a_null, a_value, read_deep, read_inside, read_mark, read_null, read_boolean, read_fixed, read_text, read_list, read_struct}
 use Rattle.fill.proofs.Walks.{the_rows_lem, rows_count, Going, going_start, going_row, going_more, going_done, GapsLeft, gaps_start, gaps_done}
@@ -43,7 +43,7 @@ own_total : (r : Row) (k : ℕ) → total (own r k k) ≡ span r
 unfolding total
 own_total r k = rw (eq-eqb k k refl) (omega arith)
 
-module _ {s places : List ℕ} {f : Filling} {d k : ℕ} (ready : Ready s places f) (node : k < node_count s) (deep : 0 < d) (r : Row) (rooms : Rooms s places (λ j. gives d s k r j) f) where
+module _ {s places : List ℕ} {f : State} {d k : ℕ} (ready : Ready s places f) (node : k < node_count s) (deep : 0 < d) (r : Row) (rooms : Rooms s places (λ j. gives d s k r j) f) where
   both : Rooms s places (λ j. rows_then (own r k j) (deeper (λ c q. gives (d - 1) s c q j) s k r)) f
   both = rooms_as rooms (λ j lt. gives_first d s k r j deep)
 
@@ -52,13 +52,13 @@ module _ {s places : List ℕ} {f : Filling} {d k : ℕ} (ready : Ready s places
       let room = (rooms_first (λ j. own r k j) (λ j. deeper (λ c q. gives (d - 1) s c q j) s k r) both).room k node in
       record { ready = ready; node = node; room = rw (own_count r k, own_total r k) at room }
 
-  pub below_rooms : {f' : Filling} → Filled s places (own r k) f f' → Rooms s places (λ j. deeper (λ c q. gives (d - 1) s c q j) s k r) f'
+  pub below_rooms : {f' : State} → Filled s places (own r k) f f' → Rooms s places (λ j. deeper (λ c q. gives (d - 1) s c q j) s k r) f'
   below_rooms t = rooms_rest both t
 
-  pub row_filled : {f' f'' : Filling} → Filled s places (own r k) f f' → Filled s places (λ j. deeper (λ c q. gives (d - 1) s c q j) s k r) f' f'' → Filled s places (λ j. gives d s k r j) f f''
+  pub row_filled : {f' f'' : State} → Filled s places (own r k) f f' → Filled s places (λ j. deeper (λ c q. gives (d - 1) s c q j) s k r) f' f'' → Filled s places (λ j. gives d s k r j) f f''
   row_filled t u = filled_as (filled_then t u) (λ j lt. sym (gives_first d s k r j deep))
 
-  pub leaf_filled : {f' : Filling} → ((j : ℕ) → deeper (λ c q. gives (d - 1) s c q j) s k r ≡ none) → Filled s places (own r k) f f' → Filled s places (λ j. gives d s k r j) f f'
+  pub leaf_filled : {f' : State} → ((j : ℕ) → deeper (λ c q. gives (d - 1) s c q j) s k r ≡ none) → Filled s places (own r k) f f' → Filled s places (λ j. gives d s k r j) f f'
   leaf_filled leaf t = filled_as t (λ j lt. sym (gives_first d s k r j deep ∙ ap (rows_then (own r k j)) (leaf j) ∙ then_none (own r k j)))
 
 -- The layouts that the last arm has; of them only a Struct is read.
@@ -95,54 +95,54 @@ only_struct row s k x r rest Runs a e = absurd (failed_not e)
 same_rows_rest : {x y : Rows} {u v : List ℕ} → parsed x u ≡ parsed y v → u ≡ v
 same_rows_rest e = cc
 
--- A row of node k that starts at a place of the string.
-module _ {s places b : List ℕ} {f : Filling} {d k at : ℕ} (start : RowWalk s places b d k at f) where
+-- A row of node k with which a string begins.
+module _ {s places b : List ℕ} {f : State} {d k : ℕ} (start : RowWalk s places b d k f) where
   abbrev p : Parsed Row
-  p = row_in d s k (drop at b)
+  p = row_in d s k b
 
   pub row_deep : 0 < d
-  row_deep = read_deep d s k b at (the_row p) start.walk.reads.rest start.walk.reads.is
+  row_deep = read_deep d s k b 0 (the_row p) start.walk.reads.rest start.walk.reads.is
 
-  pub row_inside : at + 1 ≤ length b
-  row_inside = read_inside d s k b at (the_row p) start.walk.reads.rest start.walk.reads.is
+  pub row_inside : 1 ≤ length b
+  row_inside = read_inside d s k b 0 (the_row p) start.walk.reads.rest start.walk.reads.is
 
-  -- the walk is done at a place, where the rest stands
-  walked_to : {f' : Filling} (e : ℕ) → start.walk.reads.rest ≡ drop e b → Filled s places (row_gives d s k p) f f' → RowWalked s places b d k at f f' e
-  walked_to e behind t = record { done = record { follows = start.walk.reads.is ∙ ap (parsed (the_row p)) behind; filled = t } }
+  -- the walk is done, and this is left
+  walked_to : {f' : State} (rest : List ℕ) → start.walk.reads.rest ≡ rest → Filled s places (row_gives d s k p) f f' → RowWalked s places b d k f f' rest
+  walked_to rest behind t = record { done = record { follows = start.walk.reads.is ∙ ap (parsed (the_row p)) behind; filled = t } }
 
   -- a null
-  module _ (is : byte_at b at ≡ 0) where
-    null_told : (the_row p ≡ gap_row s k) × (start.walk.reads.rest ≡ drop (at + 1) b)
-    null_told = cases (read_mark d s k b at (the_row p) start.walk.reads.rest start.walk.reads.is)
+  module _ (is : byte_at b 0 ≡ 0) where
+    null_told : (the_row p ≡ gap_row s k) × (start.walk.reads.rest ≡ drop 1 b)
+    null_told = cases (read_mark d s k b 0 (the_row p) start.walk.reads.rest start.walk.reads.is)
       where
-        cases : Mark d s k b at (the_row p) start.walk.reads.rest → (the_row p ≡ gap_row s k) × (start.walk.reads.rest ≡ drop (at + 1) b)
+        cases : Mark d s k b 0 (the_row p) start.walk.reads.rest → (the_row p ≡ gap_row s k) × (start.walk.reads.rest ≡ drop 1 b)
         cases (a_null zero-mark takes empty behind) = (rw (empty, takes), behind)
         cases (a_value one_mark value) = absurd (omega arith)
 
     pub null_rooms : Rooms s places (gap_gives d s k) f
     null_rooms = rooms_as start.walk.rooms (λ j lt. ap (λ (r : Row). gives d s k r j) null_told.0)
 
-    pub null_walked : {f' : Filling} → Filled s places (gap_gives d s k) f f' → RowWalked s places b d k at f f' (at + 1)
-    null_walked t = walked_to (at + 1) null_told.1 (filled_as t (λ j lt. ap (λ (r : Row). gives d s k r j) (sym null_told.0)))
+    pub null_walked : {f' : State} → Filled s places (gap_gives d s k) f f' → RowWalked s places b d k f f' (drop 1 b)
+    null_walked t = walked_to (drop 1 b) null_told.1 (filled_as t (λ j lt. ap (λ (r : Row). gives d s k r j) (sym null_told.0)))
 
   -- a value
-  module _ (other : byte_at b at ≡ 0 → ⊥) where
-    pub value_mark : byte_at b at ≡ 1
-    value_mark = cases (read_mark d s k b at (the_row p) start.walk.reads.rest start.walk.reads.is)
+  module _ (other : byte_at b 0 ≡ 0 → ⊥) where
+    pub value_mark : byte_at b 0 ≡ 1
+    value_mark = cases (read_mark d s k b 0 (the_row p) start.walk.reads.rest start.walk.reads.is)
       where
-        cases : Mark d s k b at (the_row p) start.walk.reads.rest → byte_at b at ≡ 1
+        cases : Mark d s k b 0 (the_row p) start.walk.reads.rest → byte_at b 0 ≡ 1
         cases (a_null zero-mark takes empty behind) = absurd (other zero-mark)
         cases (a_value one_mark value) = one_mark
 
-    value_read : (l : Layout) → layout_of (code_of s k) ≡ l → value_in l (row_in (d - 1) s) s k (drop (at + 1) b) ≡ parsed (the_row p) start.walk.reads.rest
-    value_read l e = cases (read_mark d s k b at (the_row p) start.walk.reads.rest start.walk.reads.is)
+    value_read : (l : Layout) → layout_of (code_of s k) ≡ l → value_in l (row_in (d - 1) s) s k (drop 1 b) ≡ parsed (the_row p) start.walk.reads.rest
+    value_read l e = cases (read_mark d s k b 0 (the_row p) start.walk.reads.rest start.walk.reads.is)
       where
-        cases : Mark d s k b at (the_row p) start.walk.reads.rest → value_in l (row_in (d - 1) s) s k (drop (at + 1) b) ≡ parsed (the_row p) start.walk.reads.rest
+        cases : Mark d s k b 0 (the_row p) start.walk.reads.rest → value_in l (row_in (d - 1) s) s k (drop 1 b) ≡ parsed (the_row p) start.walk.reads.rest
         cases (a_null zero-mark takes empty behind) = absurd (other zero-mark)
         cases (a_value one_mark value) = rw (← e) value
 
     pub struct_left : last_arm (layout_of (code_of s k)) ≡ true → layout_of (code_of s k) ≡ Struct
-    struct_left last = only_struct (row_in (d - 1) s) s k (drop (at + 1) b) (the_row p) start.walk.reads.rest (layout_of (code_of s k)) last (value_read (layout_of (code_of s k)) refl)
+    struct_left last = only_struct (row_in (d - 1) s) s k (drop 1 b) (the_row p) start.walk.reads.rest (layout_of (code_of s k)) last (value_read (layout_of (code_of s k)) refl)
 
     -- a row x without child rows
     module _ (x : Row) (is : the_row p ≡ x) where
@@ -152,116 +152,106 @@ module _ {s places b : List ℕ} {f : Filling} {d k at : ℕ} (start : RowWalk s
       x_getting : Getting s places f k (span x)
       x_getting = row_getting start.walk.ready start.node row_deep x x_rooms
 
-      x_filled : {f' : Filling} → Filled s places (λ j. gives d s k x j) f f' → Filled s places (row_gives d s k p) f f'
+      x_filled : {f' : State} → Filled s places (λ j. gives d s k x j) f f' → Filled s places (row_gives d s k p) f f'
       x_filled t = filled_as t (λ j lt. ap (λ (r : Row). gives d s k r j) (sym is))
 
-      x_walked : {f' : Filling} (e : ℕ) → start.walk.reads.rest ≡ drop e b → ((j : ℕ) → deeper (λ c q. gives (d - 1) s c q j) s k x ≡ none) → Filled s places (own x k) f f' → RowWalked s places b d k at f f' e
-      x_walked e behind leaf t = walked_to e behind (x_filled (leaf_filled start.walk.ready start.node row_deep x x_rooms leaf t))
+      x_walked : {f' : State} (rest : List ℕ) → start.walk.reads.rest ≡ rest → ((j : ℕ) → deeper (λ c q. gives (d - 1) s c q j) s k x ≡ none) → Filled s places (own x k) f f' → RowWalked s places b d k f f' rest
+      x_walked rest behind leaf t = walked_to rest behind (x_filled (leaf_filled start.walk.ready start.node row_deep x x_rooms leaf t))
 
     module _ (e : layout_of (code_of s k) ≡ Null) where
-      empty_told : (the_row p ≡ fixed []) × (start.walk.reads.rest ≡ drop (at + 1) b)
-      empty_told = read_null (row_in (d - 1) s) s k b (at + 1) row_inside (the_row p) start.walk.reads.rest (value_read Null e)
+      empty_told : (the_row p ≡ fixed []) × (start.walk.reads.rest ≡ drop 1 b)
+      empty_told = read_null (row_in (d - 1) s) s k b 1 row_inside (the_row p) start.walk.reads.rest (value_read Null e)
 
       pub empty_getting : Getting s places f k 0
       empty_getting = x_getting (fixed []) empty_told.0
 
-      pub empty_walked : {f' : Filling} → Filled s places (own (gap_row s k) k) f f' → RowWalked s places b d k at f f' (at + 1)
+      pub empty_walked : {f' : State} → Filled s places (own (gap_row s k) k) f f' → RowWalked s places b d k f f' (drop 1 b)
       empty_walked {f'} t =
           let gap : gap_row s k ≡ fixed [] = rw e in
-          x_walked (fixed []) empty_told.0 (at + 1) empty_told.1 (λ j. refl) (subst (λ (r : Row). Filled s places (own r k) f f') gap t)
+          x_walked (fixed []) empty_told.0 (drop 1 b) empty_told.1 (λ j. refl) (subst (λ (r : Row). Filled s places (own r k) f f') gap t)
 
     module _ (e : layout_of (code_of s k) ≡ Boolean) where
-      bit_told : (at + 1 + 1 ≤ length b) × (byte_at b (at + 1) ≤ 1) × (the_row p ≡ fixed (byte_at b (at + 1) ∷ [])) × (start.walk.reads.rest ≡ drop (at + 1 + 1) b)
-      bit_told = read_boolean (row_in (d - 1) s) s k b (at + 1) row_inside (the_row p) start.walk.reads.rest (value_read Boolean e)
+      bit_told : (2 ≤ length b) × (byte_at b 1 ≤ 1) × (the_row p ≡ fixed (byte_at b 1 ∷ [])) × (start.walk.reads.rest ≡ drop 2 b)
+      bit_told = read_boolean (row_in (d - 1) s) s k b 1 row_inside (the_row p) start.walk.reads.rest (value_read Boolean e)
 
-      pub bit_inside : at + 1 + 1 ≤ length b
+      pub bit_inside : 2 ≤ length b
       bit_inside = bit_told.0
 
-      pub bit_least : byte_at b (at + 1) ≤ 1
+      pub bit_least : byte_at b 1 ≤ 1
       bit_least = bit_told.1
 
       pub bit_getting : Getting s places f k 0
-      bit_getting = x_getting (fixed (byte_at b (at + 1) ∷ [])) bit_told.2
+      bit_getting = x_getting (fixed (byte_at b 1 ∷ [])) bit_told.2
 
-      pub bit_walked : {f' : Filling} → Filled s places (own (fixed (byte_at b (at + 1) ∷ [])) k) f f' → RowWalked s places b d k at f f' (at + 1 + 1)
-      bit_walked t = x_walked (fixed (byte_at b (at + 1) ∷ [])) bit_told.2 (at + 1 + 1) bit_told.3 (λ j. refl) t
+      pub bit_walked : {f' : State} → Filled s places (own (fixed (byte_at b 1 ∷ [])) k) f f' → RowWalked s places b d k f f' (drop 2 b)
+      bit_walked t = x_walked (fixed (byte_at b 1 ∷ [])) bit_told.2 (drop 2 b) bit_told.3 (λ j. refl) t
 
     module _ (e : layout_of (code_of s k) ≡ FixedWidth) where
-      fixed_told : (at + 1 + element_width s k ≤ length b) × (the_row p ≡ fixed (bytes_at b (at + 1) (element_width s k))) × (start.walk.reads.rest ≡ drop (at + 1 + element_width s k) b)
-      fixed_told = read_fixed (row_in (d - 1) s) s k b (at + 1) row_inside (the_row p) start.walk.reads.rest (value_read FixedWidth e)
+      fixed_told : (1 + element_width s k ≤ length b) × (the_row p ≡ fixed (bytes_at b 1 (element_width s k))) × (start.walk.reads.rest ≡ drop (1 + element_width s k) b)
+      fixed_told = read_fixed (row_in (d - 1) s) s k b 1 row_inside (the_row p) start.walk.reads.rest (value_read FixedWidth e)
 
-      pub fixed_inside : at + 1 + element_width s k ≤ length b
+      pub fixed_inside : 1 + element_width s k ≤ length b
       fixed_inside = fixed_told.0
 
       pub fixed_getting : Getting s places f k 0
-      fixed_getting = x_getting (fixed (bytes_at b (at + 1) (element_width s k))) fixed_told.1
+      fixed_getting = x_getting (fixed (bytes_at b 1 (element_width s k))) fixed_told.1
 
-      fixed_walked : {f' : Filling} → Filled s places (own (fixed (bytes_at b (at + 1) (element_width s k))) k) f f' → RowWalked s places b d k at f f' (at + 1 + element_width s k)
-      fixed_walked t = x_walked (fixed (bytes_at b (at + 1) (element_width s k))) fixed_told.1 (at + 1 + element_width s k) fixed_told.2 (λ j. refl) t
+      fixed_walked : {f' : State} → Filled s places (own (fixed (bytes_at b 1 (element_width s k))) k) f f' → RowWalked s places b d k f f' (drop (1 + element_width s k) b)
+      fixed_walked t = x_walked (fixed (bytes_at b 1 (element_width s k))) fixed_told.1 (drop (1 + element_width s k) b) fixed_told.2 (λ j. refl) t
 
-      pub fixed_done : {w : ℕ} {f' : Filling} → w ≡ element_width s k → Filled s places (own (fixed (bytes_at b (at + 1) w)) k) f f' → RowWalked s places b d k at f f' (at + 1 + w)
+      pub fixed_done : {w : ℕ} {f' : State} → w ≡ element_width s k → Filled s places (own (fixed (bytes_at b 1 w)) k) f f' → RowWalked s places b d k f f' (drop (1 + w) b)
       fixed_done wide t = rw wide (fixed_walked (rw wide at t))
 
     module _ (e : layout_of (code_of s k) ≡ VariableSize) where
-      text_told : (at + 1 + 4 ≤ length b) × (at + 1 + 4 + number_at 4 b (at + 1) ≤ length b) × (the_row p ≡ sized (bytes_at b (at + 1 + 4) (number_at 4 b (at + 1)))) × (start.walk.reads.rest ≡ drop (at + 1 + 4 + number_at 4 b (at + 1)) b)
-      text_told = read_text (row_in (d - 1) s) s k b (at + 1) row_inside (the_row p) start.walk.reads.rest (value_read VariableSize e)
+      text_told : (5 ≤ length b) × (5 + number_at 4 b 1 ≤ length b) × (the_row p ≡ sized (bytes_at b 5 (number_at 4 b 1))) × (start.walk.reads.rest ≡ drop (5 + number_at 4 b 1) b)
+      text_told = read_text (row_in (d - 1) s) s k b 1 row_inside (the_row p) start.walk.reads.rest (value_read VariableSize e)
 
-      five : at + 1 + 4 ≡ at + 5
-      five = omega arith
+      pub text_inside : 5 + number_at 4 b 1 ≤ length b
+      text_inside = text_told.1
 
-      pub text_inside : at + 5 + number_at 4 b (at + 1) ≤ length b
-      text_inside = omega (arith, text_told.1)
+      pub text_getting : Getting s places f k (number_at 4 b 1)
+      text_getting = rw (bytes_length b 5 (number_at 4 b 1)) at (x_getting (sized (bytes_at b 5 (number_at 4 b 1))) text_told.2)
 
-      text_is : the_row p ≡ sized (bytes_at b (at + 5) (number_at 4 b (at + 1)))
-      text_is = text_told.2 ∙ rw five
+      text_walked : {f' : State} → Filled s places (own (sized (bytes_at b 5 (number_at 4 b 1))) k) f f' → RowWalked s places b d k f f' (drop (5 + number_at 4 b 1) b)
+      text_walked t = x_walked (sized (bytes_at b 5 (number_at 4 b 1))) text_told.2 (drop (5 + number_at 4 b 1) b) text_told.3 (λ j. refl) t
 
-      pub text_getting : Getting s places f k (number_at 4 b (at + 1))
-      text_getting = rw (bytes_length b (at + 5) (number_at 4 b (at + 1))) at (x_getting (sized (bytes_at b (at + 5) (number_at 4 b (at + 1)))) text_is)
-
-      text_walked : {f' : Filling} → Filled s places (own (sized (bytes_at b (at + 5) (number_at 4 b (at + 1)))) k) f f' → RowWalked s places b d k at f f' (at + 5 + number_at 4 b (at + 1))
-      text_walked t = x_walked (sized (bytes_at b (at + 5) (number_at 4 b (at + 1)))) text_is (at + 5 + number_at 4 b (at + 1)) (text_told.3 ∙ rw five) (λ j. refl) t
-
-      pub text_done : {n : ℕ} {f' : Filling} → n ≡ number_at 4 b (at + 1) → Filled s places (own (sized (bytes_at b (at + 5) n)) k) f f' → RowWalked s places b d k at f f' (at + 5 + n)
+      pub text_done : {n : ℕ} {f' : State} → n ≡ number_at 4 b 1 → Filled s places (own (sized (bytes_at b 5 n)) k) f f' → RowWalked s places b d k f f' (drop (5 + n) b)
       text_done many t = rw many (text_walked (rw many at t))
 
     -- a list: its rows behind its count
     module _ (e : layout_of (code_of s k) ≡ Lists) where
       abbrev items : Parsed Rows
-      items = rows_of (row_in (d - 1) s (first_child s k)) (number_at 4 b (at + 1)) (drop (at + 5) b)
+      items = rows_of (row_in (d - 1) s (first_child s k)) (number_at 4 b 1) (drop 5 b)
 
-      list_told : (at + 1 + 4 ≤ length b) × ((qs : Rows) × (rows_of (row_in (d - 1) s (first_child s k)) (number_at 4 b (at + 1)) (drop (at + 1 + 4) b) ≡ parsed qs start.walk.reads.rest) × (the_row p ≡ counted qs))
-      list_told = read_list (row_in (d - 1) s) s k b (at + 1) row_inside (the_row p) start.walk.reads.rest (value_read Lists e)
+      list_told : (5 ≤ length b) × ((qs : Rows) × (rows_of (row_in (d - 1) s (first_child s k)) (number_at 4 b 1) (drop 5 b) ≡ parsed qs start.walk.reads.rest) × (the_row p ≡ counted qs))
+      list_told = read_list (row_in (d - 1) s) s k b 1 row_inside (the_row p) start.walk.reads.rest (value_read Lists e)
 
       items_are : items ≡ parsed (the_rows items) start.walk.reads.rest
       items_are =
-          let five : at + 1 + 4 ≡ at + 5 = omega arith in
-          let read : items ≡ parsed list_told.1.0 start.walk.reads.rest = rw (← five) list_told.1.1 in
-          read ∙ ap (λ (x : Rows). parsed x start.walk.reads.rest) (sym (the_rows_lem read))
+          list_told.1.1 ∙ ap (λ (x : Rows). parsed x start.walk.reads.rest) (sym (the_rows_lem list_told.1.1))
 
       list_is : the_row p ≡ counted (the_rows items)
       list_is =
-          let five : at + 1 + 4 ≡ at + 5 = omega arith in
-          let read : items ≡ parsed list_told.1.0 start.walk.reads.rest = rw (← five) list_told.1.1 in
-          list_told.1.2 ∙ ap counted (sym (the_rows_lem read))
+          list_told.1.2 ∙ ap counted (sym (the_rows_lem list_told.1.1))
 
-      pub items_count : count (the_rows items) ≡ number_at 4 b (at + 1)
-      items_count = rows_count (row_in (d - 1) s (first_child s k)) (number_at 4 b (at + 1)) (drop (at + 5) b) (the_rows items) start.walk.reads.rest items_are
+      pub items_count : count (the_rows items) ≡ number_at 4 b 1
+      items_count = rows_count (row_in (d - 1) s (first_child s k)) (number_at 4 b 1) (drop 5 b) (the_rows items) start.walk.reads.rest items_are
 
-      pub list_inside : at + 5 ≤ length b
+      pub list_inside : 5 ≤ length b
       list_inside = omega (arith, list_told.0)
 
-      pub list_getting : Getting s places f k (number_at 4 b (at + 1))
+      pub list_getting : Getting s places f k (number_at 4 b 1)
       list_getting = rw items_count at (x_getting (counted (the_rows items)) list_is)
 
       pub list_child : first_child s k < node_count s
       unfolding child_end
       list_child = omega (arith, ((accepted s start.walk.ready.accepted).node k start.node).tree.exactly 1 (rw e), ((accepted s start.walk.ready.accepted).node k start.node).tree.ends)
 
-      module _ {f' : Filling} (t : ListFilled s places k (number_at 4 b (at + 1)) f f') where
+      module _ {f' : State} (t : ListFilled s places k (number_at 4 b 1) f f') where
         listed : Filled s places (own (counted (the_rows items)) k) f f'
         listed = t.by (the_rows items) items_count
 
-        pub list_walk : RowsWalk s places b (d - 1) (first_child s k) (number_at 4 b (at + 1)) (at + 5) f'
+        pub list_walk : RowsWalk s places (drop 5 b) (d - 1) (first_child s k) (number_at 4 b 1) f'
         list_walk =
             record {
               node = list_child;
@@ -272,7 +262,7 @@ module _ {s places b : List ℕ} {f : Filling} {d k at : ℕ} (start : RowWalk s
               };
             }
 
-        pub list_walked : {f'' : Filling} {z : ℕ} → RowsWalked s places b (d - 1) (first_child s k) (number_at 4 b (at + 1)) (at + 5) f' f'' z → RowWalked s places b d k at f f'' z
+        pub list_walked : {f'' : State} {z : List ℕ} → RowsWalked s places (drop 5 b) (d - 1) (first_child s k) (number_at 4 b 1) f' f'' z → RowWalked s places b d k f f'' z
         list_walked {f''} {z} v =
             walked_to z (same_rows_rest (sym items_are ∙ v.done.follows))
             (x_filled (counted (the_rows items)) list_is (row_filled start.walk.ready start.node row_deep (counted (the_rows items)) (x_rooms (counted (the_rows items)) list_is) listed v.done.filled))
@@ -280,10 +270,10 @@ module _ {s places b : List ℕ} {f : Filling} {d k at : ℕ} (start : RowWalk s
     -- a Struct: a row of each child
     module _ (e : layout_of (code_of s k) ≡ Struct) where
       abbrev fields : Parsed Rows
-      fields = row_of_each (row_in (d - 1) s) (first_child s k) (child_count s k) (drop (at + 1) b)
+      fields = row_of_each (row_in (d - 1) s) (first_child s k) (child_count s k) (drop 1 b)
 
       struct_told : (qs : Rows) × (fields ≡ parsed qs start.walk.reads.rest) × (the_row p ≡ joined qs)
-      struct_told = read_struct (row_in (d - 1) s) s k b (at + 1) row_inside (the_row p) start.walk.reads.rest (value_read Struct e)
+      struct_told = read_struct (row_in (d - 1) s) s k b 1 row_inside (the_row p) start.walk.reads.rest (value_read Struct e)
 
       fields_are : fields ≡ parsed (the_rows fields) start.walk.reads.rest
       fields_are = struct_told.1 ∙ ap (λ (x : Rows). parsed x start.walk.reads.rest) (sym (the_rows_lem struct_told.1))
@@ -294,17 +284,17 @@ module _ {s places b : List ℕ} {f : Filling} {d k at : ℕ} (start : RowWalk s
       pub struct_getting : Getting s places f k 0
       struct_getting = x_getting (joined (the_rows fields)) struct_is
 
-      module _ {f' : Filling} (t : StructFilled s places k f f') where
-        pub struct_walk : {first n : ℕ} → first ≡ first_child s k → n ≡ child_count s k → Going (row_in (d - 1) s) (λ m q j. gives (d - 1) s m q j) s places b first n fields f' f' (at + 1) 0
+      module _ {f' : State} (t : StructFilled s places k f f') where
+        pub struct_walk : {first n : ℕ} → first ≡ first_child s k → n ≡ child_count s k → Going (row_in (d - 1) s) (λ m q j. gives (d - 1) s m q j) s places first n fields f' f' (drop 1 b) 0
         struct_walk a c =
-            going_start (at + 1) (rw (a, c))
+            going_start (drop 1 b) (rw (a, c))
             (record {
               ready = ready_after start.walk.ready (t.by (the_rows fields));
               reads = record { rest = start.walk.reads.rest; is = fields_are };
               rooms = rw a (below_rooms start.walk.ready start.node row_deep (joined (the_rows fields)) (x_rooms (joined (the_rows fields)) struct_is) (t.by (the_rows fields)));
             })
 
-        pub struct_walked : {f'' : Filling} {z first : ℕ} → first ≡ first_child s k → Walked s places b fields (the_rows fields) (λ j. over_each (λ m q. gives (d - 1) s m q j) first (the_rows fields)) f' f'' z → RowWalked s places b d k at f f'' z
+        pub struct_walked : {f'' : State} {z : List ℕ} {first : ℕ} → first ≡ first_child s k → Walked s places fields (the_rows fields) (λ j. over_each (λ m q. gives (d - 1) s m q j) first (the_rows fields)) f' f'' z → RowWalked s places b d k f f'' z
         struct_walked {f''} {z} a v =
             walked_to z (same_rows_rest (sym fields_are ∙ v.follows))
             (x_filled (joined (the_rows fields)) struct_is (row_filled start.walk.ready start.node row_deep (joined (the_rows fields)) (x_rooms (joined (the_rows fields)) struct_is) (t.by (the_rows fields)) (rw a at v.filled)))
@@ -339,15 +329,15 @@ gap_below g s k is =
     cases true e = rw (eq-eqb (code_of s k) 38 is)
     cases false e = absurd (false≢true e)
 
-module _ {s places : List ℕ} {f : Filling} {d k : ℕ} (ready : Ready s places f) (node : k < node_count s) (deep : 0 < d) (rooms : Rooms s places (gap_gives d s k) f) where
+module _ {s places : List ℕ} {f : State} {d k : ℕ} (ready : Ready s places f) (node : k < node_count s) (deep : 0 < d) (rooms : Rooms s places (gap_gives d s k) f) where
   pub gap_getting : Getting s places f k 0
   gap_getting = rw (gap_span s k) at (row_getting ready node deep (gap_row s k) rooms)
 
-  pub gap_only : {f' : Filling} → (code_of s k ≡ 38 → ⊥) → Filled s places (own (gap_row s k) k) f f' → Filled s places (gap_gives d s k) f f'
+  pub gap_only : {f' : State} → (code_of s k ≡ 38 → ⊥) → Filled s places (own (gap_row s k) k) f f' → Filled s places (gap_gives d s k) f f'
   gap_only other t = leaf_filled ready node deep (gap_row s k) rooms (λ j. gap_alone (λ c q. gives (d - 1) s c q j) s k other) t
 
 -- no depth is left, or some is
-pub gap_zero : (s places : List ℕ) (f : Filling) (d k : ℕ) → d ≡ 0 → Filled s places (gap_gives d s k) f f
+pub gap_zero : (s places : List ℕ) (f : State) (d k : ℕ) → d ≡ 0 → Filled s places (gap_gives d s k) f f
 unfolding gives
 gap_zero s places f d k e = rw e (filled_none (λ j lt. refl))
 
@@ -355,7 +345,7 @@ pub deep_told : {d : ℕ} → (d ≡ 0 → ⊥) → 0 < d
 deep_told other = omega arith
 
 -- the loop over the children
-module _ {s places : List ℕ} {f mid : Filling} {d k first n : ℕ} (ready : Ready s places f) (node : k < node_count s) (deep : 0 < d) (rooms : Rooms s places (gap_gives d s k) f) (code : code_of s k ≡ 38) (starts : first ≡ first_child s k) (many : n ≡ child_count s k)
+module _ {s places : List ℕ} {f mid : State} {d k first n : ℕ} (ready : Ready s places f) (node : k < node_count s) (deep : 0 < d) (rooms : Rooms s places (gap_gives d s k) f) (code : code_of s k ≡ 38) (starts : first ≡ first_child s k) (many : n ≡ child_count s k)
     (put : Filled s places (own (gap_row s k) k) f mid) where
   same_gaps : (j : ℕ) → deeper (λ c q. gives (d - 1) s c q j) s k (gap_row s k) ≡ over_nodes (λ c. gap_gives (d - 1) s c j) first n
   same_gaps j = gap_below (λ c q. gives (d - 1) s c q j) s k code ∙ rw (starts, many)
@@ -367,31 +357,31 @@ module _ {s places : List ℕ} {f mid : Filling} {d k first n : ℕ} (ready : Re
   unfolding child_end
   gap_child lt = omega (arith, starts, many, ((accepted s ready.accepted).node k node).tree.ends)
 
-  pub gap_end : {f' : Filling} {i : ℕ} → GapsLeft s places (d - 1) first n mid f' i → n ≤ i → Filled s places (gap_gives d s k) f f'
+  pub gap_end : {f' : State} {i : ℕ} → GapsLeft s places (d - 1) first n mid f' i → n ≤ i → Filled s places (gap_gives d s k) f f'
   gap_end left le = row_filled ready node deep (gap_row s k) rooms put (filled_as (gaps_done left le) (λ j lt. sym (same_gaps j)))
 
 -- The loop over a Struct's fields, from what its node holds then.
-pub record FieldsLeft (s places b : List ℕ) (d k at first n : ℕ) (mid f : Filling) (next i : ℕ) : Type 0 where
-  pub going : Going (row_in (d - 1) s) (λ m q j. gives (d - 1) s m q j) s places b first n (row_of_each (row_in (d - 1) s) (first_child s k) (child_count s k) (drop (at + 1) b)) mid f next i
+pub record FieldsLeft (s places b : List ℕ) (d k first n : ℕ) (mid f : State) (next : List ℕ) (i : ℕ) : Type 0 where
+  pub going : Going (row_in (d - 1) s) (λ m q j. gives (d - 1) s m q j) s places first n (row_of_each (row_in (d - 1) s) (first_child s k) (child_count s k) (drop 1 b)) mid f next i
 
 pub one_mark : {x : ℕ} → x ≡ 1 → x ≡ 0 → ⊥
 one_mark a b = omega arith
 
-module _ {s places b : List ℕ} {f mid : Filling} {d k at first n : ℕ} (start : RowWalk s places b d k at f) (layout : layout_of (code_of s k) ≡ Struct) (mark : byte_at b at ≡ 1) (starts : first ≡ first_child s k) (many : n ≡ child_count s k) (put : StructFilled s places k f mid) where
-  pub fields_start : FieldsLeft s places b d k at first n mid mid (at + 1) 0
+module _ {s places b : List ℕ} {f mid : State} {d k first n : ℕ} (start : RowWalk s places b d k f) (layout : layout_of (code_of s k) ≡ Struct) (mark : byte_at b 0 ≡ 1) (starts : first ≡ first_child s k) (many : n ≡ child_count s k) (put : StructFilled s places k f mid) where
+  pub fields_start : FieldsLeft s places b d k first n mid mid (drop 1 b) 0
   fields_start = record { going = struct_walk start (one_mark mark) layout put starts many }
 
-  module _ {f' : Filling} {next i : ℕ} (g : FieldsLeft s places b d k at first n mid f' next i) where
-    pub field_walk : i < n → RowWalk s places b (d - 1) (first + i) next f'
+  module _ {f' : State} {next : List ℕ} {i : ℕ} (g : FieldsLeft s places b d k first n mid f' next i) where
+    pub field_walk : i < n → RowWalk s places next (d - 1) (first + i) f'
     unfolding child_end
     field_walk lt =
         record { node = omega (arith, starts, many, ((accepted s start.walk.ready.accepted).node k start.node).tree.ends); walk = going_row g.going lt }
 
-    pub fields_done : n ≤ i → RowWalked s places b d k at f f' next
+    pub fields_done : n ≤ i → RowWalked s places b d k f f' next
     fields_done le = struct_walked start (one_mark mark) layout put starts (going_done g.going le)
 
-module _ {s places b : List ℕ} {d k at first n next i : ℕ} {mid f : Filling} (g : FieldsLeft s places b d k at first n mid f next i) where
-  pub field_more : {f' : Filling} {e : ℕ} → i < n → RowWalked s places b (d - 1) (first + i) next f f' e → FieldsLeft s places b d k at first n mid f' e (i + 1)
+module _ {s places b : List ℕ} {d k first n i : ℕ} {next : List ℕ} {mid f : State} (g : FieldsLeft s places b d k first n mid f next i) where
+  pub field_more : {f' : State} {e : List ℕ} → i < n → RowWalked s places next (d - 1) (first + i) f f' e → FieldsLeft s places b d k first n mid f' e (i + 1)
   field_more lt v = record { going = going_more g.going lt v.done }
 
 -- what a match on the layout tells
@@ -403,19 +393,19 @@ module _ (s : List ℕ) (k : ℕ) {code : ℕ} {l : Layout} where
   last_told last e c = ap last_arm (ap layout_of (sym c) ∙ sym e) ∙ sym last
 
 -- A list and its rows, as code has its count and its child.
-module _ {s places b : List ℕ} {f : Filling} {d k at n : ℕ} (start : RowWalk s places b d k at f) (e : layout_of (code_of s k) ≡ Lists) (mark : byte_at b at ≡ 1) (many : n ≡ number_at 4 b (at + 1)) where
+module _ {s places b : List ℕ} {f : State} {d k n : ℕ} (start : RowWalk s places b d k f) (e : layout_of (code_of s k) ≡ Lists) (mark : byte_at b 0 ≡ 1) (many : n ≡ number_at 4 b 1) where
   pub listed_getting : Getting s places f k n
   listed_getting = rw many (list_getting start (one_mark mark) e)
 
-  pub listed_inside : at + 5 ≤ length b
+  pub listed_inside : 5 ≤ length b
   listed_inside = list_inside start (one_mark mark) e
 
-  module _ {child : ℕ} (is : child ≡ first_child s k) {f' : Filling} (t : ListFilled s places k n f f') where
-    as_read : ListFilled s places k (number_at 4 b (at + 1)) f f'
+  module _ {child : ℕ} (is : child ≡ first_child s k) {f' : State} (t : ListFilled s places k n f f') where
+    as_read : ListFilled s places k (number_at 4 b 1) f f'
     as_read = rw many at t
 
-    pub listed_walk : RowsWalk s places b (d - 1) child n (at + 5) f'
+    pub listed_walk : RowsWalk s places (drop 5 b) (d - 1) child n f'
     listed_walk = rw (is, many) (list_walk start (one_mark mark) e as_read)
 
-    pub listed_walked : {f'' : Filling} {z : ℕ} → RowsWalked s places b (d - 1) child n (at + 5) f' f'' z → RowWalked s places b d k at f f'' z
+    pub listed_walked : {f'' : State} {z : List ℕ} → RowsWalked s places (drop 5 b) (d - 1) child n f' f'' z → RowWalked s places b d k f f'' z
     listed_walked v = list_walked start (one_mark mark) e as_read (rw (is, many) at v)

@@ -8,10 +8,12 @@ use mathlib.Core.Logic.{◌⊎◌, inl, inr}
 use Prim.Native.Nat.{ℕ, zero, suc, ◌+◌, ◌-◌, ◌≤◌, ◌<◌}
 use native.Mathlib.Nat.{add-zero}
 use native.Mathlib.Omega.{arith}
-use lib.ListN.{length, take, drop, replicate, length-append, length-replicate, replicate-append-replicate, get_or-append}
-use lib.Seq.{length-take-le, take-append_seam, drop-append-add, get_or-append-add, get_or-drop, ext_get_or}
+use lib.ListN.{length, take, drop, replicate, length-append, length-drop, length-replicate, replicate-append-replicate, get_or-append}
+use lib.Seq.{length-take-le, take-append_seam, drop-append-add, drop-drop, get_or-append-add, get_or-drop, ext_get_or}
 use lib.Dec.{ltb}
+use borrow.Rule.Slice.PartMut.{put_mid}
 use borrow.Author.Tests.{ltb-true, ltb-false}
+use Rattle.std.proofs.lemmas.List.{take_all}
 use Rattle.image.specs.Bytes.{byte_at, bytes_at}
 use Rattle.laws.proofs.Lengths.{bytes_length}
 use Rattle.rows.specs.Output.{over}
@@ -122,3 +124,14 @@ padded_zeros n x w fits =
     let size : length (x ++ zeros w) ≡ length x + w = length-append x (zeros w) ∙ ap (λ (m : ℕ). length x + m) (length-replicate {A = ℕ} w 0) in
     let all : w + (n - (length x + w)) ≡ n - length x = omega arith in
     rw (size, append_assoc x (zeros w) (zeros (n - (length x + w))), replicate-append-replicate {A = ℕ} w (n - (length x + w)) 0, all)
+
+-- bytes that the library copies over a part of a buffer
+pub part_over : (out : List ℕ) (at : ℕ) (bytes : List ℕ) {part : List ℕ} → part ≡ bytes → put_mid at (at + length bytes - at) out part ≡ over out at bytes
+unfolding over
+part_over out at bytes e =
+    let a : at + length bytes - at ≡ length bytes = omega arith in
+    rw (e, a, drop-drop (length bytes) at out)
+
+-- a slice from a place on
+pub from_place : (b : List ℕ) (k : ℕ) → take (length b - k) (drop k b) ≡ drop k b
+from_place b k = take_all (length b - k) (drop k b) (omega (arith, length-drop k b))

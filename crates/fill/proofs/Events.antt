@@ -21,7 +21,7 @@ use Rattle.rows.specs.Output.{over}
 use Rattle.rows.proofs.Over.{over_none, over_length}
 use Rattle.built.specs.Walk.{own}
 use Rattle.fill.specs.declared.put.Spot.{Spot}
-use Rattle.fill.specs.Filling.{Filling, filling, part_len, Getting, Filled, StructFilled, ListFilled, has_offsets, spot_of}
+use Rattle.fill.specs.Filling.{State, filling, part_len, Getting, Filled, StructFilled, ListFilled, has_offsets, spot_of}
 use Rattle.fill.proofs.Bytes.{over_behind}
 use Rattle.fill.proofs.Parts.{Grows, Shaped, row_put, part_inside, part_near}
 use Rattle.fill.proofs.Grow.{part_of, grow_none, grow_null, grow_valid, bitmap_free, grow_false, grow_true, boolean_free, grow_value, grow_zero, grow_offset, grow_text}
@@ -63,13 +63,9 @@ list_not_text e =
     let z : ◌≡◌ {A = ℕ} 0 1 = cc in
     omega arith
 
-module _ {s places : List ℕ} {f : Filling} {k x : ℕ} (g : Getting s places f k x) where
-  node_small : k < 256
+module _ {s places : List ℕ} {f : State} {k x : ℕ} (g : Getting s places f k x) where
+  pub node_small : k < 256
   node_small = omega (arith, g.node, (accepted s g.ready.accepted).tables.few_nodes)
-
-  pub spot_requires : (3 * k + 2 < length places) × (k < length f.rows) × (k < length f.spans)
-  spot_requires =
-      (omega (arith, node_small, g.ready.places_sized), omega (arith, node_small, g.ready.rows_sized), omega (arith, node_small, g.ready.spans_sized))
 
   inside : (i : ℕ) → i < 3 → get_or places (3 * k + i) 0 + part_len places (3 * k + i) ≤ length f.out
   inside i few = part_inside g.ready (3 * k + i) (omega (arith, g.node))
@@ -100,8 +96,8 @@ module _ {s places : List ℕ} {f : Filling} {k x : ℕ} (g : Getting s places f
         let low : get_or places (3 * k + 0) 0 + get_or f.rows k 0 / 8 < length f.out = omega (arith, inside 0 (omega arith)) in
         rw (bitmap_is, row_is) (low, bitmap_free s places f k null (layout_of (code_of s k)) refl takes room held.rows held.holds)
 
-    pub count_requires : (spot.row < 2 ^ 40) × (k < length f.rows) × (k < length f.spans)
-    count_requires = (omega (arith, row_few), spot_requires.1, spot_requires.2)
+    pub count_requires : (spot.row < 2 ^ 40) × (k < 256)
+    count_requires = (omega (arith, row_few), node_small)
 
     -- the buffer and the numbers afterwards
     as_put : (r : Row) {out rows spans all : List ℕ} {end : ℕ} → Filled s places (own r k) f (filling all (set f.rows k (get_or f.rows k 0 + 1)) (set f.spans k (get_or f.spans k 0 + span r)))
@@ -117,12 +113,12 @@ module _ {s places : List ℕ} {f : Filling} {k x : ℕ} (g : Getting s places f
       bit_grows : Grows s places f k r 0 (get_or f.rows k 0 / 8) ((byte_at f.out (get_or places (3 * k + 0) 0 + get_or f.rows k 0 / 8) + 2 ^ (get_or f.rows k 0 % 8)) ∷ [])
       bit_grows = grow_valid s places f k r (layout_of (code_of s k)) refl takes (g.room.bitmap takes) v
 
-    pub struct_filled : layout_of (code_of s k) ≡ Struct → {out rows spans : List ℕ} → out ≡ marked → (rows ≡ set f.rows k (spot.row + 1)) × (spans ≡ set f.spans k spot.span) → StructFilled s places k f (filling out rows spans)
-    struct_filled e put counts =
+    pub struct_filled : layout_of (code_of s k) ≡ Struct → (length f.rows ≡ 256) × (length f.spans ≡ 256) → {out rows spans : List ℕ} → out ≡ marked → (rows ≡ set f.rows k (spot.row + 1)) × (spans ≡ set f.spans k spot.span) → StructFilled s places k f (filling out rows spans)
+    struct_filled e lengths put counts =
         record {
           by = λ qs.
               let shaped : Shaped s k (joined qs) = record { even = λ l. absurd (struct_not_fixed (sym e ∙ l)); text = λ l. refl; bit = λ l. omega arith } in
-              let all = row_put g.ready k g.node (joined qs) shaped _ _ (bit_grows (joined qs) refl (rw e)) 0 [] (grow_none s places f k (joined qs) {i = 1} (λ rs. part_of s k Struct e rs 1)) 0 [] (grow_none s places f k (joined qs) {i = 2} (λ rs. part_of s k Struct e rs 2)) in
+              let all = row_put g.ready lengths k g.node (joined qs) shaped _ _ (bit_grows (joined qs) refl (rw e)) 0 [] (grow_none s places f k (joined qs) {i = 1} (λ rs. part_of s k Struct e rs 1)) 0 [] (grow_none s places f k (joined qs) {i = 2} (λ rs. part_of s k Struct e rs 2)) in
               as_put (joined qs) all (put ∙ rw (bitmap_is, row_is) (sym (over_none _ _) ∙ sym (over_none _ _))) (span_is ∙ omega arith) counts;
         }
 
@@ -135,9 +131,9 @@ module _ {s places : List ℕ} {f : Filling} {k x : ℕ} (g : Getting s places f
       bit_shaped : (v : ℕ) → v ≤ 1 → Shaped s k (fixed (v ∷ []))
       bit_shaped v le = record { even = λ l. absurd (boolean_not_fixed (sym e ∙ l)); text = λ l. refl; bit = λ l. le }
 
-      pub false_filled : {out rows spans : List ℕ} → out ≡ marked → (rows ≡ set f.rows k (spot.row + 1)) × (spans ≡ set f.spans k spot.span) → Filled s places (own (fixed (0 ∷ [])) k) f (filling out rows spans)
-      false_filled put counts =
-          let all = row_put g.ready k g.node (fixed (0 ∷ [])) (bit_shaped 0 (omega arith)) _ _ (bit_grows (fixed (0 ∷ [])) refl (rw e)) 0 [] (grow_false s places f k (fixed (0 ∷ [])) e (g.room.bits e) refl) 0 [] (grow_none s places f k (fixed (0 ∷ [])) {i = 2} (λ rs. part_of s k Boolean e rs 2)) in
+      pub false_filled : (length f.rows ≡ 256) × (length f.spans ≡ 256) → {out rows spans : List ℕ} → out ≡ marked → (rows ≡ set f.rows k (spot.row + 1)) × (spans ≡ set f.spans k spot.span) → Filled s places (own (fixed (0 ∷ [])) k) f (filling out rows spans)
+      false_filled lengths put counts =
+          let all = row_put g.ready lengths k g.node (fixed (0 ∷ [])) (bit_shaped 0 (omega arith)) _ _ (bit_grows (fixed (0 ∷ [])) refl (rw e)) 0 [] (grow_false s places f k (fixed (0 ∷ [])) e (g.room.bits e) refl) 0 [] (grow_none s places f k (fixed (0 ∷ [])) {i = 2} (λ rs. part_of s k Boolean e rs 2)) in
           as_put (fixed (0 ∷ [])) all (put ∙ rw (bitmap_is, row_is) (sym (over_none _ _) ∙ sym (over_none _ _))) (span_is ∙ omega arith) counts
 
       marked_fits : get_or places (3 * k + 0) 0 + get_or f.rows k 0 / 8 + 1 ≤ length f.out
@@ -165,10 +161,10 @@ module _ {s places : List ℕ} {f : Filling} {k x : ℕ} (g : Getting s places f
           let free = boolean_free s places f k null e (g.room.bits e) held.rows held.holds in
           rw put (omega (arith, low, long), rw (byte_kept, row_is) free)
 
-      pub true_filled : {mid out rows spans : List ℕ} → mid ≡ marked → out ≡ over mid (spot.first + spot.row / 8) ((byte_at mid (spot.first + spot.row / 8) + 2 ^ (spot.row % 8)) ∷ [])
+      pub true_filled : (length f.rows ≡ 256) × (length f.spans ≡ 256) → {mid out rows spans : List ℕ} → mid ≡ marked → out ≡ over mid (spot.first + spot.row / 8) ((byte_at mid (spot.first + spot.row / 8) + 2 ^ (spot.row % 8)) ∷ [])
           → (rows ≡ set f.rows k (spot.row + 1)) × (spans ≡ set f.spans k spot.span) → Filled s places (own (fixed (1 ∷ [])) k) f (filling out rows spans)
-      true_filled {mid} {out} put set-too counts =
-          let all = row_put g.ready k g.node (fixed (1 ∷ [])) (bit_shaped 1 (omega arith)) _ _ (bit_grows (fixed (1 ∷ [])) refl (rw e)) _ _ (grow_true s places f k (fixed (1 ∷ [])) e (g.room.bits e) refl) 0 [] (grow_none s places f k (fixed (1 ∷ [])) {i = 2} (λ rs. part_of s k Boolean e rs 2)) in
+      true_filled lengths {mid} {out} put set-too counts =
+          let all = row_put g.ready lengths k g.node (fixed (1 ∷ [])) (bit_shaped 1 (omega arith)) _ _ (bit_grows (fixed (1 ∷ [])) refl (rw e)) _ _ (grow_true s places f k (fixed (1 ∷ [])) e (g.room.bits e) refl) 0 [] (grow_none s places f k (fixed (1 ∷ [])) {i = 2} (λ rs. part_of s k Boolean e rs 2)) in
           let byte : byte_at mid (spot.first + spot.row / 8) ≡ byte_at f.out (get_or places (3 * k + 1) 0 + get_or f.rows k 0 / 8) = ap (λ (y : List ℕ). byte_at y (spot.first + spot.row / 8)) put ∙ byte_kept in
           as_put (fixed (1 ∷ [])) all (set-too ∙ rw (byte, put, bitmap_is, row_is, first_is) (sym (over_none _ _))) (span_is ∙ omega arith) counts
 
@@ -187,11 +183,11 @@ module _ {s places : List ℕ} {f : Filling} {k x : ℕ} (g : Getting s places f
       pub value_inside : {mid : List ℕ} → mid ≡ marked → spot.first + spot.row * w + w ≤ length mid
       value_inside put = rw (put, marked_long (rw e)) value_place
 
-      pub fixed_filled : (y : List ℕ) → length y ≡ w → {mid out rows spans : List ℕ} → mid ≡ marked → out ≡ over mid (spot.first + spot.row * w) y
+      pub fixed_filled : (length f.rows ≡ 256) × (length f.spans ≡ 256) → (y : List ℕ) → length y ≡ w → {mid out rows spans : List ℕ} → mid ≡ marked → out ≡ over mid (spot.first + spot.row * w) y
           → (rows ≡ set f.rows k (spot.row + 1)) × (spans ≡ set f.spans k spot.span) → Filled s places (own (fixed y) k) f (filling out rows spans)
-      fixed_filled y long put put-too counts =
+      fixed_filled lengths y long put put-too counts =
           let shaped : Shaped s k (fixed y) = record { even = λ l. long ∙ wide; text = λ l. refl; bit = λ l. absurd (boolean_not_fixed (sym l ∙ e)) } in
-          let all = row_put g.ready k g.node (fixed y) shaped _ _ (bit_grows (fixed y) refl (rw e)) _ _ (grow_value s places f k (fixed y) e (g.room.values e) y (long ∙ wide) refl) 0 [] (grow_none s places f k (fixed y) {i = 2} (λ rs. part_of s k FixedWidth e rs 2)) in
+          let all = row_put g.ready lengths k g.node (fixed y) shaped _ _ (bit_grows (fixed y) refl (rw e)) _ _ (grow_value s places f k (fixed y) e (g.room.values e) y (long ∙ wide) refl) 0 [] (grow_none s places f k (fixed y) {i = 2} (λ rs. part_of s k FixedWidth e rs 2)) in
           as_put (fixed y) all (put-too ∙ rw (put, bitmap_is, row_is, first_is, wide) (sym (over_none _ _))) (span_is ∙ omega arith) counts
 
     -- Offsets: the end of the row.
@@ -223,12 +219,12 @@ module _ {s places : List ℕ} {f : Filling} {k x : ℕ} (g : Getting s places f
           let long : length marked ≡ length f.out = marked_long (rw e) in
           rw (put-end, put-bit, over_length marked (spot.first + (spot.row + 1) * element_width s k) (number_bytes (element_width s k) (spot.span + x)) (omega arith), long) text_place
 
-      pub text_filled : (y : List ℕ) → length y ≡ x → {a b out rows spans : List ℕ} → a ≡ marked → b ≡ over a (spot.first + (spot.row + 1) * element_width s k) (number_bytes (element_width s k) (spot.span + x)) → out ≡ over b (spot.second + spot.span) y
+      pub text_filled : (length f.rows ≡ 256) × (length f.spans ≡ 256) → (y : List ℕ) → length y ≡ x → {a b out rows spans : List ℕ} → a ≡ marked → b ≡ over a (spot.first + (spot.row + 1) * element_width s k) (number_bytes (element_width s k) (spot.span + x)) → out ≡ over b (spot.second + spot.span) y
           → (rows ≡ set f.rows k (spot.row + 1)) × (spans ≡ set f.spans k (spot.span + x)) → Filled s places (own (sized y) k) f (filling out rows spans)
-      text_filled y long put-bit put-end put-text counts =
+      text_filled lengths y long put-bit put-end put-text counts =
           let shaped : Shaped s k (sized y) = record { even = λ l. absurd (text_not_fixed (sym e ∙ l)); text = λ l. refl; bit = λ l. omega arith } in
           let near : get_or f.spans k 0 + length y ≤ part_len places (3 * k + 2) = omega (arith, g.room.text e) in
-          let all = row_put g.ready k g.node (sized y) shaped _ _ (bit_grows (sized y) refl (rw e)) _ _ (grow_offset s places f k (sized y) offsets_are (g.room.text_offsets e)) _ _ (grow_text s places f k (sized y) e near refl) in
+          let all = row_put g.ready lengths k g.node (sized y) shaped _ _ (bit_grows (sized y) refl (rw e)) _ _ (grow_offset s places f k (sized y) offsets_are (g.room.text_offsets e)) _ _ (grow_text s places f k (sized y) e near refl) in
           as_put (sized y) all (put-text ∙ rw (put-end, put-bit, bitmap_is, row_is, first_is, second_is, span_is, ← long)) (rw (span_is, ← long)) counts
 
     -- Lists.
@@ -240,13 +236,13 @@ module _ {s places : List ℕ} {f : Filling} {k x : ℕ} (g : Getting s places f
       list_end_requires put =
           ((omega (arith, row_few), ((accepted s g.ready.accepted).node k g.node).widths.lists e), rw (put, marked_long (rw e)) (end_place (g.room.list_offsets e)))
 
-      pub list_filled : {a out rows spans : List ℕ} → a ≡ marked → out ≡ over a (spot.first + (spot.row + 1) * element_width s k) (number_bytes (element_width s k) (spot.span + x))
+      pub list_filled : (length f.rows ≡ 256) × (length f.spans ≡ 256) → {a out rows spans : List ℕ} → a ≡ marked → out ≡ over a (spot.first + (spot.row + 1) * element_width s k) (number_bytes (element_width s k) (spot.span + x))
           → (rows ≡ set f.rows k (spot.row + 1)) × (spans ≡ set f.spans k (spot.span + x)) → ListFilled s places k x f (filling out rows spans)
-      list_filled put-bit put-end counts =
+      list_filled lengths put-bit put-end counts =
           record {
             by = λ qs long.
                 let shaped : Shaped s k (counted qs) = record { even = λ l. absurd (list_not_fixed (sym e ∙ l)); text = λ l. absurd (list_not_text (sym e ∙ l)); bit = λ l. omega arith } in
-                let all = row_put g.ready k g.node (counted qs) shaped _ _ (bit_grows (counted qs) refl (rw e)) _ _ (grow_offset s places f k (counted qs) (λ rs. part_of s k Lists e rs 1) (g.room.list_offsets e)) 0 [] (grow_none s places f k (counted qs) {i = 2} (λ rs. part_of s k Lists e rs 2)) in
+                let all = row_put g.ready lengths k g.node (counted qs) shaped _ _ (bit_grows (counted qs) refl (rw e)) _ _ (grow_offset s places f k (counted qs) (λ rs. part_of s k Lists e rs 1) (g.room.list_offsets e)) 0 [] (grow_none s places f k (counted qs) {i = 2} (λ rs. part_of s k Lists e rs 2)) in
                 as_put (counted qs) all (put-end ∙ rw (put-bit, bitmap_is, row_is, first_is, span_is, ← long) (sym (over_none _ _))) (rw (span_is, ← long)) counts;
           }
 
@@ -254,7 +250,7 @@ module _ {s places : List ℕ} {f : Filling} {k x : ℕ} (g : Getting s places f
 abbrev gap : Layout → Row
 gap l = cond (takes_bitmap l) null (fixed [])
 
-module _ {s places : List ℕ} {f : Filling} {k : ℕ} (g : Getting s places f k 0) where
+module _ {s places : List ℕ} {f : State} {k : ℕ} (g : Getting s places f k 0) where
   gap_shaped : (l : Layout) → layout_of (code_of s k) ≡ l → (b : Bool) → takes_bitmap l ≡ b → Shaped s k (cond b null (fixed []))
   gap_shaped l e true takes = null_shaped s k
   gap_shaped l e false takes = empty_shaped s k (rw e takes)
@@ -302,11 +298,11 @@ module _ {s places : List ℕ} {f : Filling} {k : ℕ} (g : Getting s places f k
   gap_span false = refl
 
   module _ {spot : Spot} (is : spot ≡ spot_of places f.rows f.spans k) where
-    pub gap_plain : has_offsets (layout_of (code_of s k)) ≡ false → {rows spans : List ℕ} → (rows ≡ set f.rows k (spot.row + 1)) × (spans ≡ set f.spans k spot.span) → Filled s places (own (gap_row s k) k) f (filling f.out rows spans)
-    gap_plain h counts =
-        let all = row_put g.ready k g.node (gap_row s k) (gap_shaped (layout_of (code_of s k)) refl (takes_bitmap (layout_of (code_of s k))) refl)
+    pub gap_plain : (length f.rows ≡ 256) × (length f.spans ≡ 256) → has_offsets (layout_of (code_of s k)) ≡ false → {out rows spans : List ℕ} → out ≡ f.out → (rows ≡ set f.rows k (spot.row + 1)) × (spans ≡ set f.spans k spot.span) → Filled s places (own (gap_row s k) k) f (filling out rows spans)
+    gap_plain lengths h put counts =
+        let all = row_put g.ready lengths k g.node (gap_row s k) (gap_shaped (layout_of (code_of s k)) refl (takes_bitmap (layout_of (code_of s k))) refl)
         0 [] (bit_still (layout_of (code_of s k)) refl (takes_bitmap (layout_of (code_of s k))) refl) 0 [] (first_still (layout_of (code_of s k)) refl h) 0 [] (second_still (layout_of (code_of s k)) refl h) in
-        as_put g is (gap_row s k) all (sym (over_none _ _ ∙ over_none _ _ ∙ over_none _ _)) (span_is g is ∙ rw (gap_span (takes_bitmap (layout_of (code_of s k)))) (omega arith)) counts
+        as_put g is (gap_row s k) all (put ∙ sym (over_none _ _ ∙ over_none _ _ ∙ over_none _ _)) (span_is g is ∙ rw (gap_span (takes_bitmap (layout_of (code_of s k)))) (omega arith)) counts
 
     pub gap_room : has_offsets (layout_of (code_of s k)) ≡ true → suc (get_or f.rows k 0 + 1) * element_width s k ≤ part_len places (3 * k + 1)
     gap_room h = cases (layout_of (code_of s k)) refl h
@@ -345,30 +341,30 @@ module _ {s places : List ℕ} {f : Filling} {k : ℕ} (g : Getting s places f k
         narrow Runs e h = absurd (false≢true h)
 
     -- an empty text or list: its end is where the one before it ends
-    ended : {out rows spans : List ℕ} → out ≡ over f.out (spot.first + (spot.row + 1) * element_width s k) (number_bytes (element_width s k) spot.span) → (rows ≡ set f.rows k (spot.row + 1)) × (spans ≡ set f.spans k spot.span)
+    ended : (length f.rows ≡ 256) × (length f.spans ≡ 256) → {out rows spans : List ℕ} → out ≡ over f.out (spot.first + (spot.row + 1) * element_width s k) (number_bytes (element_width s k) spot.span) → (rows ≡ set f.rows k (spot.row + 1)) × (spans ≡ set f.spans k spot.span)
         → (l : Layout) → layout_of (code_of s k) ≡ l → has_offsets l ≡ true → Filled s places (own (gap l) k) f (filling out rows spans)
-    ended put counts Null e h = absurd (false≢true h)
-    ended put counts Boolean e h = absurd (false≢true h)
-    ended put counts FixedWidth e h = absurd (false≢true h)
-    ended put counts VariableSize e h =
+    ended lengths put counts Null e h = absurd (false≢true h)
+    ended lengths put counts Boolean e h = absurd (false≢true h)
+    ended lengths put counts FixedWidth e h = absurd (false≢true h)
+    ended lengths put counts VariableSize e h =
         let near : get_or f.spans k 0 + 0 ≤ part_len places (3 * k + 2) = g.room.text e in
-        let all = row_put g.ready k g.node null (null_shaped s k) 0 [] (bit_still VariableSize e true refl) _ _ (grow_offset s places f k null (λ rs. part_of s k VariableSize e rs 1) (g.room.text_offsets e)) _ _ (grow_text s places f k null e near refl) in
+        let all = row_put g.ready lengths k g.node null (null_shaped s k) 0 [] (bit_still VariableSize e true refl) _ _ (grow_offset s places f k null (λ rs. part_of s k VariableSize e rs 1) (g.room.text_offsets e)) _ _ (grow_text s places f k null e near refl) in
         as_put g is null all (put ∙ rw (row_is g is, first_is g is, span_is g is, over_none, over_none, add-zero (get_or f.spans k 0))) (span_is g is ∙ omega arith) counts
-    ended put counts View e h = absurd (false≢true h)
-    ended put counts Lists e h =
-        let all = row_put g.ready k g.node null (null_shaped s k) 0 [] (bit_still Lists e true refl) _ _ (grow_offset s places f k null (λ rs. part_of s k Lists e rs 1) (g.room.list_offsets e)) 0 [] (grow_none s places f k null {i = 2} (λ rs. part_of s k Lists e rs 2)) in
+    ended lengths put counts View e h = absurd (false≢true h)
+    ended lengths put counts Lists e h =
+        let all = row_put g.ready lengths k g.node null (null_shaped s k) 0 [] (bit_still Lists e true refl) _ _ (grow_offset s places f k null (λ rs. part_of s k Lists e rs 1) (g.room.list_offsets e)) 0 [] (grow_none s places f k null {i = 2} (λ rs. part_of s k Lists e rs 2)) in
         as_put g is null all (put ∙ rw (row_is g is, first_is g is, span_is g is, over_none, over_none, add-zero (get_or f.spans k 0))) (span_is g is ∙ omega arith) counts
-    ended put counts ListView e h = absurd (false≢true h)
-    ended put counts FixedList e h = absurd (false≢true h)
-    ended put counts Struct e h = absurd (false≢true h)
-    ended put counts DenseUnion e h = absurd (false≢true h)
-    ended put counts SparseUnion e h = absurd (false≢true h)
-    ended put counts Dictionary e h = absurd (false≢true h)
-    ended put counts Runs e h = absurd (false≢true h)
+    ended lengths put counts ListView e h = absurd (false≢true h)
+    ended lengths put counts FixedList e h = absurd (false≢true h)
+    ended lengths put counts Struct e h = absurd (false≢true h)
+    ended lengths put counts DenseUnion e h = absurd (false≢true h)
+    ended lengths put counts SparseUnion e h = absurd (false≢true h)
+    ended lengths put counts Dictionary e h = absurd (false≢true h)
+    ended lengths put counts Runs e h = absurd (false≢true h)
 
-    pub gap_ended : has_offsets (layout_of (code_of s k)) ≡ true → {out rows spans : List ℕ} → out ≡ over f.out (spot.first + (spot.row + 1) * element_width s k) (number_bytes (element_width s k) spot.span)
+    pub gap_ended : (length f.rows ≡ 256) × (length f.spans ≡ 256) → has_offsets (layout_of (code_of s k)) ≡ true → {out rows spans : List ℕ} → out ≡ over f.out (spot.first + (spot.row + 1) * element_width s k) (number_bytes (element_width s k) spot.span)
         → (rows ≡ set f.rows k (spot.row + 1)) × (spans ≡ set f.spans k spot.span) → Filled s places (own (gap_row s k) k) f (filling out rows spans)
-    gap_ended h put counts = ended put counts (layout_of (code_of s k)) refl h
+    gap_ended lengths h put counts = ended lengths put counts (layout_of (code_of s k)) refl h
 
 -- what the test of the layout tells
 module _ (s : List ℕ) (k : ℕ) {code : ℕ} {l : Layout} {b : Bool} where

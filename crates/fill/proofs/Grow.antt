@@ -22,7 +22,7 @@ use Rattle.rows.proofs.Over.{over_none, over_one}
 use Rattle.built.specs.Walk.{total}
 use Rattle.built.proofs.Bits.{each_length}
 use Rattle.built.proofs.Offsets.{offsets_length}
-use Rattle.fill.specs.Filling.{Filling, part_len, padded, Holds}
+use Rattle.fill.specs.Filling.{State, part_len, padded, Holds}
 use Rattle.fill.proofs.Bytes.{zeros, byte_of, padded_more, padded_zeros}
 use Rattle.fill.proofs.BitsSet.{bit_clear, bit_set, bits_padded, bits_more, number_more, bytes_more, offsets_more, pow_suc}
 use Rattle.fill.proofs.Parts.{Grows, count_more}
@@ -46,7 +46,7 @@ unfolding bits_number each_number count
 valid_small none = omega arith
 valid_small (more r rs) = rw (pow_suc (count rs)) (omega (arith, valid_one r, valid_small rs))
 
-module _ (s places : List ℕ) (f : Filling) (k : ℕ) (r : Row) where
+module _ (s places : List ℕ) (f : State) (k : ℕ) (r : Row) where
   -- a part that stays as it is
   pub grow_still : {i : ℕ} → ((rs : Rows) → Holds s places f k rs → padded (part_len places (3 * k + i)) (node_part s k rs i) ≡ padded (part_len places (3 * k + i)) (node_part s k (rows_then rs (one r)) i)) → Grows s places f k r i 0 []
   grow_still {i} same = record { fits = omega arith; step = λ rs h. over_none (padded (part_len places (3 * k + i)) (node_part s k rs i)) 0 ∙ same rs h }

@@ -7,7 +7,7 @@ use mathlib.Core.Logic.{◌⊎◌, inl, inr}
 use Prim.Native.Nat.{ℕ, zero, suc, ◌+◌, ◌*◌, ◌≤◌, ◌<◌, ◌^◌}
 use native.Mathlib.Nat.{add-mul}
 use native.Mathlib.Omega.{arith}
-use lib.ListN.{length, get_or, set, length-set, length-append}
+use lib.ListN.{length, get_or, set, length-append}
 use lib.Seq.{get_or-set_same, get_or-set_other}
 use lib.Dec.{eqb}
 use borrow.Author.Tests.{eqb-true, eq-eqb}
@@ -27,7 +27,7 @@ use Rattle.built.specs.Walk.{own, total}
 use Rattle.built.proofs.Columns.{count_join}
 use Rattle.built.proofs.Bits.{each_length}
 use Rattle.built.proofs.Walk.{then_none}
-use Rattle.fill.specs.Filling.{Filling, filling, part_len, part_bytes, padded, Holds, Ready, Filled}
+use Rattle.fill.specs.Filling.{State, filling, part_len, part_bytes, padded, Holds, Ready, Filled}
 use Rattle.fill.proofs.Bytes.{lt_or_ge, over_behind, over_elsewhere, over_within}
 use Rattle.fill.proofs.BitsSet.{bits_more, number_more, bytes_more}
 use Rattle.fill.proofs.Steps.{total_then}
@@ -39,7 +39,7 @@ pub record PartPut (s places : List ℕ) (q : ℕ) (y out after : List ℕ) : Ty
   pub outside : (p : ℕ) → (p < get_or places 0 0) ⊎ (get_or places (3 * node_count s) 0 ≤ p) → byte_at after p ≡ byte_at out p
   pub long : length after ≡ length out
 
-module _ {s places : List ℕ} {f : Filling} (ready : Ready s places f) where
+module _ {s places : List ℕ} {f : State} (ready : Ready s places f) where
   pub part_inside : (q : ℕ) → q < 3 * node_count s → get_or places q 0 + part_len places q ≤ length f.out
   part_inside q lt = omega (arith, ready.rise q (suc q) (omega arith) (omega arith), ready.rise (suc q) (3 * node_count s) (omega arith) (omega arith), ready.inside)
 
@@ -81,7 +81,7 @@ module _ {s places : List ℕ} {f : Filling} (ready : Ready s places f) where
       beyond p room first last step (inr e) = over_behind out (get_or places q 0 + o) x room p (omega arith)
 
 -- part i of node k, put over by x from o on, goes on by row r
-pub record Grows (s places : List ℕ) (f : Filling) (k : ℕ) (r : Row) (i o : ℕ) (x : List ℕ) : Type 0 where
+pub record Grows (s places : List ℕ) (f : State) (k : ℕ) (r : Row) (i o : ℕ) (x : List ℕ) : Type 0 where
   pub fits : o + length x ≤ part_len places (3 * k + i)
   pub step : (rs : Rows) → Holds s places f k rs → over (padded (part_len places (3 * k + i)) (node_part s k rs i)) o x ≡ padded (part_len places (3 * k + i)) (node_part s k (rows_then rs (one r)) i)
 
@@ -99,7 +99,7 @@ pub total_more : (rs : Rows) (r : Row) → total (rows_then rs (one r)) ≡ tota
 unfolding total
 total_more rs r = total_then rs (one r) ∙ omega arith
 
-module _ {s places : List ℕ} {f : Filling} (ready : Ready s places f) (k : ℕ) (node : k < node_count s) (r : Row) (shaped : Shaped s k r)
+module _ {s places : List ℕ} {f : State} (ready : Ready s places f) (sized : (length f.rows ≡ 256) × (length f.spans ≡ 256)) (k : ℕ) (node : k < node_count s) (r : Row) (shaped : Shaped s k r)
     (o₀ : ℕ) (x₀ : List ℕ) (first : Grows s places f k r 0 o₀ x₀) (o₁ : ℕ) (x₁ : List ℕ) (second : Grows s places f k r 1 o₁ x₁) (o₂ : ℕ) (x₂ : List ℕ) (third : Grows s places f k r 2 o₂ x₂) where
   abbrev one_put : List ℕ
   one_put = over f.out (get_or places (3 * k + 0) 0 + o₀) x₀
@@ -110,7 +110,7 @@ module _ {s places : List ℕ} {f : Filling} (ready : Ready s places f) (k : ℕ
   abbrev all_put : List ℕ
   all_put = over two_put (get_or places (3 * k + 2) 0 + o₂) x₂
 
-  abbrev after : Filling
+  abbrev after : State
   after = filling all_put (set f.rows k (get_or f.rows k 0 + 1)) (set f.spans k (get_or f.spans k 0 + span r))
 
   put₀ : PartPut s places (3 * k + 0) (over (part_bytes places f.out (3 * k + 0)) o₀ x₀) f.out one_put
@@ -154,8 +154,8 @@ module _ {s places : List ℕ} {f : Filling} (ready : Ready s places f) (k : ℕ
   holds_own : (rs : Rows) → Holds s places f k rs → Holds s places after k (rows_then rs (one r))
   holds_own rs h =
       record {
-        rows = get_or-set_same f.rows k _ 0 (omega (arith, ready.rows_sized, small)) ∙ omega (arith, h.rows, count_more rs r);
-        spans = get_or-set_same f.spans k _ 0 (omega (arith, ready.spans_sized, small)) ∙ omega (arith, h.spans, total_more rs r);
+        rows = get_or-set_same f.rows k _ 0 (omega (arith, sized.0, small)) ∙ omega (arith, h.rows, count_more rs r);
+        spans = get_or-set_same f.spans k _ 0 (omega (arith, sized.1, small)) ∙ omega (arith, h.spans, total_more rs r);
         part = parts rs h;
         even = λ e. ap length (bytes_more (value_bytes (element_width s k)) rs r) ∙ length-append (each_bytes (value_bytes (element_width s k)) rs) (value_bytes (element_width s k) r)
             ∙ rw (h.even e, shaped.even e, count_more rs r, add-mul) (omega arith);
@@ -185,8 +185,6 @@ module _ {s places : List ℕ} {f : Filling} (ready : Ready s places f) (k : ℕ
         holds = λ j rs lt h. holds j rs lt h (eqb k j) refl;
         outside = λ p e. put₂.outside p e ∙ put₁.outside p e ∙ put₀.outside p e;
         long = put₂.long ∙ put₁.long ∙ put₀.long;
-        rows_long = length-set f.rows k _;
-        spans_long = length-set f.spans k _;
       }
     where
       eqb_not : (j : ℕ) → eqb k j ≡ false → k ≡ j → ⊥
@@ -195,13 +193,13 @@ module _ {s places : List ℕ} {f : Filling} (ready : Ready s places f) (k : ℕ
       rows_grow : (j : ℕ) (b : Bool) → eqb k j ≡ b → get_or after.rows j 0 ≡ get_or f.rows j 0 + count (cond b (one r) none)
       rows_grow j true e =
           let is : k ≡ j = eqb-true k j e in
-          rw (← is) (get_or-set_same f.rows k _ 0 (omega (arith, ready.rows_sized, small)))
+          rw (← is) (get_or-set_same f.rows k _ 0 (omega (arith, sized.0, small)))
       rows_grow j false e = get_or-set_other f.rows k j _ 0 (λ q. eqb_not j e (sym q)) ∙ omega arith
 
       spans_grow : (j : ℕ) (b : Bool) → eqb k j ≡ b → get_or after.spans j 0 ≡ get_or f.spans j 0 + total (cond b (one r) none)
       spans_grow j true e =
           let is : k ≡ j = eqb-true k j e in
-          rw (← is) (get_or-set_same f.spans k _ 0 (omega (arith, ready.spans_sized, small)) ∙ omega arith)
+          rw (← is) (get_or-set_same f.spans k _ 0 (omega (arith, sized.1, small)) ∙ omega arith)
       spans_grow j false e = get_or-set_other f.spans k j _ 0 (λ q. eqb_not j e (sym q)) ∙ omega arith
 
       holds : (j : ℕ) (rs : Rows) → j < node_count s → Holds s places f j rs → (b : Bool) → eqb k j ≡ b → Holds s places after j (rows_then rs (cond b (one r) none))

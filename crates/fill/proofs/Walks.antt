@@ -5,7 +5,6 @@ use mathlib.Core.List.{List}
 use Prim.Native.Nat.{ℕ, zero, suc, ◌+◌, ◌-◌, ◌≤◌, ◌<◌}
 use native.Mathlib.Nat.{add-zero}
 use native.Mathlib.Omega.{arith}
-use lib.ListN.{drop}
 use Rattle.image.specs.Record.{node_count}
 use Rattle.image.specs.Row.{Row, Rows, none, more, one, rows_then}
 use Rattle.image.specs.RowBytes.{count}
@@ -14,7 +13,7 @@ use Rattle.image.specs.Built.{from_each}
 use Rattle.built.specs.Walk.{over_nodes, over_each, gives, the_row, the_rows}
 use Rattle.built.proofs.Parsed.{made_back, then_back}
 use Rattle.built.proofs.Walk.{then_none, then_assoc}
-use Rattle.fill.specs.Filling.{Filling, Rooms, Ready, Filled, ToWalk, Walked, RowWalk, RowWalked, RowsWalk, RowsWalked, gap_gives}
+use Rattle.fill.specs.Filling.{State, Rooms, Ready, Filled, ToWalk, Walked, RowWalk, RowWalked, RowsWalk, RowsWalked, gap_gives}
 use Rattle.fill.proofs.Steps.{filled_none, filled_as, filled_then, rooms_as, rooms_first, rooms_rest, ready_after}
 use Rattle.fill.proofs.Parts.{count_more}
 
@@ -63,22 +62,22 @@ one_then q qs = refl
 
 -- Where a walk over a row of each of n nodes from c on stands before row i: `row m` reads a row of node m, and `give m q j` is
 -- what row q of node m gives node j.
-pub record Going (row : ℕ → List ℕ → Parsed Row) (give : ℕ → Row → ℕ → Rows) (s places b : List ℕ) (c n : ℕ) (p : Parsed Rows) (f₀ f : Filling) (next i : ℕ) : Type 0 where
+pub record Going (row : ℕ → List ℕ → Parsed Row) (give : ℕ → Row → ℕ → Rows) (s places : List ℕ) (c n : ℕ) (p : Parsed Rows) (f₀ f : State) (next : List ℕ) (i : ℕ) : Type 0 where
   pub few : i ≤ n
   pub before : Rows
   pub left : Rows
   pub rest : List ℕ
   pub whole : p ≡ parsed (rows_then before left) rest
   pub size : count before ≡ i
-  pub reads : row_of_each row (c + i) (n - i) (drop next b) ≡ parsed left rest
+  pub reads : row_of_each row (c + i) (n - i) next ≡ parsed left rest
   pub ready : Ready s places f
   pub filled : Filled s places (λ j. over_each (λ m q. give m q j) c before) f₀ f
   pub rooms : Rooms s places (λ j. over_each (λ m q. give m q j) (c + i) left) f
 
-module _ {row : ℕ → List ℕ → Parsed Row} {give : ℕ → Row → ℕ → Rows} {s places b : List ℕ} {c n : ℕ} {p : Parsed Rows} where
-  pub going_start : {f : Filling} (at : ℕ) → p ≡ row_of_each row c n (drop at b) → ToWalk s places p (the_rows p) (λ j. over_each (λ m q. give m q j) c (the_rows p)) f → Going row give s places b c n p f f at 0
+module _ {row : ℕ → List ℕ → Parsed Row} {give : ℕ → Row → ℕ → Rows} {s places : List ℕ} {c n : ℕ} {p : Parsed Rows} where
+  pub going_start : {f : State} (b : List ℕ) → p ≡ row_of_each row c n b → ToWalk s places p (the_rows p) (λ j. over_each (λ m q. give m q j) c (the_rows p)) f → Going row give s places c n p f f b 0
   unfolding over_each rows_then count
-  going_start {f} at e w =
+  going_start {f} b e w =
       let a : c + 0 ≡ c = omega arith in
       let m : n - 0 ≡ n = omega arith in
       record {
@@ -94,19 +93,19 @@ module _ {row : ℕ → List ℕ → Parsed Row} {give : ℕ → Row → ℕ →
         rooms = rw a w.rooms;
       }
 
-  module _ {f₀ f : Filling} {next i : ℕ} (g : Going row give s places b c n p f₀ f next i) where
+  module _ {f₀ f : State} {next : List ℕ} {i : ℕ} (g : Going row give s places c n p f₀ f next i) where
     module _ (lt : i < n) where
-      next_read : row_then (row (c + i) (drop next b)) (row_of_each row (c + (i + 1)) (n - (i + 1))) ≡ parsed g.left g.rest
+      next_read : row_then (row (c + i) next) (row_of_each row (c + (i + 1)) (n - (i + 1))) ≡ parsed g.left g.rest
       unfolding row_of_each
       next_read =
           let a : n - i ≡ suc (n - (i + 1)) = omega arith in
           let d : c + (i + 1) ≡ suc (c + i) = omega arith in
           rw d (rw a at g.reads)
 
-      abbrev told : (q : Row) × (qs : Rows) × (mid : List ℕ) × (row (c + i) (drop next b) ≡ parsed q mid) × (row_of_each row (c + (i + 1)) (n - (i + 1)) mid ≡ parsed qs g.rest) × (g.left ≡ more q qs)
-      told = row_then_lem (row (c + i) (drop next b)) (row_of_each row (c + (i + 1)) (n - (i + 1))) g.left g.rest next_read
+      abbrev told : (q : Row) × (qs : Rows) × (mid : List ℕ) × (row (c + i) next ≡ parsed q mid) × (row_of_each row (c + (i + 1)) (n - (i + 1)) mid ≡ parsed qs g.rest) × (g.left ≡ more q qs)
+      told = row_then_lem (row (c + i) next) (row_of_each row (c + (i + 1)) (n - (i + 1))) g.left g.rest next_read
 
-      row_is : the_row (row (c + i) (drop next b)) ≡ told.0
+      row_is : the_row (row (c + i) next) ≡ told.0
       row_is = the_row_lem told.3
 
       left_rooms : Rooms s places (λ j. rows_then (give (c + i) told.0 j) (over_each (λ m q. give m q j) (c + (i + 1)) told.1)) f
@@ -115,7 +114,7 @@ module _ {row : ℕ → List ℕ → Parsed Row} {give : ℕ → Row → ℕ →
           let a : suc (c + i) ≡ c + (i + 1) = omega arith in
           rooms_as g.rooms (λ j lt. ap (over_each (λ m q. give m q j) (c + i)) told.5 ∙ ap (λ (x : ℕ). rows_then (give (c + i) told.0 j) (over_each (λ m q. give m q j) x told.1)) a)
 
-      pub going_row : ToWalk s places (row (c + i) (drop next b)) (the_row (row (c + i) (drop next b))) (give (c + i) (the_row (row (c + i) (drop next b)))) f
+      pub going_row : ToWalk s places (row (c + i) next) (the_row (row (c + i) next)) (give (c + i) (the_row (row (c + i) next))) f
       going_row =
           record {
             ready = g.ready;
@@ -123,9 +122,9 @@ module _ {row : ℕ → List ℕ → Parsed Row} {give : ℕ → Row → ℕ →
             rooms = rw row_is (rooms_first (λ j. give (c + i) told.0 j) (λ j. over_each (λ m q. give m q j) (c + (i + 1)) told.1) left_rooms);
           }
 
-      pub going_more : {f' : Filling} {e : ℕ} → Walked s places b (row (c + i) (drop next b)) (the_row (row (c + i) (drop next b))) (give (c + i) (the_row (row (c + i) (drop next b)))) f f' e → Going row give s places b c n p f₀ f' e (i + 1)
+      pub going_more : {f' : State} {e : List ℕ} → Walked s places (row (c + i) next) (the_row (row (c + i) next)) (give (c + i) (the_row (row (c + i) next))) f f' e → Going row give s places c n p f₀ f' e (i + 1)
       going_more {f'} {e} w =
-          let follows : told.2 ≡ drop e b = same_rest (sym told.3 ∙ w.follows) in
+          let follows : told.2 ≡ e = same_rest (sym told.3 ∙ w.follows) in
           let step : Filled s places (λ j. give (c + i) told.0 j) f f' = rw (← row_is) w.filled in
           let size : count g.before ≡ i = g.size in
           record {
@@ -141,13 +140,13 @@ module _ {row : ℕ → List ℕ → Parsed Row} {give : ℕ → Row → ℕ →
             rooms = rooms_rest left_rooms step;
           }
 
-    pub going_done : n ≤ i → Walked s places b p (the_rows p) (λ j. over_each (λ m q. give m q j) c (the_rows p)) f₀ f next
+    pub going_done : n ≤ i → Walked s places p (the_rows p) (λ j. over_each (λ m q. give m q j) c (the_rows p)) f₀ f next
     unfolding row_of_each
     going_done le =
         let m : n - i ≡ 0 = omega arith in
-        let nothing : parsed none (drop next b) ≡ parsed g.left g.rest = rw m at g.reads in
+        let nothing : parsed none next ≡ parsed g.left g.rest = rw m at g.reads in
         let none_left : g.left ≡ none = cc in
-        let behind : g.rest ≡ drop next b = cc in
+        let behind : g.rest ≡ next = cc in
         let all : rows_then g.before g.left ≡ g.before = rw none_left (then_none g.before) in
         let is : the_rows p ≡ g.before = the_rows_lem g.whole ∙ all in
         record {
@@ -166,30 +165,30 @@ rows_count row (suc n) x rs rest e =
     rw t.5 (ap suc (rows_count row n t.2 t.1 rest t.4))
 
 -- n rows of one node
-pub record RowsLeft (s places b : List ℕ) (d k n at : ℕ) (f₀ f : Filling) (next i : ℕ) : Type 0 where
+pub record RowsLeft (s places b : List ℕ) (d k n : ℕ) (f₀ f : State) (next : List ℕ) (i : ℕ) : Type 0 where
   pub node : k < node_count s
-  pub going : Going (λ m. row_in d s k) (λ m q j. gives d s k q j) s places b 0 n (rows_of (row_in d s k) n (drop at b)) f₀ f next i
+  pub going : Going (λ m. row_in d s k) (λ m q j. gives d s k q j) s places 0 n (rows_of (row_in d s k) n b) f₀ f next i
 
-module _ {s places b : List ℕ} {d k n at : ℕ} where
-  pub rows_start : {f : Filling} → RowsWalk s places b d k n at f → RowsLeft s places b d k n at f f at 0
+module _ {s places b : List ℕ} {d k n : ℕ} where
+  pub rows_start : {f : State} → RowsWalk s places b d k n f → RowsLeft s places b d k n f f b 0
   rows_start x =
       record {
         node = x.node;
-        going = going_start at (rows_each (row_in d s k) 0 n (drop at b))
-            (record { ready = x.walk.ready; reads = x.walk.reads; rooms = rooms_as x.walk.rooms (λ j lt. from_each_lem (λ q. gives d s k q j) 0 (the_rows (rows_of (row_in d s k) n (drop at b)))) });
+        going = going_start b (rows_each (row_in d s k) 0 n b)
+            (record { ready = x.walk.ready; reads = x.walk.reads; rooms = rooms_as x.walk.rooms (λ j lt. from_each_lem (λ q. gives d s k q j) 0 (the_rows (rows_of (row_in d s k) n b))) });
       }
 
-  module _ {f₀ f : Filling} {next i : ℕ} (g : RowsLeft s places b d k n at f₀ f next i) where
-    pub rows_row : i < n → RowWalk s places b d k next f
+  module _ {f₀ f : State} {next : List ℕ} {i : ℕ} (g : RowsLeft s places b d k n f₀ f next i) where
+    pub rows_row : i < n → RowWalk s places next d k f
     rows_row lt = record { node = g.node; walk = going_row g.going lt }
 
-    pub rows_more : {f' : Filling} {e : ℕ} → i < n → RowWalked s places b d k next f f' e → RowsLeft s places b d k n at f₀ f' e (i + 1)
+    pub rows_more : {f' : State} {e : List ℕ} → i < n → RowWalked s places next d k f f' e → RowsLeft s places b d k n f₀ f' e (i + 1)
     rows_more lt w = record { node = g.node; going = going_more g.going lt w.done }
 
-    pub rows_done : n ≤ i → RowsWalked s places b d k n at f₀ f next
+    pub rows_done : n ≤ i → RowsWalked s places b d k n f₀ f next
     rows_done le =
         let w = going_done g.going le in
-        record { done = record { follows = w.follows; filled = filled_as w.filled (λ j lt. sym (from_each_lem (λ q. gives d s k q j) 0 (the_rows (rows_of (row_in d s k) n (drop at b))))) } }
+        record { done = record { follows = w.follows; filled = filled_as w.filled (λ j lt. sym (from_each_lem (λ q. gives d s k q j) 0 (the_rows (rows_of (row_in d s k) n b)))) } }
 
 -- The rows under a null, child by child.
 nodes_more : (h : ℕ → Rows) (c n : ℕ) → over_nodes h c (n + 1) ≡ rows_then (over_nodes h c n) (h (c + n))
@@ -200,21 +199,21 @@ nodes_more h c (suc n) =
     let b : suc c + n ≡ c + suc n = omega arith in
     rw a (ap (rows_then (h c)) (nodes_more h (suc c) n) ∙ rw b (sym (then_assoc (h c) (over_nodes h (suc c) n) (h (c + suc n)))))
 
-pub record GapsLeft (s places : List ℕ) (d first n : ℕ) (f₀ f : Filling) (i : ℕ) : Type 0 where
+pub record GapsLeft (s places : List ℕ) (d first n : ℕ) (f₀ f : State) (i : ℕ) : Type 0 where
   pub few : i ≤ n
   pub ready : Ready s places f
   pub filled : Filled s places (λ j. over_nodes (λ c. gap_gives d s c j) first i) f₀ f
   pub rooms : Rooms s places (λ j. over_nodes (λ c. gap_gives d s c j) (first + i) (n - i)) f
 
 module _ {s places : List ℕ} {d first n : ℕ} where
-  pub gaps_start : {f : Filling} → Ready s places f → Rooms s places (λ j. over_nodes (λ c. gap_gives d s c j) first n) f → GapsLeft s places d first n f f 0
+  pub gaps_start : {f : State} → Ready s places f → Rooms s places (λ j. over_nodes (λ c. gap_gives d s c j) first n) f → GapsLeft s places d first n f f 0
   unfolding over_nodes
   gaps_start ready rooms =
       let a : first + 0 ≡ first = omega arith in
       let m : n - 0 ≡ n = omega arith in
       record { few = omega arith; ready = ready; filled = filled_none (λ j lt. refl); rooms = rw (a, m) rooms }
 
-  module _ {f₀ f : Filling} {i : ℕ} (g : GapsLeft s places d first n f₀ f i) where
+  module _ {f₀ f : State} {i : ℕ} (g : GapsLeft s places d first n f₀ f i) where
     module _ (lt : i < n) where
       gap_split : Rooms s places (λ j. rows_then (gap_gives d s (first + i) j) (over_nodes (λ c. gap_gives d s c j) (first + (i + 1)) (n - (i + 1)))) f
       unfolding over_nodes
@@ -226,7 +225,7 @@ module _ {s places : List ℕ} {d first n : ℕ} where
       pub gap_rooms : Rooms s places (gap_gives d s (first + i)) f
       gap_rooms = rooms_first (gap_gives d s (first + i)) (λ j. over_nodes (λ c. gap_gives d s c j) (first + (i + 1)) (n - (i + 1))) gap_split
 
-      pub gaps_more : {f' : Filling} → Filled s places (gap_gives d s (first + i)) f f' → GapsLeft s places d first n f₀ f' (i + 1)
+      pub gaps_more : {f' : State} → Filled s places (gap_gives d s (first + i)) f f' → GapsLeft s places d first n f₀ f' (i + 1)
       gaps_more t =
           record {
             few = omega arith;

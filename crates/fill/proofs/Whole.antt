@@ -7,7 +7,7 @@ use mathlib.Core.Logic.{◌⊎◌, inl, inr}
 use Prim.Native.Nat.{ℕ, zero, suc, ◌+◌, ◌*◌, ◌-◌, ◌/◌, ◌%◌, ◌≤◌, ◌<◌}
 use native.Mathlib.Nat.{zero-add, suc-mul, zero-mul}
 use native.Mathlib.Omega.{arith}
-use lib.ListN.{length, get_or, length-replicate, get_or-replicate}
+use lib.ListN.{length, get_or, replicate, length-replicate, get_or-replicate}
 use lib.Seq.{ext_get_or}
 use Rattle.image.specs.declared.type_code.Layout.{Layout}
 use Rattle.image.specs.declared.type_code.Layout.TheVariants.{Null, Boolean, FixedWidth, VariableSize, View, List as Lists, ListView, FixedList, Struct, DenseUnion, SparseUnion, Dictionary, Runs}
@@ -34,7 +34,7 @@ use Rattle.built.proofs.Offsets.{offsets_length}
 use Rattle.built.proofs.Typed.{rows_typed}
 use Rattle.built.proofs.Walk.{columns_given}
 use Rattle.built.proofs.Lengths.{node_part_lem, bitmap_length_lem, boolean_lengths, fixed_lengths, text_lengths, list_lengths, list_child}
-use Rattle.fill.specs.Filling.{Filling, part_len, part_bytes, padded, Holds, Room, Ready, ToFill, RowsWalk, RowsWalked}
+use Rattle.fill.specs.Filling.{State, part_len, part_bytes, padded, Holds, Room, Ready, ToFill, RowsWalk, RowsWalked}
 use Rattle.fill.proofs.Bytes.{lt_or_ge, zeros, byte_of, over_inside, over_behind, padded_zeros}
 use Rattle.fill.proofs.BitsSet.{zero_bytes}
 use Rattle.fill.proofs.Grow.{part_of}
@@ -144,7 +144,7 @@ changed_within out after at n long fits outside =
         sym (ap (byte_at (over out at (bytes_at after at n))) (sym e) ∙ over_inside out at (bytes_at after at n) room (p - at) here ∙ byte_of after at n (p - at) few ∙ ap (byte_at after) e)
     cases p room size (inr inside) (inr behind) = outside p (inr behind) ∙ sym (over_behind out at (bytes_at after at n) room p (omega arith))
 
-module _ {s : List ℕ} {n : ℕ} {b places : List ℕ} {f : Filling} (start : ToFill s n b places f) (string : AllBytes b) where
+module _ {s : List ℕ} {n : ℕ} {b places : List ℕ} {f : State} (start : ToFill s n b places f.out) (string : AllBytes b) (rows_none : f.rows ≡ replicate 256 0) (spans_none : f.spans ≡ replicate 256 0) where
   abbrev rs : Rows
   rs = the_rows (rows_in s n b)
 
@@ -188,8 +188,8 @@ module _ {s : List ℕ} {n : ℕ} {b places : List ℕ} {f : Filling} (start : T
   held k lt =
       let few : k < 256 = omega (arith, image.tables.few_nodes) in
       record {
-        rows = rw start.rows_none (get_or-replicate {A = ℕ} 256 k 0 0 few);
-        spans = rw start.spans_none (get_or-replicate {A = ℕ} 256 k 0 0 few);
+        rows = rw rows_none (get_or-replicate {A = ℕ} 256 k 0 0 few);
+        spans = rw spans_none (get_or-replicate {A = ℕ} 256 k 0 0 few);
         part = λ i less.
             let blank = blank_part s k (column s rs k) i less in
             part_blank k i lt less ∙ sym (ap (padded (part_len places (3 * k + i))) blank.is ∙ padded_none (part_len places (3 * k + i)) blank.size (omega (arith, blank.fits, part_long k i lt less)));
@@ -203,12 +203,9 @@ module _ {s : List ℕ} {n : ℕ} {b places : List ℕ} {f : Filling} (start : T
       record {
         accepted = start.accepted;
         coded = start.coded;
-        places_sized = start.places_sized;
         rise = rise;
         inside = rw (start.place (3 * node_count s) (omega arith)) start.inside;
         short = rw (start.place (3 * node_count s) (omega arith)) start.short;
-        rows_sized = ap length start.rows_none ∙ length-replicate {A = ℕ} 256 0;
-        spans_sized = ap length start.spans_none ∙ length-replicate {A = ℕ} 256 0;
         held = λ k lt. record { rows = none; holds = held k lt };
       }
 
@@ -237,7 +234,7 @@ module _ {s : List ℕ} {n : ℕ} {b places : List ℕ} {f : Filling} (start : T
   given : (j : ℕ) → j < node_count s → from_each (λ q. gives 16 s 0 q j) rs ≡ column s rs j
   given j lt = sym (columns_given s image start.coded rs typed j lt)
 
-  pub whole_walk : RowsWalk s places b 16 0 n 0 f
+  pub whole_walk : RowsWalk s places b 16 0 n f
   unfolding rows_in count total
   whole_walk =
       record {
@@ -253,7 +250,7 @@ module _ {s : List ℕ} {n : ℕ} {b places : List ℕ} {f : Filling} (start : T
         };
       }
 
-  module _ {f' : Filling} {e : ℕ} (done : RowsWalked s places b 16 0 n 0 f f' e) where
+  module _ {f' : State} {e : List ℕ} (done : RowsWalked s places b 16 0 n f f' e) where
     filled_parts : (k i : ℕ) → k < node_count s → i < 3 → part_bytes places f'.out (3 * k + i) ≡ part_at s rs (3 * k + i)
     unfolding rows_in rows_then
     filled_parts k i lt few =

@@ -1,5 +1,5 @@
 -- What is known while the parts of an image are filled, row by row: each part holds what the rows so far make, and zeros behind.
-use Rattle.std.specs.Prelude.{◌≡◌, Bool, true, false, List, [], ◌++◌, ◌⊎◌, ℕ, suc, ◌+◌, ◌*◌, ◌-◌, ◌≤◌, ◌<◌, ◌^◌, length, get_or, drop, replicate, Ok}
+use Rattle.std.specs.Prelude.{◌≡◌, Bool, true, false, List, [], ◌++◌, ◌⊎◌, ℕ, suc, ◌+◌, ◌*◌, ◌-◌, ◌≤◌, ◌<◌, ◌^◌, length, get_or, replicate, Ok}
 use Rattle.image.specs.declared.type_code.Layout.{Layout}
 use Rattle.image.specs.declared.type_code.Layout.TheVariants.{Null, Boolean, FixedWidth, VariableSize, View, List as Lists, ListView, FixedList, Struct, DenseUnion, SparseUnion, Dictionary, Runs}
 use Rattle.image.specs.Bytes.{byte_at, bytes_at}
@@ -12,16 +12,25 @@ use Rattle.image.specs.RowBytes.{count}
 use Rattle.image.specs.Parse.{Parsed, parsed, readable, rows_of, row_in, rows_in}
 use Rattle.image.specs.Built.{from_each, gap_row, each_number, each_bytes, bits_number, value_bit, value_bytes, text_bytes, node_part, column, part_start}
 use Rattle.built.specs.Walk.{own, gives, total, the_row, the_rows}
+use Rattle.fill.specs.declared.put.Filling.{Filling}
 use Rattle.fill.specs.declared.put.Spot.{Spot}
 
 -- How far the filling is: the buffer, how many rows each node has got, and how far its offsets are.
-pub record Filling : Type 0 where
+pub record State : Type 0 where
   pub out : List ℕ
   pub rows : List ℕ
   pub spans : List ℕ
 
-abbrev pub filling : List ℕ → List ℕ → List ℕ → Filling
+abbrev pub filling : List ℕ → List ℕ → List ℕ → State
 filling out rows spans = record { out = out; rows = rows; spans = spans }
+
+abbrev pub state : Filling → State
+state x = filling x.out.now x.rows x.spans
+
+-- what a filling was made of is what it has: the places, and the buffer that is lent to it
+pub record SameLent (x y : Filling) : Type 0 where
+  pub places : y.places.now ≡ x.places.now
+  pub out : y.out.ghost_name ≡ x.out.ghost_name
 
 -- Part q stands from its place up to that of the next; part i of node k is part 3 * k + i of all.
 abbrev pub part_len : List ℕ → ℕ → ℕ
@@ -35,7 +44,7 @@ unfoldable pub padded : ℕ → List ℕ → List ℕ
 padded n x = x ++ replicate (n - length x) 0
 
 -- node k has got these rows: its numbers count them, and each of its parts holds what they make, and zeros behind
-pub record Holds (s places : List ℕ) (f : Filling) (k : ℕ) (rs : Rows) : Type 0 where
+pub record Holds (s places : List ℕ) (f : State) (k : ℕ) (rs : Rows) : Type 0 where
   pub rows : get_or f.rows k 0 ≡ count rs
   pub spans : get_or f.spans k 0 ≡ total rs
   pub part : (i : ℕ) → i < 3 → part_bytes places f.out (3 * k + i) ≡ padded (part_len places (3 * k + i)) (node_part s k rs i)
@@ -55,47 +64,42 @@ pub record Room (s places : List ℕ) (k n x : ℕ) : Type 0 where
   pub text : layout_of (code_of s k) ≡ VariableSize → x ≤ part_len places (3 * k + 2)
 
 -- there is room for the rows that each node is to get
-pub record Rooms (s places : List ℕ) (g : ℕ → Rows) (f : Filling) : Type 0 where
+pub record Rooms (s places : List ℕ) (g : ℕ → Rows) (f : State) : Type 0 where
   pub room : (j : ℕ) → j < node_count s → Room s places j (get_or f.rows j 0 + count (g j)) (get_or f.spans j 0 + total (g j))
 
 -- node k holds some rows
-pub record Held (s places : List ℕ) (f : Filling) (k : ℕ) : Type 0 where
+pub record Held (s places : List ℕ) (f : State) (k : ℕ) : Type 0 where
   pub rows : Rows
   pub holds : Holds s places f k rows
 
 -- what filling rests on: an accepted image of readable codes, places that rise and end inside the buffer, a number for each node
-pub record Ready (s places : List ℕ) (f : Filling) : Type 0 where
+pub record Ready (s places : List ℕ) (f : State) : Type 0 where
   pub accepted : check_image s ≡ Ok tt
   pub coded : readable s ≡ true
-  pub places_sized : length places ≡ 769
   pub rise : (q r : ℕ) → q ≤ r → r ≤ 3 * node_count s → get_or places q 0 ≤ get_or places r 0
   pub inside : get_or places (3 * node_count s) 0 ≤ length f.out
   pub short : get_or places (3 * node_count s) 0 ≤ longest_image
-  pub rows_sized : length f.rows ≡ 256
-  pub spans_sized : length f.spans ≡ 256
   pub held : (k : ℕ) → k < node_count s → Held s places f k
 
 -- node k is about to get a row whose offsets go on by x
-pub record Getting (s places : List ℕ) (f : Filling) (k x : ℕ) : Type 0 where
+pub record Getting (s places : List ℕ) (f : State) (k x : ℕ) : Type 0 where
   pub ready : Ready s places f
   pub node : k < node_count s
   pub room : Room s places k (get_or f.rows k 0 + 1) (get_or f.spans k 0 + x)
 
 -- each node j has got the rows g j more, and nothing but the parts has changed
-pub record Filled (s places : List ℕ) (g : ℕ → Rows) (f₀ f : Filling) : Type 0 where
+pub record Filled (s places : List ℕ) (g : ℕ → Rows) (f₀ f : State) : Type 0 where
   pub rows : (j : ℕ) → j < node_count s → get_or f.rows j 0 ≡ get_or f₀.rows j 0 + count (g j)
   pub spans : (j : ℕ) → j < node_count s → get_or f.spans j 0 ≡ get_or f₀.spans j 0 + total (g j)
   pub holds : (j : ℕ) (rs : Rows) → j < node_count s → Holds s places f₀ j rs → Holds s places f j (rows_then rs (g j))
   pub outside : (p : ℕ) → (p < get_or places 0 0) ⊎ (get_or places (3 * node_count s) 0 ≤ p) → byte_at f.out p ≡ byte_at f₀.out p
   pub long : length f.out ≡ length f₀.out
-  pub rows_long : length f.rows ≡ length f₀.rows
-  pub spans_long : length f.spans ≡ length f₀.spans
 
 -- node k has got a row of a Struct that is not null, whatever its child rows; or a list of n rows
-pub record StructFilled (s places : List ℕ) (k : ℕ) (f₀ f : Filling) : Type 0 where
+pub record StructFilled (s places : List ℕ) (k : ℕ) (f₀ f : State) : Type 0 where
   pub by : (qs : Rows) → Filled s places (own (joined qs) k) f₀ f
 
-pub record ListFilled (s places : List ℕ) (k n : ℕ) (f₀ f : Filling) : Type 0 where
+pub record ListFilled (s places : List ℕ) (k n : ℕ) (f₀ f : State) : Type 0 where
   pub by : (qs : Rows) → count qs ≡ n → Filled s places (own (counted qs) k) f₀ f
 
 -- where the next row of node k goes
@@ -124,30 +128,26 @@ has_offsets SparseUnion = false
 has_offsets Dictionary = false
 has_offsets Runs = false
 
--- The parts of the image that n rows of a string make are to be filled: they stand where the image has them, and hold zeros; no
--- node has rows yet.
-pub record ToFill (s : List ℕ) (n : ℕ) (b places : List ℕ) (f : Filling) : Type 0 where
+-- The parts of the image that n rows of a string make are to be filled: they stand where the image has them, and hold zeros.
+pub record ToFill (s : List ℕ) (n : ℕ) (b places out : List ℕ) : Type 0 where
   pub accepted : check_image s ≡ Ok tt
   pub coded : readable s ≡ true
   pub read : rows_in s n b ≡ parsed (the_rows (rows_in s n b)) []
   pub few : (k : ℕ) → k < node_count s → count (column s (the_rows (rows_in s n b)) k) ≤ most_elements
-  pub places_sized : length places ≡ 769
   pub place : (q : ℕ) → q ≤ 3 * node_count s → get_or places q 0 ≡ part_start s (the_rows (rows_in s n b)) q
-  pub inside : part_start s (the_rows (rows_in s n b)) (3 * node_count s) ≤ length f.out
+  pub inside : part_start s (the_rows (rows_in s n b)) (3 * node_count s) ≤ length out
   pub short : part_start s (the_rows (rows_in s n b)) (3 * node_count s) ≤ longest_image
-  pub blank : (p : ℕ) → part_start s (the_rows (rows_in s n b)) 0 ≤ p → p < part_start s (the_rows (rows_in s n b)) (3 * node_count s) → byte_at f.out p ≡ 0
-  pub rows_none : f.rows ≡ replicate 256 0
-  pub spans_none : f.spans ≡ replicate 256 0
+  pub blank : (p : ℕ) → part_start s (the_rows (rows_in s n b)) 0 ≤ p → p < part_start s (the_rows (rows_in s n b)) (3 * node_count s) → byte_at out p ≡ 0
 
 -- What a walk over rows of a string asks for: the string is read as x, and each node j has room for the rows g j that x gives it.
-pub record ToWalk {A : Type 0} (s places : List ℕ) (p : Parsed A) (x : A) (g : ℕ → Rows) (f : Filling) : Type 0 where
+pub record ToWalk {A : Type 0} (s places : List ℕ) (p : Parsed A) (x : A) (g : ℕ → Rows) (f : State) : Type 0 where
   pub ready : Ready s places f
   pub reads : Reads p x
   pub rooms : Rooms s places g f
 
--- and what it has done at the place e of the string: each node has got its rows, and what follows of the string stands from e on
-pub record Walked {A : Type 0} (s places b : List ℕ) (p : Parsed A) (x : A) (g : ℕ → Rows) (f₀ f : Filling) (e : ℕ) : Type 0 where
-  pub follows : p ≡ parsed x (drop e b)
+-- and what it has done: each node has got its rows, and this is what follows of the string
+pub record Walked {A : Type 0} (s places : List ℕ) (p : Parsed A) (x : A) (g : ℕ → Rows) (f₀ f : State) (rest : List ℕ) : Type 0 where
+  pub follows : p ≡ parsed x rest
   pub filled : Filled s places g f₀ f
 
 -- the rows that a row gives, that n rows give, and that a row of each child gives, as they are read
@@ -161,17 +161,17 @@ rows_give d s k p j = from_each (λ q. gives d s k q j) (the_rows p)
 abbrev pub gap_gives : ℕ → List ℕ → ℕ → ℕ → Rows
 gap_gives d s k j = gives d s k (gap_row s k) j
 
--- a row of node k that starts at a place of the string, and n rows: what their walk asks for, and what it has done
-pub record RowWalk (s places b : List ℕ) (d k at : ℕ) (f : Filling) : Type 0 where
+-- a row of node k with which a string begins, and n rows: what their walk asks for, and what it has done
+pub record RowWalk (s places b : List ℕ) (d k : ℕ) (f : State) : Type 0 where
   pub node : k < node_count s
-  pub walk : ToWalk s places (row_in d s k (drop at b)) (the_row (row_in d s k (drop at b))) (row_gives d s k (row_in d s k (drop at b))) f
+  pub walk : ToWalk s places (row_in d s k b) (the_row (row_in d s k b)) (row_gives d s k (row_in d s k b)) f
 
-pub record RowWalked (s places b : List ℕ) (d k at : ℕ) (f₀ f : Filling) (e : ℕ) : Type 0 where
-  pub done : Walked s places b (row_in d s k (drop at b)) (the_row (row_in d s k (drop at b))) (row_gives d s k (row_in d s k (drop at b))) f₀ f e
+pub record RowWalked (s places b : List ℕ) (d k : ℕ) (f₀ f : State) (rest : List ℕ) : Type 0 where
+  pub done : Walked s places (row_in d s k b) (the_row (row_in d s k b)) (row_gives d s k (row_in d s k b)) f₀ f rest
 
-pub record RowsWalk (s places b : List ℕ) (d k n at : ℕ) (f : Filling) : Type 0 where
+pub record RowsWalk (s places b : List ℕ) (d k n : ℕ) (f : State) : Type 0 where
   pub node : k < node_count s
-  pub walk : ToWalk s places (rows_of (row_in d s k) n (drop at b)) (the_rows (rows_of (row_in d s k) n (drop at b))) (rows_give d s k (rows_of (row_in d s k) n (drop at b))) f
+  pub walk : ToWalk s places (rows_of (row_in d s k) n b) (the_rows (rows_of (row_in d s k) n b)) (rows_give d s k (rows_of (row_in d s k) n b)) f
 
-pub record RowsWalked (s places b : List ℕ) (d k n at : ℕ) (f₀ f : Filling) (e : ℕ) : Type 0 where
-  pub done : Walked s places b (rows_of (row_in d s k) n (drop at b)) (the_rows (rows_of (row_in d s k) n (drop at b))) (rows_give d s k (rows_of (row_in d s k) n (drop at b))) f₀ f e
+pub record RowsWalked (s places b : List ℕ) (d k n : ℕ) (f₀ f : State) (rest : List ℕ) : Type 0 where
+  pub done : Walked s places (rows_of (row_in d s k) n b) (the_rows (rows_of (row_in d s k) n b)) (rows_give d s k (rows_of (row_in d s k) n b)) f₀ f rest

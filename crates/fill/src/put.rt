@@ -1,8 +1,8 @@
 // A row that a node gets: its bit in the bitmap, its value in the node's buffers, and one row more in the node's count.
-ghost use Rattle.std.specs.Prelude.{◌≡◌, ◌∷◌, [], ◌+◌, ◌*◌, ◌/◌, ◌%◌, ◌<◌, ◌≤◌, ◌^◌, length, set};
+ghost use Rattle.std.specs.Prelude.{◌≡◌, ◌∷◌, [], ◌+◌, ◌*◌, ◌/◌, ◌%◌, ◌<◌, ◌≤◌, ◌^◌, length, set, replicate};
 ghost use Rattle.image.specs.declared.type_code.Layout.TheVariants.{Boolean, FixedWidth, VariableSize, List as Lists, Struct};
 ghost use Rattle.image.specs.Of.{◌of◌};
-ghost use Rattle.image.specs.Bytes.{byte_at, number_bytes, bytes_at};
+ghost use Rattle.image.specs.Bytes.{byte_at, number_bytes};
 ghost use Rattle.image.specs.Record.{code_of};
 ghost use Rattle.image.specs.TypeCode.{layout_of};
 ghost use Rattle.image.specs.Element.{element_width};
@@ -10,49 +10,38 @@ ghost use Rattle.image.specs.Row.{fixed, sized};
 ghost use Rattle.image.specs.Built.{gap_row};
 ghost use Rattle.rows.specs.Output.{over};
 ghost use Rattle.built.specs.Walk.{own};
-ghost use Rattle.fill.specs.Filling.{filling, has_offsets, spot_of, Getting, Filled, StructFilled, ListFilled};
+ghost use Rattle.fill.specs.Filling.{has_offsets, spot_of, Getting, Filled, StructFilled, ListFilled, state, SameLent};
 
 use image::record::Node;
 use image::type_code::{Layout, TypeCode};
-use rows::output::{put_bytes, put_number};
+use rows::output::put_number;
+
+// How many entries a table of nodes has, and one of places: three parts for each node, and the image's end.
+pub const MOST_NODES: usize = 256;
+
+pub const MOST_PLACES: usize = 769;
+
+// What an image is filled by: where its parts stand, how many rows each node has got, how far its offsets are, and the buffer.
+#[derive(Drop)]
+pub(crate) struct Filling<'a> {
+    places: &'a [usize; MOST_PLACES],
+    rows: [usize; MOST_NODES],
+    spans: [usize; MOST_NODES],
+    out: &'a mut [u8],
+}
 
 // Where the next row of a node goes: the places of its parts, how many rows it has, and how far its offsets are.
 #[derive(Clone, Copy)]
-pub struct Spot {
-    pub bitmap: usize,
-    pub first: usize,
-    pub second: usize,
-    pub row: usize,
-    pub span: usize,
+struct Spot {
+    bitmap: usize,
+    first: usize,
+    second: usize,
+    row: usize,
+    span: usize,
 }
 
 // The parts of a node: its bitmap, its first and its second buffer.
 const PARTS: usize = 3;
-
-fn spot_of(node: u32, places: &[usize], rows: &[usize], spans: &[usize]) -> Spot
-    requires { (3 * node + 2 < length places.now) × (node < length rows.now) × (node < length spans.now) }
-    ensures { result ≡ spot_of places.now rows.now spans.now node }
-{
-    let k = node as usize;
-    Spot {
-        bitmap: places[PARTS * k],
-        first: places[PARTS * k + 1],
-        second: places[PARTS * k + 2],
-        row: rows[k],
-        span: spans[k],
-    }
-}
-
-// One row more of a node, whose offsets are so far now.
-fn count_row(node: u32, row: usize, span: usize, rows: &mut [usize], spans: &mut [usize])
-    requires { (row < 2 ^ 40) × (node < length rows.old) × (node < length spans.old) }
-    ensures rows_after { rows.new ≡ set rows.old node (row + 1) }
-    ensures spans_after { spans.new ≡ set spans.old node span }
-{
-    let k = node as usize;
-    rows[k] = row + 1;
-    spans[k] = span;
-}
 
 // Sets bit j of the bits that start at a place, where it and those behind it in its byte are 0.
 fn set_bit(out: &mut [u8], place: usize, j: usize)
@@ -63,6 +52,14 @@ fn set_bit(out: &mut [u8], place: usize, j: usize)
     let i = place + j / 8;
     let bit: usize = 1 << (j % 8);
     out[i] = (usize::from(out[i]) + bit) as u8;
+}
+
+// Puts bytes at a place.
+fn put(out: &mut [u8], at: usize, bytes: &[u8])
+    requires { at + length bytes.now ≤ length out.old }
+    ensures { out.new ≡ over out.old at bytes.now }
+{
+    out[at..at + bytes.len()].copy_from_slice(bytes);
 }
 
 // The nodes of a layout have offsets.
@@ -82,125 +79,129 @@ fn put_end(node: Node, first: usize, row: usize, end: usize, out: &mut [u8])
     put_number(out, first + (row + 1) * width, end, width);
 }
 
-// The row under a null: no bit and no value is set, and a text or list is empty.
-pub fn put_gap(
-    node: Node,
-    places: &[usize],
-    rows: &mut [usize],
-    spans: &mut [usize],
-    out: &mut [u8],
-)
-    requires { Getting node.image.now places.now (filling out.old rows.old spans.old) node.number 0 }
-    ensures { Filled node.entry.image.now places.now (own (gap_row of node.entry) node.entry.number) (filling out.old rows.old spans.old) (filling out.new rows.new spans.new) }
-{
-    let spot = spot_of(node.number, places, rows, spans);
-    if has_offsets(TypeCode::layout(node.code())) {
-        put_end(node, spot.first, spot.row, spot.span, out);
-        count_row(node.number, spot.row, spot.span, rows, spans);
-        return;
+impl<'a> Filling<'a> {
+    // No node has rows yet.
+    pub(crate) fn new(places: &'a [usize; MOST_PLACES], out: &'a mut [u8]) -> Filling<'a>
+        ensures lent { (result.places.now ≡ places.now) × (result.out.ghost_name ≡ out.entry.ghost_name) × (result.out.now ≡ out.old) }
+        ensures none_yet { (result.rows ≡ replicate 256 0) × (result.spans ≡ replicate 256 0) }
+    {
+        Filling {
+            places,
+            rows: [0; MOST_NODES],
+            spans: [0; MOST_NODES],
+            out,
+        }
     }
-    count_row(node.number, spot.row, spot.span, rows, spans);
-}
 
-// A Struct's row that is not null: its bit.
-pub fn put_struct(
-    node: Node,
-    places: &[usize],
-    rows: &mut [usize],
-    spans: &mut [usize],
-    out: &mut [u8],
-)
-    requires node_value { layout_of (code_of of node) ≡ Struct }
-    requires getting { Getting node.image.now places.now (filling out.old rows.old spans.old) node.number 0 }
-    ensures { StructFilled node.entry.image.now places.now node.entry.number (filling out.old rows.old spans.old) (filling out.new rows.new spans.new) }
-{
-    let spot = spot_of(node.number, places, rows, spans);
-    set_bit(out, spot.bitmap, spot.row);
-    count_row(node.number, spot.row, spot.span, rows, spans);
-}
-
-// A Boolean: its bit in the bitmap, and its value's.
-pub fn put_boolean(
-    node: Node,
-    x: u8,
-    places: &[usize],
-    rows: &mut [usize],
-    spans: &mut [usize],
-    out: &mut [u8],
-)
-    requires node_value { layout_of (code_of of node) ≡ Boolean }
-    requires x_bound { x ≤ 1 }
-    requires getting { Getting node.image.now places.now (filling out.old rows.old spans.old) node.number 0 }
-    ensures { Filled node.entry.image.now places.now (own (fixed (x ∷ [])) node.entry.number) (filling out.old rows.old spans.old) (filling out.new rows.new spans.new) }
-{
-    let spot = spot_of(node.number, places, rows, spans);
-    set_bit(out, spot.bitmap, spot.row);
-    count_row(node.number, spot.row, spot.span, rows, spans);
-    if x == 1 {
-        set_bit(out, spot.first, spot.row);
+    fn spot_of(&self, node: Node) -> Spot
+        requires { node.number < 256 }
+        ensures { result ≡ spot_of self.now.places.now self.now.rows self.now.spans node.entry.number }
+    {
+        let k = node.number as usize;
+        Spot {
+            bitmap: self.places[PARTS * k],
+            first: self.places[PARTS * k + 1],
+            second: self.places[PARTS * k + 2],
+            row: self.rows[k],
+            span: self.spans[k],
+        }
     }
-}
 
-// A value of a fixed width: its bit, and its bytes, which stand at a place of the string.
-pub fn put_fixed(
-    node: Node,
-    b: &[u8],
-    at: usize,
-    width: usize,
-    places: &[usize],
-    rows: &mut [usize],
-    spans: &mut [usize],
-    out: &mut [u8],
-)
-    requires node_value { layout_of (code_of of node) ≡ FixedWidth }
-    requires width_value { (width ≡ element_width of node) × (at + width ≤ length b.now) }
-    requires getting { Getting node.image.now places.now (filling out.old rows.old spans.old) node.number 0 }
-    ensures { Filled node.entry.image.now places.now (own (fixed (bytes_at b.now at width)) node.entry.number) (filling out.old rows.old spans.old) (filling out.new rows.new spans.new) }
-{
-    let spot = spot_of(node.number, places, rows, spans);
-    set_bit(out, spot.bitmap, spot.row);
-    put_bytes(out, spot.first + spot.row * width, b, at, width);
-    count_row(node.number, spot.row, spot.span, rows, spans);
-}
+    // One row more of a node, whose offsets are so far now.
+    fn count_row(&mut self, node: Node, row: usize, span: usize)
+        requires { (row < 2 ^ 40) × (node.number < 256) }
+        ensures same { SameLent self.old self.new }
+        ensures out_after { self.new.out.now ≡ self.old.out.now }
+        ensures rows_after { self.new.rows ≡ set self.old.rows node.entry.number (row + 1) }
+        ensures spans_after { self.new.spans ≡ set self.old.spans node.entry.number span }
+    {
+        let k = node.number as usize;
+        self.rows[k] = row + 1;
+        self.spans[k] = span;
+    }
 
-// A text: its bit, its end among the offsets, and its n bytes, which stand at a place of the string.
-pub fn put_text(
-    node: Node,
-    b: &[u8],
-    at: usize,
-    n: usize,
-    places: &[usize],
-    rows: &mut [usize],
-    spans: &mut [usize],
-    out: &mut [u8],
-)
-    requires node_value { layout_of (code_of of node) ≡ VariableSize }
-    requires n_in_bounds { at + n ≤ length b.now }
-    requires getting { Getting node.image.now places.now (filling out.old rows.old spans.old) node.number n }
-    ensures { Filled node.entry.image.now places.now (own (sized (bytes_at b.now at n)) node.entry.number) (filling out.old rows.old spans.old) (filling out.new rows.new spans.new) }
-{
-    let spot = spot_of(node.number, places, rows, spans);
-    set_bit(out, spot.bitmap, spot.row);
-    put_end(node, spot.first, spot.row, spot.span + n, out);
-    put_bytes(out, spot.second + spot.span, b, at, n);
-    count_row(node.number, spot.row, spot.span + n, rows, spans);
-}
+    // The row under a null: no bit and no value is set, and a text or list is empty.
+    pub(crate) fn put_gap(&mut self, node: Node)
+        requires { Getting node.image.now self.old.places.now (state self.old) node.number 0 }
+        ensures same { SameLent self.old self.new }
+        ensures filled { Filled node.entry.image.now self.old.places.now (own (gap_row of node.entry) node.entry.number) (state self.old) (state self.new) }
+    {
+        let spot = self.spot_of(node);
+        let layout = TypeCode::layout(node.code());
+        if has_offsets(layout) {
+            put_end(node, spot.first, spot.row, spot.span, self.out);
+        }
+        self.count_row(node, spot.row, spot.span);
+    }
 
-// A list of n rows: its bit, and its end among the offsets.
-pub fn put_list(
-    node: Node,
-    n: usize,
-    places: &[usize],
-    rows: &mut [usize],
-    spans: &mut [usize],
-    out: &mut [u8],
-)
-    requires node_value { layout_of (code_of of node) ≡ Lists }
-    requires getting { Getting node.image.now places.now (filling out.old rows.old spans.old) node.number n }
-    ensures { ListFilled node.entry.image.now places.now node.entry.number n (filling out.old rows.old spans.old) (filling out.new rows.new spans.new) }
-{
-    let spot = spot_of(node.number, places, rows, spans);
-    set_bit(out, spot.bitmap, spot.row);
-    put_end(node, spot.first, spot.row, spot.span + n, out);
-    count_row(node.number, spot.row, spot.span + n, rows, spans);
+    // A Struct's row that is not null: its bit.
+    pub(crate) fn put_struct(&mut self, node: Node)
+        requires node_value { layout_of (code_of of node) ≡ Struct }
+        requires getting { Getting node.image.now self.old.places.now (state self.old) node.number 0 }
+        ensures same { SameLent self.old self.new }
+        ensures filled { StructFilled node.entry.image.now self.old.places.now node.entry.number (state self.old) (state self.new) }
+    {
+        let spot = self.spot_of(node);
+        set_bit(self.out, spot.bitmap, spot.row);
+        self.count_row(node, spot.row, spot.span);
+    }
+
+    // A Boolean: its bit in the bitmap, and its value's.
+    pub(crate) fn put_boolean(&mut self, node: Node, x: u8)
+        requires node_value { layout_of (code_of of node) ≡ Boolean }
+        requires x_bound { x ≤ 1 }
+        requires getting { Getting node.image.now self.old.places.now (state self.old) node.number 0 }
+        ensures same { SameLent self.old self.new }
+        ensures filled { Filled node.entry.image.now self.old.places.now (own (fixed (x ∷ [])) node.entry.number) (state self.old) (state self.new) }
+    {
+        let spot = self.spot_of(node);
+        set_bit(self.out, spot.bitmap, spot.row);
+        self.count_row(node, spot.row, spot.span);
+        if x == 1 {
+            set_bit(self.out, spot.first, spot.row);
+        }
+    }
+
+    // A value of a fixed width: its bit, and its bytes.
+    pub(crate) fn put_fixed(&mut self, node: Node, value: &[u8])
+        requires node_value { layout_of (code_of of node) ≡ FixedWidth }
+        requires width { length value.now ≡ (element_width of node) }
+        requires getting { Getting node.image.now self.old.places.now (state self.old) node.number 0 }
+        ensures same { SameLent self.old self.new }
+        ensures filled { Filled node.entry.image.now self.old.places.now (own (fixed value.now) node.entry.number) (state self.old) (state self.new) }
+    {
+        let spot = self.spot_of(node);
+        set_bit(self.out, spot.bitmap, spot.row);
+        put(self.out, spot.first + spot.row * value.len(), value);
+        self.count_row(node, spot.row, spot.span);
+    }
+
+    // A text: its bit, its end among the offsets, and its bytes.
+    pub(crate) fn put_text(&mut self, node: Node, text: &[u8])
+        requires node_value { layout_of (code_of of node) ≡ VariableSize }
+        requires getting { Getting node.image.now self.old.places.now (state self.old) node.number (length text.now) }
+        ensures same { SameLent self.old self.new }
+        ensures filled { Filled node.entry.image.now self.old.places.now (own (sized text.now) node.entry.number) (state self.old) (state self.new) }
+    {
+        let spot = self.spot_of(node);
+        let end = spot.span + text.len();
+        set_bit(self.out, spot.bitmap, spot.row);
+        put_end(node, spot.first, spot.row, end, self.out);
+        put(self.out, spot.second + spot.span, text);
+        self.count_row(node, spot.row, end);
+    }
+
+    // A list of n rows: its bit, and its end among the offsets.
+    pub(crate) fn put_list(&mut self, node: Node, n: usize)
+        requires node_value { layout_of (code_of of node) ≡ Lists }
+        requires getting { Getting node.image.now self.old.places.now (state self.old) node.number n }
+        ensures same { SameLent self.old self.new }
+        ensures filled { ListFilled node.entry.image.now self.old.places.now node.entry.number n (state self.old) (state self.new) }
+    {
+        let spot = self.spot_of(node);
+        let end = spot.span + n;
+        set_bit(self.out, spot.bitmap, spot.row);
+        put_end(node, spot.first, spot.row, end, self.out);
+        self.count_row(node, spot.row, end);
+    }
 }

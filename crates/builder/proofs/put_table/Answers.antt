@@ -1,17 +1,20 @@
 -- `put_table` puts the image: its front, zeros behind it, and the parts over them.
 -- The parts begin where the front ends, and take as many bytes as there are zeros.
-use mathlib.Core.Path.{refl}
+use Rattle.builder.proofs.Fields.{zeros_over}
 use Rattle.builder.proofs.Tables.{laid_rise, laid_front, laid_clear, laid_fill, laid_put}
 use Rattle.builder.proofs.put_table.Goals as goal
 
 pub put_front-parts-requires : goal.put_front-parts-requires
-put_front-parts-requires c = record { image_value = (c.requires.accepted, c.requires.coded); rise = (laid_rise c.requires, c.requires.lengths_sized); fits = laid_front c.requires }
+put_front-parts-requires c = record { image_value = (c.requires.accepted, c.requires.coded); rise = laid_rise c.requires; fits = laid_front c.requires }
 
-pub clear-requires : goal.clear-requires
-clear-requires c = laid_clear c.requires (c.put_front-parts.ensures.value, c.put_front-parts.ensures.out_after)
+pub slice_bounds-fill-end : goal.slice_bounds-fill-end
+slice_bounds-fill-end c = (laid_clear c.requires (c.put_front-parts.ensures.value, c.put_front-parts.ensures.out_after)).1
 
-pub fill-requires : goal.fill-requires
-fill-requires c = laid_fill c.requires (c.put_front-parts.ensures.value, c.put_front-parts.ensures.out_after) c.clear.ensures refl refl
+pub slice_bounds-fill-start : goal.slice_bounds-fill-start
+slice_bounds-fill-start c = (laid_clear c.requires (c.put_front-parts.ensures.value, c.put_front-parts.ensures.out_after)).0
+
+pub fill-requires-2 : goal.fill-requires-2
+fill-requires-2 c = laid_fill c.requires (c.put_front-parts.ensures.value, c.put_front-parts.ensures.out_after) (zeros_over _ _ _ (laid_clear c.requires (c.put_front-parts.ensures.value, c.put_front-parts.ensures.out_after)) (c.fill.ensures.after (λ y e. e)))
 
 pub returns : goal.returns
-returns c = laid_put c.requires (c.put_front-parts.ensures.value, c.put_front-parts.ensures.out_after) c.clear.ensures c.fill.ensures
+returns c = laid_put c.requires (c.put_front-parts.ensures.value, c.put_front-parts.ensures.out_after) (zeros_over _ _ _ (laid_clear c.requires (c.put_front-parts.ensures.value, c.put_front-parts.ensures.out_after)) (c.fill.ensures.after (λ y e. e))) c.fill-2.ensures

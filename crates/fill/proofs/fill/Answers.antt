@@ -1,20 +1,12 @@
 -- `fill` fills the parts with the rows of the whole string.
--- The walk over the rows of the root, from zeros to what each node's rows make.
+-- The walk over the rows of the root, from zeros to what each node's rows make. The buffer that the filling holds is the one that is lent.
 use native.Mathlib.Omega.{arith}
+use mathlib.Core.Path.{sym, ◌∙◌}
 use Rattle.fill.proofs.Whole.{whole_walk, parts_filled}
 use Rattle.fill.proofs.fill.Goals as goal
 
 pub fill_rows-requires : goal.fill_rows-requires
-fill_rows-requires c = whole_walk c.requires (λ k. omega (arith, c.shared_slice_known-2-1.given k))
-
-pub shape_of-rows : goal.shape_of-rows
-shape_of-rows c = c.fill_rows.ensures.done.filled.rows_long
-
-pub shape_of-spans : goal.shape_of-spans
-shape_of-spans c = c.fill_rows.ensures.done.filled.spans_long
-
-pub shape_of-out : goal.shape_of-out
-shape_of-out c = c.fill_rows.ensures.done.filled.long
+fill_rows-requires c = whole_walk (rw (c.new-filling.ensures.lent.0, c.new-filling.ensures.lent.2) c.requires) (λ k. omega (arith, c.type_inv.b k)) c.new-filling.ensures.none_yet.0 c.new-filling.ensures.none_yet.1
 
 pub returns : goal.returns
-returns c = parts_filled c.requires (λ k. omega (arith, c.shared_slice_known-2-1.given k)) c.fill_rows.ensures
+returns c = c.out-1.given.1.1 (sym (c.fill_rows.ensures.same.out ∙ c.new-filling.ensures.lent.1)) ∙ (rw c.new-filling.ensures.lent.2 at (parts_filled (rw (c.new-filling.ensures.lent.0, c.new-filling.ensures.lent.2) c.requires) (λ k. omega (arith, c.type_inv.b k)) c.new-filling.ensures.none_yet.0 c.new-filling.ensures.none_yet.1 c.fill_rows.ensures.walked))

@@ -8,11 +8,11 @@ use Rattle.builder.proofs.Fronts.{entry_length}
 use native.Mathlib.Omega.{arith}
 use Rattle.builder.proofs.front.put_entry.Goals as goal
 
-pub offset_bounds-places-q : goal.offset_bounds-places-q
-offset_bounds-places-q c = omega (arith, c.requires.rise.2)
+pub offset_bounds-plan-q : goal.offset_bounds-plan-q
+offset_bounds-plan-q c = omega (arith, c.requires.rise.2)
 
-pub bounds-places-q : goal.bounds-places-q
-bounds-places-q c = omega (arith, c.requires.rise.2, c.requires.rise.0.sized)
+pub bounds-plan-q : goal.bounds-plan-q
+bounds-plan-q c = omega (arith, c.requires.rise.2)
 
 pub put_number-next-requires : goal.put_number-next-requires
 put_number-next-requires c = omega (arith, fits_sized (entry_length _ _) c.requires.fits)

@@ -15,7 +15,7 @@ pub put_records-entries-requires : goal.put_records-entries-requires
 put_records-entries-requires c = record { tables = (accepted _ c.requires.image_value.0).tables; rise = c.requires.rise; fits = records_fit _ _ _ c.requires.fits c.node_count.ensures.value (c.put_number-buffers.ensures.value, c.put_number-buffers.ensures.out_after) c.buffer_total.ensures.value (c.put_number-records.ensures.value, c.put_number-records.ensures.out_after) }
 
 pub put_all_entries-names-requires : goal.put_all_entries-names-requires
-put_all_entries-names-requires c = record { image_value = c.requires.image_value; rise = c.requires.rise.0; fits = entries_fit _ _ _ c.requires.fits c.node_count.ensures.value (c.put_number-buffers.ensures.value, c.put_number-buffers.ensures.out_after) c.buffer_total.ensures.value (c.put_number-records.ensures.value, c.put_number-records.ensures.out_after) (c.put_records-entries.ensures.value, c.put_records-entries.ensures.out_after) }
+put_all_entries-names-requires c = record { image_value = c.requires.image_value; rise = c.requires.rise; fits = entries_fit _ _ _ c.requires.fits c.node_count.ensures.value (c.put_number-buffers.ensures.value, c.put_number-buffers.ensures.out_after) c.buffer_total.ensures.value (c.put_number-records.ensures.value, c.put_number-records.ensures.out_after) (c.put_records-entries.ensures.value, c.put_records-entries.ensures.out_after) }
 
 pub put_names-requires : goal.put_names-requires
 put_names-requires c = record { image_value = c.requires.image_value.0; fits = names_fit _ _ _ c.requires.fits c.node_count.ensures.value (c.put_number-buffers.ensures.value, c.put_number-buffers.ensures.out_after) c.buffer_total.ensures.value (c.put_number-records.ensures.value, c.put_number-records.ensures.out_after) (c.put_records-entries.ensures.value, c.put_records-entries.ensures.out_after) (c.put_all_entries-names.ensures.value, c.put_all_entries-names.ensures.out_after) }

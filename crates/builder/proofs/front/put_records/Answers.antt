@@ -10,7 +10,7 @@ pub loop-k-init : goal.loop-k-init
 loop-k-init c = (pieces_start _ _ _ c.requires.fits, names_start _ c.requires.tables c.tables_end-name.ensures.value)
 
 pub put_record-next-requires : goal.put_record-next-requires
-put_record-next-requires c = record { node_from = record { node = omega (arith, c.loop-k-test.true, c.node_count-n.ensures.value); few = c.requires.tables.few_nodes; sized = c.requires.rise.1; risen = c.requires.rise.0 }; name_value = c.loop-k.invariant.1.start; fits = piece_fits c.loop-k.invariant.0 (omega (arith, c.loop-k-test.true, c.node_count-n.ensures.value)) }
+put_record-next-requires c = record { node_from = record { node = omega (arith, c.loop-k-test.true, c.node_count-n.ensures.value); few = c.requires.tables.few_nodes; risen = c.requires.rise }; name_value = c.loop-k.invariant.1.start; fits = piece_fits c.loop-k.invariant.0 (omega (arith, c.loop-k-test.true, c.node_count-n.ensures.value)) }
 
 pub overflow_add-name : goal.overflow_add-name
 overflow_add-name c = omega (arith, c.loop-k.invariant.1.near, c.loop-k-test.true, c.node_count-n.ensures.small, c.name_length-name.ensures.small)

@@ -7,4 +7,4 @@ use Rattle.builder.proofs.Planning.{Names}
 use Rattle.builder.proofs.front.put_records.Given as goal
 
 abbrev pub invariant-loop-k : goal.invariant-loop-k
-invariant-loop-k l = PiecesToPut (record_from l.image l.lengths l.places) 0 (node_count l.image) l.initial.out l.at l.out l.next l.k × Names l.image l.name l.k
+invariant-loop-k l = PiecesToPut (record_from l.image l.plan.lengths l.plan.places) 0 (node_count l.image) l.initial.out l.at l.out l.next l.k × Names l.image l.name l.k

@@ -8,11 +8,11 @@ use Rattle.builder.proofs.Fronts.{row_length}
 use native.Mathlib.Omega.{arith}
 use Rattle.builder.proofs.front.put_rows.Goals as goal
 
-pub offset_bounds-lengths-k : goal.offset_bounds-lengths-k
-offset_bounds-lengths-k c = omega (arith, c.requires.node_from.node, c.requires.node_from.few)
+pub offset_bounds-plan-k : goal.offset_bounds-plan-k
+offset_bounds-plan-k c = omega (arith, c.requires.node_from.node, c.requires.node_from.few)
 
-pub bounds-lengths-k : goal.bounds-lengths-k
-bounds-lengths-k c = omega (arith, c.requires.node_from.node, c.requires.node_from.few, c.requires.node_from.sized)
+pub bounds-plan-k : goal.bounds-plan-k
+bounds-plan-k c = omega (arith, c.requires.node_from.node, c.requires.node_from.few)
 
 pub put_number-a-requires : goal.put_number-a-requires
 put_number-a-requires c = omega (arith, fits_sized (row_length _ _ _ _) c.requires.fits)
@@ -27,7 +27,7 @@ pub put_number-c-requires : goal.put_number-c-requires
 put_number-c-requires c = omega (arith, fits_sized (row_length _ _ _ _) c.requires.fits, c.put_number-a.ensures.value, c.put_number-a.auto.out, c.put_number-b.ensures.value, c.put_number-b.auto.out)
 
 pub bitmap_from-requires : goal.bitmap_from-requires
-bitmap_from-requires c = (omega (arith, c.requires.node_from.node, c.requires.node_from.few), c.requires.node_from.risen.sized)
+bitmap_from-requires c = omega (arith, c.requires.node_from.node, c.requires.node_from.few)
 
 pub put_number-d-requires : goal.put_number-d-requires
 put_number-d-requires c = omega (arith, fits_sized (row_length _ _ _ _) c.requires.fits, c.put_number-a.ensures.value, c.put_number-a.auto.out, c.put_number-b.ensures.value, c.put_number-b.auto.out, c.put_number-c.ensures.value, c.put_number-c.auto.out)

@@ -1,0 +1,22 @@
+-- `part_size` answers the bytes of a part.
+-- The part of the node says which of the three it is.
+use borrow.Author.Tests.{ne_eqb}
+use Rattle.builder.specs.Plan.{size_of, part_size}
+use Rattle.builder.proofs.Sizes.{width_most}
+use native.Mathlib.Omega.{arith}
+use Rattle.builder.proofs.plan.Plan.part_size.Goals as goal
+
+pub returns-in-0 : goal.returns-in-0
+unfolding part_size size_of
+returns-in-0 c = rw (c.in-0.is, ← c.code-code.ensures.value) c.bitmap_size.ensures
+
+pub first_size-requires : goal.first_size-requires
+first_size-requires c = (rw c.element_width.ensures (width_most _ _ (c.requires.accepted_image.0.node _ (omega (arith, c.requires.accepted_image.1))).known), c.requires.q_bound)
+
+pub returns-in-1 : goal.returns-in-1
+unfolding part_size size_of
+returns-in-1 c = rw (c.in-1.is, ← c.code-code.ensures.value, ← c.element_width.ensures) c.first_size.ensures
+
+pub returns-in_default : goal.returns-in_default
+unfolding part_size size_of
+returns-in_default c = rw (ne_eqb _ _ c.in_default.in_default-own.rest.0.1, ne_eqb _ _ c.in_default.in_default-own.rest.1, ← c.code-code.ensures.value) c.second_size.ensures

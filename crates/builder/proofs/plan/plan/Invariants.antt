@@ -1,7 +1,0 @@
--- `plan` gives the places of the parts and answers the size of the image.
--- The loop keeps the places up to part q; a refusal needs no table.
-use Rattle.builder.proofs.Planning.{Planning}
-use Rattle.builder.proofs.plan.plan.Given as goal
-
-abbrev pub invariant-loop-q : goal.invariant-loop-q
-invariant-loop-q l = Planning l.image l.lengths l.spans l.places l.place l.q
