@@ -17,6 +17,7 @@ use image::answer::{Fault, Side};
 use image::record::{MAX_DEPTH, MOST_NODES, Node};
 use names::maps_named;
 use rows::measure::measure_rows;
+use rows::output::Output;
 use rows::write::write_rows;
 use values::pair::Rows;
 use values::types::same_types;
@@ -227,7 +228,9 @@ pub fn write(
     let Some(rest) = measure_rows(table, start, count, MAX_DEPTH, &mut runs, room) else {
         return Err(WriteRefusal::TooLong);
     };
-    Ok(write_rows(table, start, count, MAX_DEPTH, &mut runs, out, 0))
+    let mut rows = Output { bytes: out, at: 0 };
+    write_rows(table, start, count, MAX_DEPTH, &mut runs, &mut rows);
+    Ok(rows.at)
 }
 
 // Builds the table of `count` rows of the type that an image has, which `rows` is by the row rule; its image goes to the front

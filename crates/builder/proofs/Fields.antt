@@ -9,7 +9,6 @@ use lib.ListN.{length, drop, replicate, length-drop, length-replicate}
 use lib.Seq.{drop-drop, length-take-le}
 use borrow.Rule.Slice.PartMut.{mid_of, put_mid}
 use Rattle.image.specs.Bytes.{number_bytes}
-use Rattle.laws.proofs.Lengths.{number_length}
 use Rattle.rows.specs.Output.{over, Fits}
 use Rattle.rows.proofs.Over.{ToPut, put_start, put_as, put_more, put_last, PiecesToPut, pieces_fit, pieces_more}
 
@@ -22,16 +21,13 @@ pub fits_sized : {out bytes : List ℕ} {at n : ℕ} → length bytes ≡ n → 
 fits_sized e fits = omega (arith, e, fits.within)
 
 -- Numbers.
-number_end : (w x next end : ℕ) → end ≡ next + w → end ≡ next + length (number_bytes w x)
-number_end w x next end e = omega (arith, e, number_length w x)
-
-module _ {out₀ whole out : List ℕ} {at next : ℕ} (w x y : ℕ) (e : x ≡ y) {after : List ℕ} {end : ℕ} (f : (end ≡ next + w) × (after ≡ over out next (number_bytes w x))) where
+module _ {out₀ whole out : List ℕ} {at next : ℕ} (w x y : ℕ) (e : x ≡ y) {after : List ℕ} {end : ℕ} (f : (end ≡ next + length (number_bytes w x)) × (after ≡ over out next (number_bytes w x))) where
   pub number_put : {rest : List ℕ} → ToPut out₀ at whole out next (number_bytes w y ++ rest) → ToPut out₀ at whole after end rest
-  number_put {rest} t = put_more (number_bytes w x) rest (put_as t (ap (λ (n : ℕ). number_bytes w n ++ rest) (sym e))) f.1 (number_end w x next end f.0)
+  number_put {rest} t = put_more (number_bytes w x) rest (put_as t (ap (λ (n : ℕ). number_bytes w n ++ rest) (sym e))) f.1 f.0
 
   -- the last of them
   pub number_last : ToPut out₀ at whole out next (number_bytes w y) → (end ≡ at + length whole) × (after ≡ over out₀ at whole)
-  number_last t = put_last (put_as t (ap (number_bytes w) (sym e))) f.1 (number_end w x next end f.0)
+  number_last t = put_last (put_as t (ap (number_bytes w) (sym e))) f.1 f.0
 
 -- Pieces, the first of them piece 0.
 module _ {p : ℕ → List ℕ} {n : ℕ} {out₀ : List ℕ} {at : ℕ} {out : List ℕ} {next k : ℕ} (t : PiecesToPut p 0 n out₀ at out next k) (lt : k < n) where

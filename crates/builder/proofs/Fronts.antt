@@ -86,9 +86,9 @@ module _ (s : List ℕ) (k : ℕ) {out : List ℕ} {at : ℕ} (fits : Fits out a
   unfolding name_of
   name_fits e = omega (arith, e, fits.within, bytes_length s (name_place s k) (name_length s k))
 
-  pub name_put : {n place end : ℕ} {after : List ℕ} → n ≡ name_length s k → place ≡ name_place s k → (end ≡ at + n) × (after ≡ over out at (bytes_at s place n)) → (end ≡ at + length (name_of s k)) × (after ≡ over out at (name_of s k))
+  pub name_put : {n place end : ℕ} {after : List ℕ} → n ≡ name_length s k → place ≡ name_place s k → (end ≡ at + length (bytes_at s place n)) × (after ≡ over out at (bytes_at s place n)) → (end ≡ at + length (name_of s k)) × (after ≡ over out at (name_of s k))
   unfolding name_of
-  name_put e f put = (omega (arith, put.0, e, bytes_length s (name_place s k) (name_length s k)), rw (← e, ← f) put.1)
+  name_put e f put = (rw (← e, ← f) put.0, rw (← e, ← f) put.1)
 
 -- Header, records, entries and names.
 module _ (s lengths places : List ℕ) where
@@ -114,7 +114,7 @@ module _ (s lengths places : List ℕ) where
         let rest : List ℕ = records ++ (tables ++ names) in
         omega (arith, front_start.fits, length-append (number_bytes 2 (node_count s)) (number_bytes 2 (buffer_total s) ++ rest), length-append (number_bytes 2 (buffer_total s)) rest, number_length 2 (node_count s), number_length 2 (buffer_total s))
 
-    module _ {n a m b : ℕ} {o₁ o₂ : List ℕ} (nodes : n ≡ node_count s) (first : (a ≡ 0 + 2) × (o₁ ≡ over out 0 (number_bytes 2 n))) (buffers : m ≡ buffer_total s) (second : (b ≡ a + 2) × (o₂ ≡ over o₁ a (number_bytes 2 m))) where
+    module _ {n a m b : ℕ} {o₁ o₂ : List ℕ} (nodes : n ≡ node_count s) (first : (a ≡ 0 + length (number_bytes 2 n)) × (o₁ ≡ over out 0 (number_bytes 2 n))) (buffers : m ≡ buffer_total s) (second : (b ≡ a + length (number_bytes 2 m)) × (o₂ ≡ over o₁ a (number_bytes 2 m))) where
       header_put : Rest out o₂ b (records ++ (tables ++ names))
       header_put = number_put 2 m (buffer_total s) buffers second (number_put 2 n (node_count s) nodes first front_start)
 

@@ -17,8 +17,8 @@ use crate::front::put_front;
 use crate::plan::Plan;
 use answers::BuildRefusal;
 use fill::fill;
-use fill::put::{MOST_NODES, MOST_PLACES};
-use image::record::{Node, all_nodes};
+use fill::put::MOST_PLACES;
+use image::record::{MOST_NODES, Node, all_nodes};
 use image::type_code::TypeCode;
 use parse::is_rows;
 

@@ -9,8 +9,8 @@ ghost use Rattle.image.specs.Built.{name_start};
 ghost use Rattle.laws.specs.Accepted.{Tables, AcceptedImage};
 ghost use Rattle.builder.specs.Plan.{Lengths, child_rows, bit_bytes, bitmap_size, first_size, second_size, part_size, too_many, PlanOf};
 
-use fill::put::{MOST_NODES, MOST_PLACES};
-use image::record::{LONGEST_IMAGE, MOST_ELEMENTS, Node, node_count, tables_end};
+use fill::put::MOST_PLACES;
+use image::record::{LONGEST_IMAGE, MOST_ELEMENTS, MOST_NODES, Node, node_count, tables_end};
 use image::type_code::{Layout, TypeCode};
 
 // What a built image is put by: how many rows each node has, how far its offsets go on in all (its span), and where each part

@@ -12,14 +12,15 @@ ghost use Rattle.rows.specs.Output.{over};
 ghost use Rattle.built.specs.Walk.{own};
 ghost use Rattle.fill.specs.Filling.{has_offsets, spot_of, Getting, Filled, StructFilled, ListFilled, state, SameLent};
 
-use image::record::Node;
+use image::record::{MOST_NODES, Node};
 use image::type_code::{Layout, TypeCode};
-use rows::output::put_number;
+use rows::output::Output;
 
-// How many entries a table of nodes has, and one of places: three parts for each node, and the image's end.
-pub const MOST_NODES: usize = 256;
+// The parts of a node: its bitmap, its first and its second buffer.
+const PARTS: usize = 3;
 
-pub const MOST_PLACES: usize = 769;
+// How many places an image has at most: one for each part of a node, and its end.
+pub const MOST_PLACES: usize = PARTS * MOST_NODES + 1;
 
 // What an image is filled by: where its parts stand, how many rows each node has got, how far its offsets are, and the buffer.
 #[derive(Drop)]
@@ -39,9 +40,6 @@ struct Spot {
     row: usize,
     span: usize,
 }
-
-// The parts of a node: its bitmap, its first and its second buffer.
-const PARTS: usize = 3;
 
 // Sets bit j of the bits that start at a place, where it and those behind it in its byte are 0.
 fn set_bit(out: &mut [u8], place: usize, j: usize)
@@ -76,7 +74,11 @@ fn put_end(node: Node, first: usize, row: usize, end: usize, out: &mut [u8])
     ensures { out.new ≡ over out.old (first + (row + 1) * (element_width of node.entry)) (number_bytes (element_width of node.entry) end) }
 {
     let width = node.element_width();
-    put_number(out, first + (row + 1) * width, end, width);
+    let mut ends = Output {
+        bytes: out,
+        at: first + (row + 1) * width,
+    };
+    ends.put_number(end, width);
 }
 
 impl<'a> Filling<'a> {

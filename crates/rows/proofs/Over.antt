@@ -7,14 +7,14 @@ use native.Mathlib.Omega.{arith}
 use lib.ListN.{length, take, drop, set, length-append, length-drop, take-append-drop, get_or-append}
 use lib.Seq.{paste, length-take-le, take_at, drop_at, drop-cons, drop-drop, take-append_seam, get_or-take, set_split}
 use borrow.Rule.Slice.PartMut.{put_mid}
-use Rattle.std.specs.List.{between}
 use Rattle.image.specs.Ranges.{pieces}
 use Rattle.image.specs.Bytes.{byte_at, number_bytes, bytes_at}
 use Rattle.image.specs.Row.{row_at}
 use Rattle.image.specs.RowBytes.{row_bytes}
 use Rattle.laws.proofs.Lengths.{number_length, bytes_length}
 use Rattle.rows.specs.declared.value.Value.{Value}
-use Rattle.rows.specs.Output.{over, Fits}
+use Rattle.rows.specs.declared.output.Output.{Output}
+use Rattle.rows.specs.Output.{over, Fits, Put}
 use Rattle.rows.specs.Value.{front_bytes, own_bytes}
 use Rattle.rows.proofs.Joined.{joined_start, joined_next, joined_end, number_next}
 use Rattle.rows.proofs.RowParts.{RowValue, children_bytes, own_length}
@@ -187,18 +187,23 @@ module _ {w x : ℕ} {out₀ : List ℕ} {at : ℕ} {out : List ℕ} {rest k : �
       let e : w - k ≡ 0 = omega arith in
       put_done (rw e at t.put)
 
--- Bytes of an image, as the library copies them over a part of the buffer, and bytes of the buffer itself.
-module _ (out s : List ℕ) (at place n : ℕ) (inside : place + n ≤ length s) where
-  pub copied : {part : List ℕ} → part ≡ between place (place + n) s → put_mid at (at + n - at) out part ≡ over out at (bytes_at s place n)
-  unfolding over
-  copied e =
-      let a : at + n - at ≡ n = omega arith in
-      let b : place + n - place ≡ n = omega arith in
-      rw (e, a, b, bytes_length s place n, bytes_taken n place s inside, drop-drop n at out)
+-- Bytes that the library copies over a part of a buffer.
+pub part_over : (out : List ℕ) (at : ℕ) (bytes : List ℕ) {part : List ℕ} → part ≡ bytes → put_mid at (at + length bytes - at) out part ≡ over out at bytes
+unfolding over
+part_over out at bytes e =
+    let a : at + length bytes - at ≡ length bytes = omega arith in
+    rw (e, a, drop-drop (length bytes) at out)
 
-  pub pasted : {after : List ℕ} → after ≡ paste out at (drop place s) (place + n - place) → after ≡ over out at (bytes_at s place n)
+-- Bytes of an image, as a slice lends them, and bytes of the buffer itself, as the library copies them.
+module _ (s : List ℕ) (place n : ℕ) (inside : place + n ≤ length s) where
+  pub lent_bytes : take (place + n - place) (drop place s) ≡ bytes_at s place n
+  lent_bytes =
+      let b : place + n - place ≡ n = omega arith in
+      rw (b, bytes_taken n place s inside)
+
+  pub pasted : (out : List ℕ) (at : ℕ) {after : List ℕ} → after ≡ paste out at (drop place s) (place + n - place) → after ≡ over out at (bytes_at s place n)
   unfolding over
-  pasted e =
+  pasted out at e =
       let b : place + n - place ≡ n = omega arith in
       rw (e, b, bytes_length s place n, bytes_taken n place s inside) (append_assoc (take at out) (take n (drop place s)) (drop (at + n) out))
 
@@ -210,9 +215,9 @@ module _ {out bytes : List ℕ} {at : ℕ} (fits : Fits out at bytes) (e : bytes
   pub null_fits : at + 1 ≤ length out
   null_fits = omega (arith, fits.within, null_length)
 
-  pub null_put : {end : ℕ} {after : List ℕ} → (end ≡ at + 1) × (after ≡ over out at (number_bytes 1 0)) → (end ≡ at + length bytes) × (after ≡ over out at bytes)
+  pub null_put : {end : ℕ} {after : List ℕ} → end ≡ at + length (number_bytes 1 0) → after ≡ over out at (number_bytes 1 0) → (end ≡ at + length bytes) × (after ≡ over out at bytes)
   unfolding number_bytes
-  null_put f = put_last (put_as (put_start fits) e) f.1 f.0
+  null_put f g = put_last (put_as (put_start fits) e) g f
 
 -- the bytes that are left, as pieces
 pub pieces_from : {p : ℕ → List ℕ} {i n : ℕ} {out₀ whole out : List ℕ} {at next : ℕ} → ToPut out₀ at whole out next (pieces p i n) → PiecesToPut p i n out next out next 0
@@ -227,14 +232,10 @@ module _ (s : List ℕ) (v : Value) {out : List ℕ} {at : ℕ} (fits : Fits out
   unfolding own_bytes front_bytes
   own_start = put_start fits
 
-  pub own_put : {number place end : ℕ} {marked headed own : List ℕ} → (number ≡ at + 1) × (marked ≡ over out at (number_bytes 1 1)) → (place ≡ number + v.width) × (headed ≡ over marked number (number_bytes v.width v.head)) → (end ≡ place + v.size) × (own ≡ over headed place (bytes_at s v.place v.size))
+  pub own_put : {number place end : ℕ} {marked headed own : List ℕ} → (number ≡ at + length (number_bytes 1 1)) × (marked ≡ over out at (number_bytes 1 1)) → (place ≡ number + length (number_bytes v.width v.head)) × (headed ≡ over marked number (number_bytes v.width v.head)) → (end ≡ place + length (bytes_at s v.place v.size)) × (own ≡ over headed place (bytes_at s v.place v.size))
       → (end ≡ at + length (own_bytes s v)) × (own ≡ over out at (own_bytes s v))
   unfolding number_bytes
-  own_put {number} {place} e f g =
-      put_last
-      (put_more _ _ (put_more (1 ∷ []) _ own_start e.1 e.0) f.1 (f.0 ∙ ap (λ (n : ℕ). number + n) (sym (number_length v.width v.head))))
-      g.1
-      (g.0 ∙ ap (λ (n : ℕ). place + n) (sym (bytes_length s v.place v.size)))
+  own_put e f g = put_last (put_more _ _ (put_more (1 ∷ []) _ own_start e.1 e.0) f.1 f.0) g.1 g.0
 
 -- A value: its own bytes, then its child rows.
 module _ {depth : ℕ} {s : List ℕ} {k i : ℕ} {v : Value} (r : RowValue depth s k i v) {out : List ℕ} {at : ℕ} (fits : Fits out at (row_bytes (row_at depth s k i))) where
@@ -246,3 +247,7 @@ module _ {depth : ℕ} {s : List ℕ} {k i : ℕ} {v : Value} (r : RowValue dept
 
   pub value_put : {own : List ℕ} {next : ℕ} → own ≡ over out at (own_bytes s v) → next ≡ at + length (own_bytes s v) → ToPut out at (row_bytes (row_at depth s k i)) own next (children_bytes depth s v)
   value_put e f = put_more _ _ value_start e f
+
+-- A number that is put takes as many bytes as its width.
+pub number_at : {x y : Output} (w n : ℕ) → Put x y (number_bytes w n) → (y.at ≡ x.at + w) × (length y.bytes.now ≡ length x.bytes.now)
+number_at w n p = (omega (arith, p.at, number_length w n), p.long)

@@ -134,7 +134,7 @@ module _ {x : List ℕ} {n times : ℕ} {out₀ : List ℕ} {at from : ℕ} {out
   unfolding repeated
   none_left e = rw e
 
-  pub again_done : left ≡ 0 → (next ≡ at + times * n) × (out ≡ over out₀ at (repeated times x))
+  pub again_done : left ≡ 0 → (next ≡ at + length (repeated times x)) × (out ≡ over out₀ at (repeated times x))
   again_done e =
       let done : ToPut out₀ at (repeated times x) out next [] = put_as t.put (none_left e) in
-      (omega (arith, put_place done, repeated_length times x, ap (λ (w : ℕ). times * w) t.size), put_done done)
+      (put_place done, put_done done)

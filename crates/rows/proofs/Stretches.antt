@@ -52,9 +52,6 @@ module _ {s : List ℕ} {k i n : ℕ} (r : Side s k i n) where
   row_kept h lt at = behind_kept (rows_from h lt) (omega arith) at
 
 -- two things, and a third
-pub and_last : {A B C : Type 0} → A × B → C → A × (B × C)
-and_last p c = (p.0, (p.1, c))
-
 -- the rows behind row i in its run are the same row
 module _ (depth : ℕ) {s : List ℕ} {k : ℕ} {c : Column} {i n : ℕ} (h : ℕ) {run : ℕ} {stay : Stay} (r : Side s k i n) (st : Stays s k c (i + h) (n - h) run stay) where
   pub rows_same : (q : ℕ) → q < stay.rows - 1 → bytes_of depth s k (i + (h + 1) + q) ≡ bytes_of depth s k (i + h)
@@ -115,7 +112,7 @@ module _ {depth : ℕ} {s : List ℕ} {k : ℕ} {c : Column} {i n : ℕ} {out₀
       pub others_fit : (end - next ≤ end) × (end + (stay.rows - 1) * (end - next) ≤ length one)
       others_fit = (omega arith, omega (arith, others_size, (put_fits (repeated (stay.rows - 1) (bytes_of depth s k (i + h))) (pieces (bytes_of depth s k) (i + (h + 1) + (stay.rows - 1)) (n - (h + 1) - (stay.rows - 1))) (put_as one_put.put others)).within))
 
-      pub writing_more : {stop : ℕ} {all : List ℕ} → (stop ≡ end + (stay.rows - 1) * (end - next)) × (all ≡ over one end (repeated (stay.rows - 1) (bytes_at one (end - (end - next)) (end - next))))
+      pub writing_more : {stop : ℕ} {all : List ℕ} → (stop ≡ end + length (repeated (stay.rows - 1) (bytes_at one (end - (end - next)) (end - next)))) × (all ≡ over one end (repeated (stay.rows - 1) (bytes_at one (end - (end - next)) (end - next))))
           → Writing depth s k c i n out₀ at all stay.next stop (h + stay.rows)
       writing_more {stop} {all} g =
           let from : end - (end - next) ≡ next = omega (arith, f.0) in
@@ -126,7 +123,7 @@ module _ {depth : ℕ} {s : List ℕ} {k : ℕ} {c : Column} {i n : ℕ} {out₀
           record {
             few = omega (arith, st.within);
             kept = rw behind at st.next;
-            put = record { put = put_more _ _ (put_as one_put.put (rw (place, count) at others)) (rw bytes at g.1) (omega (arith, g.0, others_size)) };
+            put = record { put = put_more _ _ (put_as one_put.put (rw (place, count) at others)) (rw bytes at g.1) (rw bytes at g.0) };
           }
 
   pub writing_done : n ≤ h → (next ≡ at + length (rows_bytes (range (row_at depth s k) i n))) × (out ≡ over out₀ at (rows_bytes (range (row_at depth s k) i n)))

@@ -1,58 +1,56 @@
-// Bytes put into a lent buffer. Each function answers the place after what it put.
+// Bytes put into a lent buffer.
 ghost use Rattle.std.specs.Prelude.{◌≡◌, ◌+◌, ◌*◌, ◌-◌, ◌<◌, ◌≤◌, ◌^◌, length};
 ghost use Rattle.image.specs.Bytes.{number_bytes, bytes_at};
-ghost use Rattle.rows.specs.Output.{over, repeated};
+ghost use Rattle.rows.specs.Output.{repeated, Put};
 
-// The w bytes of a number, the lowest first.
-pub fn put_number(out: &mut [u8], at: usize, x: usize, w: usize) -> usize
-    requires { at + w ≤ length out.old }
-    ensures value { result ≡ at + w }
-    ensures out_after { out.new ≡ over out.old at (number_bytes w x) }
-{
-    let mut rest = x;
-    for k in 0..w {
-        out[at + k] = (rest % 256) as u8;
-        rest = rest / 256;
+// A buffer that bytes are put into, and the place that is reached.
+#[derive(Drop)]
+pub struct Output<'a> {
+    pub bytes: &'a mut [u8],
+    pub at: usize,
+}
+
+impl Output<'_> {
+    // The w bytes of a number, the lowest first.
+    pub fn put_number(&mut self, x: usize, w: usize)
+        requires { self.old.at + w ≤ length self.old.bytes.now }
+        ensures { Put self.old self.new (number_bytes w x) }
+    {
+        let at = self.at;
+        let mut rest = x;
+        for k in 0..w {
+            self.bytes[at + k] = (rest % 256) as u8;
+            rest = rest / 256;
+        }
+        self.at = at + w;
     }
-    at + w
-}
 
-// n bytes of an image from a place on.
-pub fn put_bytes(out: &mut [u8], at: usize, s: &[u8], place: usize, n: usize) -> usize
-    requires { (at + n ≤ length out.old) × (place + n ≤ length s.now) }
-    ensures value { result ≡ at + n }
-    ensures out_after { out.new ≡ over out.old at (bytes_at s.now place n) }
-{
-    out[at..at + n].copy_from_slice(&s[place..place + n]);
-    at + n
-}
-
-// Bytes of the buffer itself, which stand before the place where they are put.
-fn put_again(out: &mut [u8], at: usize, from: usize, size: usize) -> usize
-    requires { (from + size ≤ at) × (at + size ≤ length out.old) }
-    ensures value { result ≡ at + size }
-    ensures out_after { out.new ≡ over out.old at (bytes_at out.old from size) }
-{
-    out.copy_within(from..from + size, at);
-    at + size
-}
-
-// The n bytes before a place so many times more, behind them. Each time as many are put as stand, or as are left.
-pub fn put_times(out: &mut [u8], at: usize, n: usize, times: usize) -> usize
-    requires n_le_at { (n ≤ at) × (at + times * n ≤ length out.old) }
-    requires times_bound { times < 2 ^ 34 }
-    ensures value { result ≡ at + times * n }
-    ensures out_after { out.new ≡ over out.old at (repeated times (bytes_at out.old (at - n) n)) }
-{
-    let from = at - n;
-    let mut next = at;
-    let mut there: usize = 1;
-    let mut left = times;
-    while left > 0 {
-        let m = there.min(left);
-        next = put_again(out, next, from, m * n);
-        there += m;
-        left -= m;
+    // Bytes as they stand.
+    pub fn put_bytes(&mut self, bytes: &[u8])
+        requires { self.old.at + length bytes.now ≤ length self.old.bytes.now }
+        ensures { Put self.old self.new bytes.now }
+    {
+        let end = self.at + bytes.len();
+        self.bytes[self.at..end].copy_from_slice(bytes);
+        self.at = end;
     }
-    next
+
+    // The n bytes before the place that is reached so many times more, behind them. Each time as many are put as stand, or as
+    // are left.
+    pub fn put_times(&mut self, n: usize, times: usize)
+        requires n_le_at { (n ≤ self.old.at) × (self.old.at + times * n ≤ length self.old.bytes.now) }
+        requires times_bound { times < 2 ^ 34 }
+        ensures { Put self.old self.new (repeated times (bytes_at self.old.bytes.now (self.old.at - n) n)) }
+    {
+        let from = self.at - n;
+        let mut there: usize = 1;
+        let mut left = times;
+        while left > 0 {
+            let m = there.min(left);
+            self.bytes.copy_within(from..from + m * n, self.at);
+            self.at += m * n;
+            there += m;
+            left -= m;
+        }
+    }
 }

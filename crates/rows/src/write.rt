@@ -1,14 +1,14 @@
 // The bytes of rows, put into a lent buffer that has room for them.
-ghost use Rattle.std.specs.Prelude.{◌≡◌, ◌+◌, ◌≤◌, length};
+ghost use Rattle.std.specs.Prelude.{◌+◌, ◌≤◌, length};
 ghost use Rattle.image.specs.Of.{◌of◌};
 ghost use Rattle.image.specs.Row.{row_at, range};
 ghost use Rattle.image.specs.RowBytes.{row_bytes, rows_bytes};
 ghost use Rattle.accepted.specs.Parts.{Side};
 ghost use Rattle.accepted.specs.Runs.{Kept, Remembered};
-ghost use Rattle.rows.specs.Output.{over, Fits};
+ghost use Rattle.rows.specs.Output.{Fits, Put};
 ghost use Rattle.rows.specs.Value.{own_bytes};
 
-use crate::output::{put_bytes, put_number, put_times};
+use crate::output::Output;
 use crate::value::{Value, is_null, value_at};
 use accepted::column::{Column, KeptRuns};
 use image::record::Node;
@@ -21,19 +21,18 @@ const NULL: usize = 0;
 // Kept: it is a byte that the row rule has written, and stands for no missing number.
 const NOT_NULL: usize = 1;
 
-// What a value has before its child rows, put at a place of the buffer; the answer is the place after it.
-fn put_own(s: &[u8], v: Value, out: &mut [u8], at: usize) -> usize
+// What a value has before its child rows.
+fn put_own(s: &[u8], v: Value, out: &mut Output)
     requires size_in_bounds { v.place + v.size ≤ length s.now }
-    requires fits { Fits out.old at (own_bytes s.now v) }
-    ensures value { result ≡ at + length (own_bytes s.now v) }
-    ensures out_after { out.new ≡ over out.old at (own_bytes s.now v) }
+    requires fits { Fits out.old.bytes.now out.old.at (own_bytes s.now v) }
+    ensures { Put out.old out.new (own_bytes s.now v) }
 {
-    let number = put_number(out, at, NOT_NULL, MARK_WIDTH);
-    let bytes = put_number(out, number, v.head, v.width);
-    put_bytes(out, bytes, s, v.place, v.size)
+    out.put_number(NOT_NULL, MARK_WIDTH);
+    out.put_number(v.head, v.width);
+    out.put_bytes(&s[v.place..v.place + v.size]);
 }
 
-// Row i of a node, beside which a run is kept, put at a place of the buffer; the answer is the place after it.
+// Row i of a node, beside which a run is kept.
 #[cycle(write_row_write_rows)]
 fn write_row(
     column: Column,
@@ -41,34 +40,31 @@ fn write_row(
     run: usize,
     depth: usize,
     runs: &mut KeptRuns,
-    out: &mut [u8],
-    at: usize,
-) -> usize
+    out: &mut Output,
+)
     requires side { (Side of column.node) i 1 }
     requires kept { (Kept of column.node) column i run }
     requires remembered { Remembered column.node.image.now runs.old }
-    requires fits { Fits out.old at (row_bytes ((row_at depth of column.node) i)) }
-    ensures value { result ≡ at + length (row_bytes ((row_at depth of column.entry.node) i)) }
-    ensures out_after { out.new ≡ over out.old at (row_bytes ((row_at depth of column.entry.node) i)) }
+    requires fits { Fits out.old.bytes.now out.old.at (row_bytes ((row_at depth of column.node) i)) }
+    ensures put { Put out.old out.new (row_bytes ((row_at depth of column.entry.node) i)) }
     ensures remembered_after { Remembered column.entry.node.image.now runs.new }
 {
     if is_null(column.node, i, depth) {
-        return put_number(out, at, NULL, MARK_WIDTH);
+        out.put_number(NULL, MARK_WIDTH);
+        return;
     }
     let v = value_at(column.node, column.offset + i, run);
-    let mut next = put_own(column.node.image, v, out, at);
+    put_own(column.node.image, v, out);
     for c in 0..v.parts {
         let child = Node {
             image: column.node.image,
             number: v.child + c,
         };
-        next = write_rows(child, v.start, v.count, depth - 1, runs, out, next);
+        write_rows(child, v.start, v.count, depth - 1, runs, out);
     }
-    next
 }
 
-// n rows of a node from row i on, put at a place of the buffer; the answer is the place after them. The rows of one
-// run are the same row, whose bytes are put again.
+// n rows of a node from row i on. The rows of one run are the same row, whose bytes are put again.
 // Kept: the loop goes on by as many rows as are in a run.
 #[cycle(write_row_write_rows)]
 pub fn write_rows(
@@ -77,30 +73,28 @@ pub fn write_rows(
     n: usize,
     depth: usize,
     runs: &mut KeptRuns,
-    out: &mut [u8],
-    at: usize,
-) -> usize
+    out: &mut Output,
+)
     requires side { (Side of node) i n }
     requires remembered { Remembered node.image.now runs.old }
-    requires fits { Fits out.old at (rows_bytes (range (row_at depth of node) i n)) }
-    ensures value { result ≡ at + length (rows_bytes (range (row_at depth of node.entry) i n)) }
-    ensures out_after { out.new ≡ over out.old at (rows_bytes (range (row_at depth of node.entry) i n)) }
+    requires fits { Fits out.old.bytes.now out.old.at (rows_bytes (range (row_at depth of node) i n)) }
+    ensures put { Put out.old out.new (rows_bytes (range (row_at depth of node.entry) i n)) }
     ensures remembered_after { Remembered node.entry.image.now runs.new }
 {
     if n == 0 {
-        return at;
+        return;
     }
     let column = Column::new(node);
     let mut run = column.first_run(i, runs);
-    let mut next = at;
     let mut k: usize = 0;
     while k < n {
         let stay = column.stay(i + k, n - k, run);
-        let end = write_row(column, i + k, run, depth, runs, out, next);
-        next = put_times(out, end, end - next, stay.rows - 1);
+        let at = out.at;
+        write_row(column, i + k, run, depth, runs, out);
+        let size = out.at - at;
+        out.put_times(size, stay.rows - 1);
         run = stay.next;
         k += stay.rows;
     }
     column.remember(i + k, run, runs);
-    next
 }

@@ -1,5 +1,6 @@
 -- `put_entries` puts the entries of a node.
 -- The loop keeps the entries that are still to be put.
+use mathlib.Core.Path.{refl, ◌∙◌}
 use Rattle.rows.proofs.Over.{pieces_start, pieces_fit, pieces_more, pieces_place, pieces_done}
 use Rattle.builder.specs.Front.{entries_from}
 use native.Mathlib.Omega.{arith}
@@ -13,20 +14,17 @@ overflow_add-first c = omega (arith, c.requires.rise.1, c.requires.rise.2)
 
 pub loop-j-init : goal.loop-j-init
 unfolding entries_from
-loop-j-init c = pieces_start _ _ _ c.requires.fits
+loop-j-init c = (refl, pieces_start _ _ _ c.requires.fits)
 
 pub overflow_add-first-in-loop-j : goal.overflow_add-first-in-loop-j
 overflow_add-first-in-loop-j c = omega (arith, c.requires.rise.1, c.requires.rise.2, c.loop-j-test.true, c.buffer_count-n.ensures.small)
 
-pub put_entry-next-requires : goal.put_entry-next-requires
-put_entry-next-requires c = record { rise = (c.requires.rise.0, omega (arith, c.requires.rise.1, c.requires.node_bound, c.loop-j-test.true, c.buffer_count-n.ensures.value), omega (arith, c.requires.rise.1, c.requires.rise.2, c.requires.node_bound, c.loop-j-test.true, c.buffer_count-n.ensures.value)); fits = pieces_fit c.loop-j.invariant (omega (arith, c.loop-j-test.true, c.buffer_count-n.ensures.value)) }
+pub put_entry-requires : goal.put_entry-requires
+put_entry-requires c = record { rise = (c.requires.rise.0, omega (arith, c.requires.rise.1, c.requires.node_bound, c.loop-j-test.true, c.buffer_count-n.ensures.value), omega (arith, c.requires.rise.1, c.requires.rise.2, c.requires.node_bound, c.loop-j-test.true, c.buffer_count-n.ensures.value)); fits = pieces_fit c.loop-j.invariant.1 (omega (arith, c.loop-j-test.true, c.buffer_count-n.ensures.value)) }
 
 pub loop-j-preserved : goal.loop-j-preserved
-loop-j-preserved c = pieces_more c.loop-j.invariant (omega (arith, c.loop-j-test.true, c.buffer_count-n.ensures.value)) c.put_entry-next.ensures.out_after c.put_entry-next.ensures.value
-
-pub shape_of-out : goal.shape_of-out
-shape_of-out c = c.loop-j.invariant.put.long
+loop-j-preserved c = (c.put_entry.ensures.lent ∙ c.loop-j.invariant.0, pieces_more c.loop-j.invariant.1 (omega (arith, c.loop-j-test.true, c.buffer_count-n.ensures.value)) c.put_entry.ensures.bytes c.put_entry.ensures.at)
 
 pub returns : goal.returns
 unfolding entries_from
-returns c = record { value = pieces_place c.loop-j.invariant (omega (arith, c.loop-j-test.false, c.buffer_count-n.ensures.value)); out_after = pieces_done c.loop-j.invariant (omega (arith, c.loop-j-test.false, c.buffer_count-n.ensures.value)) }
+returns c = record { lent = c.loop-j.invariant.0; long = c.loop-j.invariant.1.put.long; at = pieces_place c.loop-j.invariant.1 (omega (arith, c.loop-j-test.false, c.buffer_count-n.ensures.value)); bytes = pieces_done c.loop-j.invariant.1 (omega (arith, c.loop-j-test.false, c.buffer_count-n.ensures.value)) }

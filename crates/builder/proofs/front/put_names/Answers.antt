@@ -1,5 +1,6 @@
 -- `put_names` puts the names of all nodes.
 -- The loop keeps the names that are still to be put.
+use mathlib.Core.Path.{refl, ◌∙◌}
 use Rattle.laws.proofs.Accepted.{accepted}
 use Rattle.rows.proofs.Over.{pieces_start, pieces_place, pieces_done}
 use Rattle.builder.proofs.Fields.{piece_fits, piece_put}
@@ -7,16 +8,13 @@ use native.Mathlib.Omega.{arith}
 use Rattle.builder.proofs.front.put_names.Goals as goal
 
 pub loop-k-init : goal.loop-k-init
-loop-k-init c = pieces_start _ _ _ c.requires.fits
+loop-k-init c = (refl, pieces_start _ _ _ c.requires.fits)
 
-pub put_name-next-requires : goal.put_name-next-requires
-put_name-next-requires c = record { named = ((accepted _ c.requires.image_value).node c.loop-k.k (omega (arith, c.loop-k-test.true, c.node_count-n.ensures.value))).named; fits = piece_fits c.loop-k.invariant (omega (arith, c.loop-k-test.true, c.node_count-n.ensures.value)) }
+pub put_name-requires : goal.put_name-requires
+put_name-requires c = record { named = ((accepted _ c.requires.image_value).node c.loop-k.k (omega (arith, c.loop-k-test.true, c.node_count-n.ensures.value))).named; fits = piece_fits c.loop-k.invariant.1 (omega (arith, c.loop-k-test.true, c.node_count-n.ensures.value)) }
 
 pub loop-k-preserved : goal.loop-k-preserved
-loop-k-preserved c = piece_put c.loop-k.invariant (omega (arith, c.loop-k-test.true, c.node_count-n.ensures.value)) (c.put_name-next.ensures.value, c.put_name-next.ensures.out_after)
-
-pub shape_of-out : goal.shape_of-out
-shape_of-out c = c.loop-k.invariant.put.long
+loop-k-preserved c = (c.put_name.ensures.lent ∙ c.loop-k.invariant.0, piece_put c.loop-k.invariant.1 (omega (arith, c.loop-k-test.true, c.node_count-n.ensures.value)) (c.put_name.ensures.at, c.put_name.ensures.bytes))
 
 pub returns : goal.returns
-returns c = record { value = pieces_place c.loop-k.invariant (omega (arith, c.loop-k-test.false, c.node_count-n.ensures.value)); out_after = pieces_done c.loop-k.invariant (omega (arith, c.loop-k-test.false, c.node_count-n.ensures.value)) }
+returns c = record { lent = c.loop-k.invariant.0; long = c.loop-k.invariant.1.put.long; at = pieces_place c.loop-k.invariant.1 (omega (arith, c.loop-k-test.false, c.node_count-n.ensures.value)); bytes = pieces_done c.loop-k.invariant.1 (omega (arith, c.loop-k-test.false, c.node_count-n.ensures.value)) }

@@ -1,16 +1,17 @@
 -- `put_record` puts a record.
 -- Its three parts, one after the other.
+use mathlib.Core.Path.{◌∙◌}
 use Rattle.builder.proofs.Fronts.{type_fits, rows_fit, tables_fit, record_put}
 use Rattle.builder.proofs.front.put_record.Goals as goal
 
-pub put_type-rows-requires : goal.put_type-rows-requires
-put_type-rows-requires c = type_fits _ _ _ _ c.requires.fits
+pub put_type-requires : goal.put_type-requires
+put_type-requires c = type_fits _ _ _ _ c.requires.fits
 
-pub put_rows-tables-requires : goal.put_rows-tables-requires
-put_rows-tables-requires c = record { node_from = c.requires.node_from; name_value = c.requires.name_value; fits = rows_fit _ _ _ _ c.requires.fits (c.put_type-rows.ensures.value, c.put_type-rows.ensures.out_after) }
+pub put_rows-requires : goal.put_rows-requires
+put_rows-requires c = record { node_from = c.requires.node_from; name_value = c.requires.name_value; fits = rows_fit _ _ _ _ c.requires.fits (c.put_type.ensures.at, c.put_type.ensures.bytes) }
 
 pub put_tables-requires : goal.put_tables-requires
-put_tables-requires c = tables_fit _ _ _ _ c.requires.fits (c.put_type-rows.ensures.value, c.put_type-rows.ensures.out_after) (c.put_rows-tables.ensures.value, c.put_rows-tables.ensures.out_after)
+put_tables-requires c = tables_fit _ _ _ _ c.requires.fits (c.put_type.ensures.at, c.put_type.ensures.bytes) (c.put_rows.ensures.at, c.put_rows.ensures.bytes)
 
 pub returns : goal.returns
-returns c = let both = record_put _ _ _ _ c.requires.fits (c.put_type-rows.ensures.value, c.put_type-rows.ensures.out_after) (c.put_rows-tables.ensures.value, c.put_rows-tables.ensures.out_after) (c.put_tables.ensures.value, c.put_tables.ensures.out_after) in record { value = both.0; out_after = both.1 }
+returns c = let both = record_put _ _ _ _ c.requires.fits (c.put_type.ensures.at, c.put_type.ensures.bytes) (c.put_rows.ensures.at, c.put_rows.ensures.bytes) (c.put_tables.ensures.at, c.put_tables.ensures.bytes) in record { lent = c.put_tables.ensures.lent ∙ c.put_rows.ensures.lent ∙ c.put_type.ensures.lent; long = c.put_tables.ensures.long ∙ c.put_rows.ensures.long ∙ c.put_type.ensures.long; at = both.0; bytes = both.1 }

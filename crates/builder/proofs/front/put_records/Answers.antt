@@ -1,5 +1,6 @@
 -- `put_records` puts the records of all nodes.
 -- The loop keeps the records that are still to be put, and where the next name would stand.
+use mathlib.Core.Path.{refl, ◌∙◌}
 use Rattle.rows.proofs.Over.{pieces_start, pieces_place, pieces_done}
 use Rattle.builder.proofs.Fields.{piece_fits, piece_put}
 use Rattle.builder.proofs.Planning.{names_start, names_more}
@@ -7,19 +8,16 @@ use native.Mathlib.Omega.{arith}
 use Rattle.builder.proofs.front.put_records.Goals as goal
 
 pub loop-k-init : goal.loop-k-init
-loop-k-init c = (pieces_start _ _ _ c.requires.fits, names_start _ c.requires.tables c.tables_end-name.ensures.value)
+loop-k-init c = (refl, (pieces_start _ _ _ c.requires.fits, names_start _ c.requires.tables c.tables_end-name.ensures.value))
 
-pub put_record-next-requires : goal.put_record-next-requires
-put_record-next-requires c = record { node_from = record { node = omega (arith, c.loop-k-test.true, c.node_count-n.ensures.value); few = c.requires.tables.few_nodes; risen = c.requires.rise }; name_value = c.loop-k.invariant.1.start; fits = piece_fits c.loop-k.invariant.0 (omega (arith, c.loop-k-test.true, c.node_count-n.ensures.value)) }
+pub put_record-requires : goal.put_record-requires
+put_record-requires c = record { node_from = record { node = omega (arith, c.loop-k-test.true, c.node_count-n.ensures.value); few = c.requires.tables.few_nodes; risen = c.requires.rise }; name_value = c.loop-k.invariant.1.1.start; fits = piece_fits c.loop-k.invariant.1.0 (omega (arith, c.loop-k-test.true, c.node_count-n.ensures.value)) }
 
 pub overflow_add-name : goal.overflow_add-name
-overflow_add-name c = omega (arith, c.loop-k.invariant.1.near, c.loop-k-test.true, c.node_count-n.ensures.small, c.name_length-name.ensures.small)
+overflow_add-name c = omega (arith, c.loop-k.invariant.1.1.near, c.loop-k-test.true, c.node_count-n.ensures.small, c.name_length-name.ensures.small)
 
 pub loop-k-preserved : goal.loop-k-preserved
-loop-k-preserved c = (piece_put c.loop-k.invariant.0 (omega (arith, c.loop-k-test.true, c.node_count-n.ensures.value)) (c.put_record-next.ensures.value, c.put_record-next.ensures.out_after), names_more c.loop-k.invariant.1 c.name_length-name.ensures)
-
-pub shape_of-out : goal.shape_of-out
-shape_of-out c = c.loop-k.invariant.0.put.long
+loop-k-preserved c = (c.put_record.ensures.lent ∙ c.loop-k.invariant.0, (piece_put c.loop-k.invariant.1.0 (omega (arith, c.loop-k-test.true, c.node_count-n.ensures.value)) (c.put_record.ensures.at, c.put_record.ensures.bytes), names_more c.loop-k.invariant.1.1 c.name_length-name.ensures))
 
 pub returns : goal.returns
-returns c = record { value = pieces_place c.loop-k.invariant.0 (omega (arith, c.loop-k-test.false, c.node_count-n.ensures.value)); out_after = pieces_done c.loop-k.invariant.0 (omega (arith, c.loop-k-test.false, c.node_count-n.ensures.value)) }
+returns c = record { lent = c.loop-k.invariant.0; long = c.loop-k.invariant.1.0.put.long; at = pieces_place c.loop-k.invariant.1.0 (omega (arith, c.loop-k-test.false, c.node_count-n.ensures.value)); bytes = pieces_done c.loop-k.invariant.1.0 (omega (arith, c.loop-k-test.false, c.node_count-n.ensures.value)) }

@@ -1,5 +1,7 @@
 -- `put_rows` puts the middle fields of a record.
 -- Six numbers, one after the other.
+use mathlib.Core.Path.{◌∙◌}
+use Rattle.rows.proofs.Over.{number_at}
 use mathlib.Core.Path.{refl}
 use Rattle.rows.proofs.Over.{put_start}
 use Rattle.builder.specs.Front.{row_fields}
@@ -14,23 +16,23 @@ offset_bounds-plan-k c = omega (arith, c.requires.node_from.node, c.requires.nod
 pub bounds-plan-k : goal.bounds-plan-k
 bounds-plan-k c = omega (arith, c.requires.node_from.node, c.requires.node_from.few)
 
-pub put_number-a-requires : goal.put_number-a-requires
-put_number-a-requires c = omega (arith, fits_sized (row_length _ _ _ _) c.requires.fits)
+pub put_number-requires : goal.put_number-requires
+put_number-requires c = omega (arith, fits_sized (row_length _ _ _ _) c.requires.fits)
 
-pub put_number-b-requires : goal.put_number-b-requires
-put_number-b-requires c = omega (arith, fits_sized (row_length _ _ _ _) c.requires.fits, c.put_number-a.ensures.value, c.put_number-a.auto.out)
+pub put_number-requires-2 : goal.put_number-requires-2
+put_number-requires-2 c = omega (arith, fits_sized (row_length _ _ _ _) c.requires.fits, number_at _ _ c.put_number.ensures)
 
 pub built_name-requires : goal.built_name-requires
 built_name-requires c = c.requires.name_value
 
-pub put_number-c-requires : goal.put_number-c-requires
-put_number-c-requires c = omega (arith, fits_sized (row_length _ _ _ _) c.requires.fits, c.put_number-a.ensures.value, c.put_number-a.auto.out, c.put_number-b.ensures.value, c.put_number-b.auto.out)
+pub put_number-requires-3 : goal.put_number-requires-3
+put_number-requires-3 c = omega (arith, fits_sized (row_length _ _ _ _) c.requires.fits, number_at _ _ c.put_number.ensures, number_at _ _ c.put_number-2.ensures)
 
 pub bitmap_from-requires : goal.bitmap_from-requires
 bitmap_from-requires c = omega (arith, c.requires.node_from.node, c.requires.node_from.few)
 
-pub put_number-d-requires : goal.put_number-d-requires
-put_number-d-requires c = omega (arith, fits_sized (row_length _ _ _ _) c.requires.fits, c.put_number-a.ensures.value, c.put_number-a.auto.out, c.put_number-b.ensures.value, c.put_number-b.auto.out, c.put_number-c.ensures.value, c.put_number-c.auto.out)
+pub put_number-requires-4 : goal.put_number-requires-4
+put_number-requires-4 c = omega (arith, fits_sized (row_length _ _ _ _) c.requires.fits, number_at _ _ c.put_number.ensures, number_at _ _ c.put_number-2.ensures, number_at _ _ c.put_number-3.ensures)
 
 pub overflow_mul-k : goal.overflow_mul-k
 overflow_mul-k c = omega (arith, c.requires.node_from.node, c.requires.node_from.few)
@@ -38,12 +40,12 @@ overflow_mul-k c = omega (arith, c.requires.node_from.node, c.requires.node_from
 pub length_from-requires : goal.length_from-requires
 length_from-requires c = (c.requires.node_from.risen, omega (arith, c.requires.node_from.node), omega (arith, c.requires.node_from.node, c.requires.node_from.few))
 
-pub put_number-e-requires : goal.put_number-e-requires
-put_number-e-requires c = omega (arith, fits_sized (row_length _ _ _ _) c.requires.fits, c.put_number-a.ensures.value, c.put_number-a.auto.out, c.put_number-b.ensures.value, c.put_number-b.auto.out, c.put_number-c.ensures.value, c.put_number-c.auto.out, c.put_number-d.ensures.value, c.put_number-d.auto.out)
+pub put_number-requires-5 : goal.put_number-requires-5
+put_number-requires-5 c = omega (arith, fits_sized (row_length _ _ _ _) c.requires.fits, number_at _ _ c.put_number.ensures, number_at _ _ c.put_number-2.ensures, number_at _ _ c.put_number-3.ensures, number_at _ _ c.put_number-4.ensures)
 
-pub put_number-requires : goal.put_number-requires
-put_number-requires c = omega (arith, fits_sized (row_length _ _ _ _) c.requires.fits, c.put_number-a.ensures.value, c.put_number-a.auto.out, c.put_number-b.ensures.value, c.put_number-b.auto.out, c.put_number-c.ensures.value, c.put_number-c.auto.out, c.put_number-d.ensures.value, c.put_number-d.auto.out, c.put_number-e.ensures.value, c.put_number-e.auto.out)
+pub put_number-requires-6 : goal.put_number-requires-6
+put_number-requires-6 c = omega (arith, fits_sized (row_length _ _ _ _) c.requires.fits, number_at _ _ c.put_number.ensures, number_at _ _ c.put_number-2.ensures, number_at _ _ c.put_number-3.ensures, number_at _ _ c.put_number-4.ensures, number_at _ _ c.put_number-5.ensures)
 
 pub returns : goal.returns
 unfolding row_fields
-returns c = let both = number_last _ _ _ refl (c.put_number.ensures.value, c.put_number.ensures.out_after) (number_put _ _ _ c.length_from.ensures (c.put_number-e.ensures.value, c.put_number-e.ensures.out_after) (number_put _ _ _ c.bitmap_from.ensures (c.put_number-d.ensures.value, c.put_number-d.ensures.out_after) (number_put _ _ _ c.built_name.ensures (c.put_number-c.ensures.value, c.put_number-c.ensures.out_after) (number_put _ _ _ refl (c.put_number-b.ensures.value, c.put_number-b.ensures.out_after) (number_put _ _ _ refl (c.put_number-a.ensures.value, c.put_number-a.ensures.out_after) (put_start c.requires.fits)))))) in record { value = both.0; out_after = both.1 }
+returns c = let both = number_last _ _ _ refl (c.put_number-6.ensures.at, c.put_number-6.ensures.bytes) (number_put _ _ _ c.length_from.ensures (c.put_number-5.ensures.at, c.put_number-5.ensures.bytes) (number_put _ _ _ c.bitmap_from.ensures (c.put_number-4.ensures.at, c.put_number-4.ensures.bytes) (number_put _ _ _ c.built_name.ensures (c.put_number-3.ensures.at, c.put_number-3.ensures.bytes) (number_put _ _ _ refl (c.put_number-2.ensures.at, c.put_number-2.ensures.bytes) (number_put _ _ _ refl (c.put_number.ensures.at, c.put_number.ensures.bytes) (put_start c.requires.fits)))))) in record { lent = c.put_number-6.ensures.lent ∙ c.put_number-5.ensures.lent ∙ c.put_number-4.ensures.lent ∙ c.put_number-3.ensures.lent ∙ c.put_number-2.ensures.lent ∙ c.put_number.ensures.lent; long = c.put_number-6.ensures.long ∙ c.put_number-5.ensures.long ∙ c.put_number-4.ensures.long ∙ c.put_number-3.ensures.long ∙ c.put_number-2.ensures.long ∙ c.put_number.ensures.long; at = both.0; bytes = both.1 }

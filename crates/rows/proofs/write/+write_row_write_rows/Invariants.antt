@@ -1,4 +1,5 @@
 -- The measures and the invariants of the cycle.
+use mathlib.Core.Path.{◌≡◌}
 use Rattle.image.specs.Row.{row_at}
 use Rattle.accepted.specs.Runs.{Remembered}
 use Rattle.rows.proofs.RowParts.{RowValue, child_bytes}
@@ -15,10 +16,10 @@ abbrev pub decreases-write_rows : goal.decreases-write_rows
 decreases-write_rows l = 2 * l.depth + 1
 
 abbrev pub invariant-write_row-loop-c : goal.invariant-write_row-loop-c
-invariant-write_row-loop-c l = RowValue l.depth l.column.node.image.now l.column.node.number l.i l.v × (PiecesToPut (child_bytes (row_at (l.depth - 1) l.column.node.image.now) l.v) l.v.child l.v.parts l.initial.out l.initial.next l.out l.next l.c × Remembered l.column.node.image.now l.runs)
+invariant-write_row-loop-c l = (l.out.bytes.ghost_name ≡ l.fn.out.bytes.ghost_name) × (RowValue l.depth l.column.node.image.now l.column.node.number l.i l.v × (PiecesToPut (child_bytes (row_at (l.depth - 1) l.column.node.image.now) l.v) l.v.child l.v.parts l.initial.out.bytes.now l.initial.out.at l.out.bytes.now l.out.at l.c × Remembered l.column.node.image.now l.runs))
 
 abbrev pub invariant-write_rows-loop-k : goal.invariant-write_rows-loop-k
-invariant-write_rows-loop-k l = Writing l.depth l.column.node.image.now l.column.node.number l.column l.i l.n l.initial.out l.at l.out l.run l.next l.k × Remembered l.column.node.image.now l.runs
+invariant-write_rows-loop-k l = (l.out.bytes.ghost_name ≡ l.fn.out.bytes.ghost_name) × (Writing l.depth l.column.node.image.now l.column.node.number l.column l.i l.n l.fn.out.bytes.now l.fn.out.at l.out.bytes.now l.run l.out.at l.k × Remembered l.column.node.image.now l.runs)
 
 abbrev pub decreases-write_rows-loop-k : goal.decreases-write_rows-loop-k
 decreases-write_rows-loop-k l = l.n - l.k

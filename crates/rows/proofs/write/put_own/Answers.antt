@@ -1,17 +1,22 @@
 -- `put_own` puts what a value has before its child rows.
 -- Three pieces, one after the other.
+use mathlib.Core.Path.{◌∙◌}
 use native.Mathlib.Omega.{arith}
-use Rattle.rows.proofs.Over.{own_fits, own_put}
+use Rattle.rows.proofs.Over.{own_fits, own_put, lent_bytes, number_at}
+use Rattle.laws.proofs.Lengths.{bytes_length}
 use Rattle.rows.proofs.write.put_own.Goals as goal
 
-pub put_number-number-requires : goal.put_number-number-requires
-put_number-number-requires c = omega (arith, own_fits _ _ c.requires.fits)
+pub put_number-requires : goal.put_number-requires
+put_number-requires c = omega (arith, own_fits _ _ c.requires.fits)
 
-pub put_number-bytes-requires : goal.put_number-bytes-requires
-put_number-bytes-requires c = omega (arith, own_fits _ _ c.requires.fits, c.put_number-number.ensures.value, c.put_number-number.auto.out)
+pub put_number-requires-2 : goal.put_number-requires-2
+put_number-requires-2 c = omega (arith, own_fits _ _ c.requires.fits, number_at _ _ c.put_number.ensures)
 
 pub put_bytes-requires : goal.put_bytes-requires
-put_bytes-requires c = (omega (arith, own_fits _ _ c.requires.fits, c.put_number-number.ensures.value, c.put_number-number.auto.out, c.put_number-bytes.ensures.value, c.put_number-bytes.auto.out), c.requires.size_in_bounds)
+put_bytes-requires c = rw (lent_bytes c.args.s.now c.args.v.place c.args.v.size c.requires.size_in_bounds) (omega (arith, bytes_length c.args.s.now c.args.v.place c.args.v.size, own_fits _ _ c.requires.fits, number_at _ _ c.put_number.ensures, number_at _ _ c.put_number-2.ensures))
 
 pub returns : goal.returns
-returns c = let both = own_put _ _ c.requires.fits (c.put_number-number.ensures.value, c.put_number-number.ensures.out_after) (c.put_number-bytes.ensures.value, c.put_number-bytes.ensures.out_after) (c.put_bytes.ensures.value, c.put_bytes.ensures.out_after) in record { value = both.0; out_after = both.1 }
+returns c =
+    let p = rw (lent_bytes c.args.s.now c.args.v.place c.args.v.size c.requires.size_in_bounds) at c.put_bytes.ensures in
+    let both = own_put _ _ c.requires.fits (c.put_number.ensures.at, c.put_number.ensures.bytes) (c.put_number-2.ensures.at, c.put_number-2.ensures.bytes) (p.at, p.bytes) in
+    record { lent = p.lent ∙ c.put_number-2.ensures.lent ∙ c.put_number.ensures.lent; long = p.long ∙ c.put_number-2.ensures.long ∙ c.put_number.ensures.long; at = both.0; bytes = both.1 }

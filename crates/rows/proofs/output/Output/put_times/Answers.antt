@@ -1,0 +1,34 @@
+-- `put_times` puts bytes of the buffer so many times behind them.
+-- The loop keeps how many times they stand before the place that is reached, and how many times they are still to be put.
+use mathlib.Core.Path.{refl}
+use native.Mathlib.Omega.{arith}
+use Rattle.rows.proofs.Over.{pasted}
+use Rattle.rows.proofs.Repeats.{repeating_start, again_requires, again_more, again_done}
+use Rattle.rows.proofs.output.Output.put_times.Goals as goal
+
+pub overflow_sub-from : goal.overflow_sub-from
+overflow_sub-from c = omega (arith, c.requires.n_le_at.0)
+
+pub loop-left-init : goal.loop-left-init
+loop-left-init c = (refl, repeating_start c.requires.n_le_at.0 c.requires.n_le_at.1)
+
+pub overflow_mul-m : goal.overflow_mul-m
+overflow_mul-m c = omega (arith, (again_requires c.loop-left.invariant.1 c.min-m.ensures).1, c.loop-left.invariant.1.put.long, c.well_formed)
+
+pub copy_within-requires-clause-dest_in_bounds : goal.copy_within-requires-clause-dest_in_bounds
+copy_within-requires-clause-dest_in_bounds c = omega (arith, again_requires c.loop-left.invariant.1 c.min-m.ensures)
+
+pub overflow_add-there : goal.overflow_add-there
+overflow_add-there c = omega (arith, c.min-m.ensures, c.loop-left.invariant.1.all, c.requires.times_bound)
+
+pub overflow_sub-left : goal.overflow_sub-left
+overflow_sub-left c = omega (arith, c.min-m.ensures)
+
+pub loop-left-smaller : goal.loop-left-smaller
+loop-left-smaller c = omega (arith, c.min-m.ensures, c.loop-left.invariant.1.some, c.loop-left-test.true)
+
+pub loop-left-preserved : goal.loop-left-preserved
+loop-left-preserved c = (c.loop-left.invariant.0, again_more c.loop-left.invariant.1 c.min-m.ensures (refl, pasted _ _ _ (omega (arith, again_requires c.loop-left.invariant.1 c.min-m.ensures)) _ _ c.copy_within.ensures.after))
+
+pub returns : goal.returns
+returns c = let both = again_done c.loop-left.invariant.1 (omega (arith, c.loop-left-test.false)) in record { lent = c.loop-left.invariant.0; long = c.loop-left.invariant.1.put.long; at = both.0; bytes = both.1 }
