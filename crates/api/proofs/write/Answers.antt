@@ -22,7 +22,7 @@ pub returns-in_default : goal.returns-in_default
 returns-in_default c = let both = write_too_long _ _ _ _ (sym c.check.ensures ∙ c.in_ok-check.was) (sym c.out_of_range.ensures ∙ c.if-out_of_range.false) (sym c.measure_rows.ensures.value ∙ c.in_default.is) in record { value = both.0; out_after = both.1 }
 
 pub write_rows-requires : goal.write_rows-requires
-write_rows-requires c = record { side = table_side _ _ _ (sym c.check.ensures ∙ c.in_ok-check.was) (sym c.out_of_range.ensures ∙ c.if-out_of_range.false); remembered = c.measure_rows.ensures.remembered_2; fits = write_fits _ _ _ _ (sym c.check.ensures ∙ c.in_ok-check.was) (sym c.measure_rows.ensures.value ∙ c.in-Some.is) }
+write_rows-requires c = record { side = table_side _ _ _ (sym c.check.ensures ∙ c.in_ok-check.was) (sym c.out_of_range.ensures ∙ c.if-out_of_range.false); remembered = c.measure_rows.ensures.remembered_after; fits = write_fits _ _ _ _ (sym c.check.ensures ∙ c.in_ok-check.was) (sym c.measure_rows.ensures.value ∙ c.in-Some.is) }
 
 pub returns : goal.returns
 returns c = let both = write_bytes _ _ _ _ (sym c.check.ensures ∙ c.in_ok-check.was) (sym c.out_of_range.ensures ∙ c.if-out_of_range.false) (sym c.measure_rows.ensures.value ∙ c.in-Some.is) c.write_rows.ensures.value c.write_rows.ensures.out_after in record { value = both.0; out_after = both.1 }
