@@ -5,28 +5,21 @@ ghost use Rattle.session.specs.Lines.{digit_value, bytes_of, NextByte};
 // A frame has at most so many bytes.
 pub const LONGEST_FRAME: usize = 65;
 
-const SPACE: u8 = 32;
+const SPACE: u8 = b' ';
 
 // What ends a line, of the input and of the output.
-pub const LINE_FEED: u8 = 10;
+pub const LINE_FEED: u8 = b'\n';
 
 // The value of a digit, 0 to 9 and a to f.
+// Kept: the library has no `to_digit` of a character, and Rust's takes capitals too.
 fn digit(c: u8) -> Option<u8>
     ensures { result ≡ digit_value c }
 {
-    if c < 48 {
-        return None;
+    match c {
+        b'0'..=b'9' => Some(c - b'0'),
+        b'a'..=b'f' => Some(c - b'a' + 10),
+        _ => None,
     }
-    if c < 58 {
-        return Some(c - 48);
-    }
-    if c < 97 {
-        return None;
-    }
-    if c < 103 {
-        return Some(c - 87);
-    }
-    None
 }
 
 // Where the next byte begins after one that ends at a place: past one space, if something follows it.
