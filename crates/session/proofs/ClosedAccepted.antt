@@ -13,11 +13,9 @@ use Rattle.session.specs.Frames.{Asked}
 use Rattle.session.specs.declared.frame.Frame.TheVariants.{Piece, Close, Compare, CompareRange, Write, Empty}
 use Rattle.session.specs.declared.reply.Reply.TheVariants.{Done}
 use Rattle.session.specs.declared.reply.Refusal.TheVariants.{PastStore, Closed}
-use Rattle.session.specs.declared.step.SideState.{SideState}
-use Rattle.session.specs.declared.step.State.{State}
 use Rattle.session.specs.Frames.{frame_of}
 use Rattle.session.specs.Lines.{bytes_of}
-use Rattle.session.specs.Steps.{side_state, side_stepped, emptied, image_of, past_store, piece_side, piece_store, closed_by, close_side, piece_stepped, close_stepped, write_stepped, empty_stepped, After, obeyed, after_frame, after_line}
+use Rattle.session.specs.Steps.{SideState, State, side_state, side_stepped, emptied, image_of, past_store, piece_side, piece_store, closed_by, close_side, piece_stepped, close_stepped, write_stepped, empty_stepped, After, obeyed, after_frame, after_line}
 use Rattle.session.specs.Sessions.{started, next, after_lines, Sound, BothSound}
 
 -- an open side is sound whatever it holds

@@ -9,9 +9,8 @@ use lib.ListN.{length, take}
 use lib.Seq.{take_all, length-take-le}
 use lib.Dec.{eqb, ltb}
 use borrow.Author.Tests.{lt-ltb, ltb-true, ltb-false}
-use Rattle.session.specs.declared.step.State.{State}
 use Rattle.session.specs.Lines.{digit_of, Stand, begin, half, between, Found, bad, good, preceded, scan, not_too_long, bytes_of}
-use Rattle.session.specs.Steps.{after_line}
+use Rattle.session.specs.Steps.{State, after_line}
 
 -- how many characters of the next byte are behind a reader, its space with them
 behind : Stand → ℕ

@@ -10,9 +10,9 @@ use lib.ListN.{length, get_or, take, drop, set, length-append, length-set, lengt
 use lib.Seq.{drop-cons, take-suc-set, length-take-le, append_snoc}
 use lib.Dec.{eqb, ltb}
 use borrow.Author.Tests.{ltb-true, ltb-false, lt-ltb, le-ltb, eq-eqb, ne_eqb}
-use Rattle.std.proofs.Common.{Some, None}
+use Rattle.std.proofs.Common.{Option, Some, None}
 use Rattle.std.specs.Bool.{then_some}
-use Rattle.session.specs.Lines.{digit_of, digit_value, between, Found, bad, good, preceded, scan, not_too_long, bytes_of, rest, NextByte}
+use Rattle.session.specs.Lines.{digit_of, digit_value, between, Found, bad, good, preceded, scan, not_too_long, bytes_of, frame_length, rest, NextByte}
 
 same_arms : {A : Type 0} (b : Bool) (x : A) → cond b x x ≡ x
 same_arms true x = refl
@@ -175,11 +175,9 @@ pub decoded_none : (line frame : List ℕ) → length frame ≡ 65 → Decoded l
 decoded_none line frame e = record { within = omega arith; few = omega arith; sized = e; same = from_none line }
 
 module _ (line frame : List ℕ) (at n : ℕ) (d : Decoded line frame at n) where
-  pub decoded_bad : rest (drop at line) ≡ bad → (0 ≡ length (bytes_of line)) × (take 0 frame ≡ bytes_of line)
+  pub decoded_bad : rest (drop at line) ≡ bad → bytes_of line ≡ []
   unfolding not_too_long joined
-  decoded_bad e =
-      let none : bytes_of line ≡ [] = d.same ∙ rw e in
-      (rw none refl, rw none refl)
+  decoded_bad e = d.same ∙ rw e
 
   -- a byte more than a frame has
   too_long_lem : (xs : List ℕ) (x : ℕ) (f : Found) → length xs ≡ 65 → not_too_long (joined xs (preceded x f)) ≡ []
@@ -187,11 +185,10 @@ module _ (line frame : List ℕ) (at n : ℕ) (d : Decoded line frame at n) wher
   too_long_lem xs x bad e = refl
   too_long_lem xs x (good ys) e = let h : 65 < length (xs ++ x ∷ ys) = simp length-append (omega arith) in rw (lt-ltb _ _ h)
 
-  pub decoded_full : (high low : ℕ) → Pair line at high low → n ≡ 65 → (0 ≡ length (bytes_of line)) × (take 0 frame ≡ bytes_of line)
+  pub decoded_full : (high low : ℕ) → Pair line at high low → n ≡ 65 → bytes_of line ≡ []
   decoded_full high low p full =
       let e : length (take n frame) ≡ 65 = length-take-le n frame (omega (arith, d.sized)) ∙ full in
-      let none : bytes_of line ≡ [] = d.same ∙ rw (rest_byte line at high low p) (too_long_lem (take n frame) (16 * high + low) (scan (drop (at + 2) line) between) e) in
-      (rw none refl, rw none refl)
+      d.same ∙ rw (rest_byte line at high low p) (too_long_lem (take n frame) (16 * high + low) (scan (drop (at + 2) line) between) e)
 
   pub decoded_more : (high low r : ℕ) → Pair line at high low → (n ≡ 65 → ⊥) → NextByte line (at + 2) r → Decoded line (set frame n (16 * high + low)) r (n + 1)
   decoded_more high low r p room next =
@@ -209,8 +206,38 @@ module _ (line frame : List ℕ) (at n : ℕ) (d : Decoded line frame at n) wher
   unfolding not_too_long rest joined
   ends_short xs h = rw (append-nil xs, le-ltb _ _ h)
 
-  pub decoded_done : length line ≤ at → (n ≡ length (bytes_of line)) × (take n frame ≡ bytes_of line)
+  decoded_done : length line ≤ at → (n ≡ length (bytes_of line)) × (take n frame ≡ bytes_of line)
   decoded_done end =
       let sized : length (take n frame) ≡ n = length-take-le n frame (omega (arith, d.sized, d.few)) in
       let all : bytes_of line ≡ take n frame = d.same ∙ rw (drop_of_length-le line end) (ends_short (take n frame) (omega (arith, d.few))) in
       (rw all (sym sized), sym all)
+
+  pub decoded_nothing : length line ≤ at → n ≡ 0 → bytes_of line ≡ []
+  decoded_nothing end none = sym (decoded_done end).1 ∙ rw none refl
+
+  pub decoded_bytes : length line ≤ at → (n ≡ 0 → ⊥) → (Some n ≡ frame_length line) × (take (length (bytes_of line)) frame ≡ bytes_of line)
+  decoded_bytes end some =
+      let both = decoded_done end in
+      let more : 0 < length (bytes_of line) = omega (arith, some, both.0) in
+      (rw (lt-ltb 0 (length (bytes_of line)) more) (ap Some both.0), ap (λ (m : ℕ). take m frame) (sym both.0) ∙ both.1)
+
+-- a line without bytes
+pub none_decoded : (line frame : List ℕ) → bytes_of line ≡ [] → (◌≡◌ {A = Option ℕ} None (frame_length line)) × (take (length (bytes_of line)) frame ≡ bytes_of line)
+none_decoded line frame e = rw e (refl, refl)
+
+pub nothing_decoded : (line : List ℕ) → frame_length line ≡ None → bytes_of line ≡ []
+nothing_decoded line = cases (bytes_of line)
+  where
+    no_some : (n : ℕ) → ◌≡◌ {A = Option ℕ} (Some n) None → ⊥
+    no_some n e = cc
+
+    cases : (xs : List ℕ) → then_some (ltb 0 (length xs)) (length xs) ≡ None → xs ≡ []
+    cases [] e = refl
+    cases (x ∷ xs) e = let more : 0 < length (x ∷ xs) = omega arith in absurd (no_some (length (x ∷ xs)) (rw (lt-ltb 0 (length (x ∷ xs)) more) at e))
+
+pub something_decoded : (line : List ℕ) (n : ℕ) → frame_length line ≡ Some n → n ≡ length (bytes_of line)
+something_decoded line n = cases (ltb 0 (length (bytes_of line))) (length (bytes_of line))
+  where
+    cases : (b : Bool) (m : ℕ) → then_some b m ≡ Some n → n ≡ m
+    cases true m e = let same : m ≡ n = cc in sym same
+    cases false m e = absurd (false≢true cc)

@@ -1,17 +1,15 @@
 -- What a program that reads, takes turns and prints holds at every place: what its turns over the whole input so far lead to.
 -- A chunk that was read is to come; a turn takes from it; in the end nothing of it is left.
-use mathlib.Core.Path.{◌≡◌, sym, ap, ◌∙◌}
+use mathlib.Core.Path.{◌≡◌, sym}
 use mathlib.Core.List.{List, [], ◌++◌, append_assoc, append-nil}
-use Prim.Native.Nat.{ℕ, ◌≤◌}
-use lib.ListN.{length, drop, replicate, drop_of_length-le}
-use lib.Seq.{drop-drop}
+use Prim.Native.Nat.{ℕ}
+use lib.ListN.{drop}
 use Rattle.session.specs.declared.turn.Progress.{Progress}
 use Rattle.session.specs.declared.turn.Taken.{Taken}
 use Rattle.session.specs.Input.{fresh, printed_from, printed}
-use Rattle.session.specs.Turns.{start_progress, Reader, turn_of, end_of, held_in, Lent, Turned}
+use Rattle.session.specs.Turns.{Reader, reader_at, turn_of, end_of, held_in, Turned}
 use Rattle.session.proofs.Feeds.{empty_none}
 use Rattle.session.proofs.Turns.{Led, led_none, led_then, led_turn, end_answers}
-use Rattle.session.proofs.Takes.{turned_held}
 
 -- From the start, earlier chunks and this one lead to what is held, but for what is left of this one.
 pub record Read (r : Reader) (chunk left : List ℕ) : Type 0 where
@@ -19,8 +17,8 @@ pub record Read (r : Reader) (chunk left : List ℕ) : Type 0 where
   pub text : List ℕ
   pub led : Led [] (earlier ++ chunk) fresh text r left
 
-pub read_start : (p : Progress) (line : List ℕ) → p ≡ start_progress → Read (held_in p line (replicate 24576 0) (replicate 24576 0) (replicate 64 0)) [] []
-read_start p line e = rw e (record { earlier = []; text = []; led = led_none [] fresh empty_none })
+pub read_start : (r : Reader) → r ≡ reader_at [] fresh → Read r [] []
+read_start r e = rw e (record { earlier = []; text = []; led = led_none [] fresh empty_none })
 
 -- a chunk is read
 pub read_chunk : (r : Reader) (chunk : List ℕ) → Read r [] [] → Read r chunk chunk
@@ -41,24 +39,23 @@ read_chunk r chunk read =
     }
 
 -- a turn is taken
-pub read_turn : (r : Reader) (chunk : List ℕ) (at : ℕ) (line₀ text₀ : List ℕ) (t : Taken) (line₁ : List ℕ) (after : Lent) → Read r chunk (drop at chunk) →
-    Turned (turn_of (drop at chunk) r) at line₀ text₀ t line₁ after → Read (held_in t.progress line₁ after.left after.right after.out) chunk (drop t.next chunk)
-read_turn r chunk at line₀ text₀ t line₁ after read turned =
-    let turn = turn_of (drop at chunk) r in
+pub read_turn : (p : Progress) (chunk left text₀ : List ℕ) (t : Taken) (after : Progress) (text₁ : List ℕ) → Read (held_in p) chunk left → Turned (turn_of left (held_in p)) p text₀ t after text₁ →
+    Read (held_in after) chunk (drop t.consumed left)
+read_turn p chunk left text₀ t after text₁ read turned =
+    let turn = turn_of left (held_in p) in
     let l = read.led in
-    let here : Led l.line (drop at chunk) l.session turn.outcome.printed turn.outcome.reader (drop turn.consumed (drop at chunk)) = rw l.held (led_turn (drop at chunk) l.line l.session l.none) in
-    let left : drop turn.consumed (drop at chunk) ≡ drop t.next chunk = drop-drop turn.consumed at chunk ∙ ap (λ (n : ℕ). drop n chunk) (sym turned.next) in
-    rw (turned_held chunk at r line₀ text₀ t line₁ after turned, ← left)
+    let here : Led l.line left l.session turn.outcome.printed turn.outcome.reader (drop turn.consumed left) = rw l.held (led_turn left l.line l.session l.none) in
+    rw (turned.told.held, turned.consumed)
     (record {
       earlier = read.earlier;
       text = read.text ++ turn.outcome.printed;
-      led = led_then [] (read.earlier ++ chunk) fresh read.text r (drop at chunk) turn.outcome.printed turn.outcome.reader (drop turn.consumed (drop at chunk)) l here;
+      led = led_then [] (read.earlier ++ chunk) fresh read.text (held_in p) left turn.outcome.printed turn.outcome.reader (drop turn.consumed left) l here;
     })
 
 -- a chunk is used up
-pub read_on : (r : Reader) (chunk : List ℕ) (at : ℕ) → Read r chunk (drop at chunk) → length chunk ≤ at → Read r [] []
-read_on r chunk at read h =
-    let l : Led [] (read.earlier ++ chunk) fresh read.text r [] = rw (drop_of_length-le chunk h) at read.led in
+pub read_on : (r : Reader) (chunk left : List ℕ) → Read r chunk left → left ≡ [] → Read r [] []
+read_on r chunk left read none =
+    let l : Led [] (read.earlier ++ chunk) fresh read.text r [] = rw none at read.led in
     record { earlier = read.earlier ++ chunk; text = read.text; led = rw append-nil l }
 
 -- at the end, all that was printed is what the whole input is answered with

@@ -16,12 +16,10 @@ use Rattle.session.specs.Frames.{Asked}
 use Rattle.session.specs.declared.frame.Frame.TheVariants.{Piece, Close, Compare, CompareRange, Write, Empty}
 use Rattle.session.specs.declared.reply.Reply.TheVariants.{Done}
 use Rattle.session.specs.declared.reply.Refusal.TheVariants.{PastStore, Closed, Open}
-use Rattle.session.specs.declared.step.SideState.{SideState}
-use Rattle.session.specs.declared.step.State.{State}
 use Rattle.session.specs.Frames.{frame_of}
 use Rattle.session.specs.Lines.{bytes_of}
 use Rattle.session.specs.Replies.{written_reply}
-use Rattle.session.specs.Steps.{side_state, side_stepped, emptied, image_of, past_store, piece_side, piece_store, closed_by, close_side, store_of, side_of, write_reply, write_out, piece_stepped, close_stepped, write_stepped, written_out, empty_stepped, After, obeyed, after_frame, after_line}
+use Rattle.session.specs.Steps.{SideState, State, side_state, side_stepped, emptied, image_of, past_store, piece_side, piece_store, closed_by, close_side, store_of, side_of, write_reply, write_out, piece_stepped, close_stepped, write_stepped, written_out, empty_stepped, After, obeyed, after_frame, after_line}
 use Rattle.session.specs.Sessions.{next, refusal, refused_state, Unchanged}
 
 -- a piece

@@ -10,19 +10,20 @@ use lib.Dec.{ltb}
 use borrow.Author.Tests.{lt-ltb, le-ltb}
 use native.Mathlib.Omega.{arith}
 use Rattle.image.specs.declared.answer.Side.{Side}
+use Rattle.image.specs.declared.answer.Side.TheVariants.{Left, Right}
 use Rattle.image.specs.Faults.{Checked, check_image}
 use Rattle.std.proofs.Common.{Ok, Err}
 use Rattle.image.specs.declared.answer.Fault.{Fault}
 use Rattle.session.specs.Frames.{Asked}
-use Rattle.session.specs.declared.frame.Frame.TheVariants.{Piece}
+use Rattle.session.specs.declared.frame.Frame.TheVariants.{Piece, Close, Write, Empty}
 use Rattle.session.specs.Replies.{Replied}
 use Rattle.session.specs.declared.reply.Reply.TheVariants.{Done}
 use Rattle.session.specs.declared.reply.Refusal.TheVariants.{Faulty, PastStore, Closed, Open}
-use Rattle.session.specs.declared.step.SideState.{SideState}
-use Rattle.session.specs.declared.step.State.{State}
 use Rattle.session.specs.Frames.{frame_of}
-use Rattle.session.specs.Steps.{side_state, side_stepped, emptied, image_of, past_store, piece_side, piece_store, close_side, closed_both, both_closed}
-use Rattle.session.proofs.Fronts.{front_same, front_length}
+use Rattle.session.specs.Steps.{SideState, State, side_state, side_stepped, emptied, image_of, past_store, piece_side, piece_store, close_side, closed_both, both_closed, write_reply, write_out, piece_stepped, close_stepped, write_stepped, written_out, empty_stepped, After, obeyed}
+use Rattle.session.specs.declared.store.Store.{Store}
+use Rattle.session.specs.declared.step.Session.{Session}
+use Rattle.session.specs.Stores.{side_of_store, state_of, store_at, with_store, after_of}
 
 -- the arm that a test takes
 yes : {A : Type 0} (b : Bool) (x y : A) → b ≡ true → x ≡ cond b x y
@@ -33,23 +34,15 @@ no : {A : Type 0} (b : Bool) (x y : A) → b ≡ false → y ≡ cond b x y
 no true x y e = cc
 no false x y e = refl
 
-module _ (store : List ℕ) (s : SideState) (n : ℕ) (fills : n ≡ length (image_of s store)) where
-  pub front_image : take n store ≡ image_of s store
-  unfolding image_of
-  front_image = front_same n s.used store fills
-
-  pub image_length : n ≡ length (take n store)
-  unfolding image_of
-  image_length = front_length n s.used store fills
-
-  -- a close of an open side
-  pub close_accepts : (x : Checked) → s.closed ≡ false → x ≡ check_image (take n store) → x ≡ Ok tt → side_stepped (side_state s.used true) (Ok Done) ≡ close_side store s
+-- a store's image, and a close of an open side
+module _ (store : List ℕ) (s : SideState) (image : List ℕ) (is_image : image ≡ image_of s store) where
+  pub close_accepts : (x : Checked) → s.closed ≡ false → x ≡ check_image image → x ≡ Ok tt → side_stepped (side_state s.used true) (Ok Done) ≡ close_side store s
   unfolding close_side
-  close_accepts x was e is = rw (← front_image, ← e, is, was)
+  close_accepts x was e is = rw (← is_image, ← e, is, was)
 
-  pub close_refuses : (x : Checked) (f : Fault) → s.closed ≡ false → x ≡ check_image (take n store) → x ≡ Err f → side_stepped emptied (Err (Faulty f)) ≡ close_side store s
+  pub close_refuses : (x : Checked) (f : Fault) → s.closed ≡ false → x ≡ check_image image → x ≡ Err f → side_stepped emptied (Err (Faulty f)) ≡ close_side store s
   unfolding close_side
-  close_refuses x f was e is = rw (← front_image, ← e, is, was)
+  close_refuses x f was e is = rw (← is_image, ← e, is, was)
 
 -- both sides are closed, or one is not
 pub left_open : (state : State) → state.left.closed ≡ false → false ≡ closed_both state
@@ -85,6 +78,44 @@ module _ (store : List ℕ) (s : SideState) (bytes : List ℕ) where
   piece_fits after n was whole fits put =
       let under : ltb (length store) (s.used + length bytes) ≡ false = le-ltb (length store) (s.used + length bytes) (rw (← whole) fits) in
       (ap (λ (m : ℕ). side_stepped (side_state (s.used + m) false) (Ok Done)) whole ∙ no _ _ _ under ∙ no s.closed _ _ was, put ∙ ap (paste store s.used bytes) whole ∙ no _ _ _ under ∙ no s.closed _ _ was)
+
+-- what is done to a side's store, in a session
+module _ (s : Session) (w : Store) (r : Replied) (b : List ℕ) where
+  abbrev held : Side → List ℕ
+  held side = (store_at side s.stores).bytes
+
+  abbrev now : Side → SideState
+  now side = side_of_store (store_at side s.stores)
+
+  abbrev changed : Side → Session
+  changed side = record s { stores = with_store side s.stores w }
+
+  abbrev asked : Asked → After
+  asked f = obeyed f b s.stores.left.bytes s.stores.right.bytes (state_of s.stores) s.out
+
+  pub piece_done : (side : Side) → side_stepped (side_of_store w) r ≡ piece_side (held side) (now side) (drop 1 b) → w.bytes ≡ piece_store (held side) (now side) (drop 1 b) →
+      after_of r (changed side) ≡ asked (Ok (Piece side))
+  unfolding piece_stepped
+  piece_done Left p q = rw (← p, q) refl
+  piece_done Right p q = rw (← p, q) refl
+
+  pub close_done : (side : Side) → side_stepped (side_of_store w) r ≡ close_side (held side) (now side) → w.bytes ≡ held side → after_of r (changed side) ≡ asked (Ok (Close side))
+  unfolding close_stepped
+  close_done Left p q = rw (← p, q) refl
+  close_done Right p q = rw (← p, q) refl
+
+  pub empty_done : (side : Side) → r ≡ Ok Done → side_of_store w ≡ emptied → w.bytes ≡ held side → after_of r (changed side) ≡ asked (Ok (Empty side))
+  unfolding empty_stepped
+  empty_done Left e p q = rw (e, p, q) refl
+  empty_done Right e p q = rw (e, p, q) refl
+
+-- a write of a side's rows, which leaves the stores
+pub write_done : (s : Session) (r : Replied) (out b : List ℕ) (i n : ℕ) (side : Side) → r ≡ write_reply (store_at side s.stores).bytes (side_of_store (store_at side s.stores)) side i n s.out →
+    out ≡ write_out (store_at side s.stores).bytes (side_of_store (store_at side s.stores)) i n s.out →
+    after_of r (record { stores = with_store side s.stores (store_at side s.stores); out = out }) ≡ obeyed (Ok (Write side i n)) b s.stores.left.bytes s.stores.right.bytes (state_of s.stores) s.out
+unfolding write_stepped written_out
+write_done s r out b i n Left p q = rw (p, q) refl
+write_done s r out b i n Right p q = rw (p, q) refl
 
 -- a frame that is a piece has a first byte
 pub piece_long : (b : List ℕ) (x : Asked) (side : Side) → x ≡ frame_of b → x ≡ Ok (Piece side) → 1 ≤ length b

@@ -7,21 +7,34 @@ use native.Mathlib.Numerals.{add-one}
 use native.Mathlib.Omega.{arith}
 use lib.ListN.{length, get_or, take, drop, set, length-take, length-append, length-set}
 use lib.Seq.{sets, sets-eq, take-append_seam, take_all, take-suc, length-take-le, drop-cons, set_at, append_snoc}
+use Rattle.std.proofs.lemmas.Slice.{take-put_mid}
+use borrow.Rule.Slice.PartMut.{put_mid}
 use Rattle.image.specs.Bytes.{number_bytes}
 use mathlib.Core.Bool.{Bool, true, false}
 use mir.Val.{bool_byte}
 use Rattle.answers.specs.Numbers.{yes_value}
 use Rattle.std.proofs.Common.{Ok, Err}
+use Rattle.image.specs.declared.answer.Side.{Side}
+use Rattle.image.specs.declared.answer.Fault.{Fault}
 use Rattle.session.specs.Replies.{Replied}
+use Rattle.session.specs.declared.reply.Refusal.{Refusal}
 use Rattle.session.specs.declared.reply.Reply.TheVariants.{Done, Answer, Bytes}
 use Rattle.session.specs.declared.reply.Refusal.TheVariants.{NoFrame, Faulty, UnequalTypes, OutOfRange, PastStore, Closed, Open, TooLong}
-use Rattle.session.specs.Replies.{reply_bytes, digit_text, hex_text, line_text}
+use Rattle.session.specs.Replies.{refusal_rest, reply_bytes, digit_text, hex_text, line_text}
 
 -- bytes that are stored one by one from the front on
 pub puts : (bytes vs : List ℕ) → length vs ≤ length bytes → take (length vs) (sets bytes 0 vs) ≡ vs
 puts bytes vs h =
     let h' : 0 + length vs ≤ length bytes = omega arith in
     rw (sets-eq vs bytes 0 h') (take-append_seam vs (drop (0 + length vs) bytes))
+
+-- a number, and behind it two bytes that are copied
+pub number_then : (number node : ℕ) (bytes part : List ℕ) → 1 ≤ length bytes → part ≡ number_bytes 2 node → take 3 (put_mid 1 2 (set bytes 0 number) part) ≡ number ∷ number_bytes 2 node
+unfolding number_bytes
+number_then number node bytes part h e =
+    let three : 3 ≡ 1 + length part = rw e refl in
+    let one : take 1 (set bytes 0 number) ≡ number ∷ [] = puts bytes (number ∷ []) h in
+    take-put_mid 1 2 (set bytes 0 number) part 3 three (omega (arith, length-set bytes 0 number)) ∙ rw (one, e) refl
 
 -- a reply has at most 65 bytes
 pub reply_few : (reply : Replied) (out : List ℕ) → length out ≤ 64 → length (reply_bytes reply out) ≤ 65
@@ -37,6 +50,17 @@ reply_few (Err PastStore) out h = omega arith
 reply_few (Err Closed) out h = omega arith
 reply_few (Err Open) out h = omega arith
 reply_few (Err TooLong) out h = omega arith
+
+-- a refusal that is no fault of an image and no range outside is its number alone
+pub alone : (r : Refusal) → ((f : Fault) → r ≡ Faulty f → ⊥) → ((s : Side) → r ≡ OutOfRange s → ⊥) → refusal_rest r ≡ []
+alone (NoFrame fault) p q = refl
+alone (Faulty f) p q = absurd (p f refl)
+alone UnequalTypes p q = refl
+alone (OutOfRange side) p q = absurd (q side refl)
+alone PastStore p q = refl
+alone Closed p q = refl
+alone Open p q = refl
+alone TooLong p q = refl
 
 -- the byte of a yes or no
 pub yes_byte : (b : Bool) → bool_byte b ≡ yes_value b

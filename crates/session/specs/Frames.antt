@@ -19,6 +19,12 @@ of_length n b = cond (eqb (length b) n) (Ok tt) (Err WrongForm)
 unfoldable pub side_in : List ℕ → Result Side FrameFault
 side_in b = cond (eqb (byte_at b 1) 0) (Ok Left) (cond (eqb (byte_at b 1) 1) (Ok Right) (Err WrongForm))
 
+-- the side of a frame of two bytes
+abbrev pub only_side : List ℕ → Result Side FrameFault
+only_side b = do
+  _ ← of_length 2 b
+  side_in b
+
 -- what is asked, or why the bytes are no frame
 abbrev pub Asked : Type 0
 Asked = Result Frame FrameFault
@@ -28,8 +34,7 @@ piece_frame b side = cond (ltb (length b) 2) (Err WrongForm) (Ok (Piece side))
 
 unfoldable pub close_frame : List ℕ → Asked
 close_frame b = do
-  _ ← of_length 2 b
-  side ← side_in b
+  side ← only_side b
   Ok (Close side)
 
 unfoldable pub compare_frame : List ℕ → Asked
@@ -50,8 +55,7 @@ write_frame b = do
 
 unfoldable pub empty_frame : List ℕ → Asked
 empty_frame b = do
-  _ ← of_length 2 b
-  side ← side_in b
+  side ← only_side b
   Ok (Empty side)
 
 -- "2 first byte not 01 to 07"

@@ -5,4 +5,5 @@ pub mod Lines
 pub mod Replies
 pub mod Sessions
 pub mod Steps
+pub mod Stores
 pub mod Turns

@@ -45,16 +45,31 @@ frame_fault_number NotHexadecimal = 1
 frame_fault_number UnknownCommand = 2
 frame_fault_number WrongForm = 3
 
--- the bytes of a refusal: its number, and for 10 to 19 the node, for 21 the side
+-- the number of a refusal
+abbrev pub refusal_number : Refusal → ℕ
+refusal_number (NoFrame fault) = frame_fault_number fault
+refusal_number (Faulty f) = f.number
+refusal_number UnequalTypes = 20
+refusal_number (OutOfRange side) = 21
+refusal_number PastStore = 40
+refusal_number Closed = 41
+refusal_number Open = 42
+refusal_number TooLong = 43
+
+-- what follows it: for 10 to 19 the node, for 21 the side
+abbrev pub refusal_rest : Refusal → List ℕ
+refusal_rest (NoFrame fault) = []
+refusal_rest (Faulty f) = number_bytes 2 f.node
+refusal_rest UnequalTypes = []
+refusal_rest (OutOfRange side) = side_number side ∷ []
+refusal_rest PastStore = []
+refusal_rest Closed = []
+refusal_rest Open = []
+refusal_rest TooLong = []
+
+-- the bytes of a refusal
 abbrev pub refusal_bytes : Refusal → List ℕ
-refusal_bytes (NoFrame fault) = frame_fault_number fault ∷ []
-refusal_bytes (Faulty f) = f.number ∷ number_bytes 2 f.node
-refusal_bytes UnequalTypes = 20 ∷ []
-refusal_bytes (OutOfRange side) = 21 ∷ side_number side ∷ []
-refusal_bytes PastStore = 40 ∷ []
-refusal_bytes Closed = 41 ∷ []
-refusal_bytes Open = 42 ∷ []
-refusal_bytes TooLong = 43 ∷ []
+refusal_bytes refusal = refusal_number refusal ∷ refusal_rest refusal
 
 -- the bytes of a reply; the written bytes stand at the output's front
 abbrev pub answer_bytes : Reply → List ℕ → List ℕ

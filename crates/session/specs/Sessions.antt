@@ -3,12 +3,10 @@ use Rattle.std.specs.Prelude.{◌≡◌, Bool, true, cond, List, [], ◌∷◌, 
 use Rattle.image.specs.Faults.{check_image}
 use Rattle.session.specs.declared.frame.Frame.TheVariants.{Piece, Close, Compare, CompareRange, Write, Empty}
 use Rattle.session.specs.declared.reply.Reply.TheVariants.{Done}
-use Rattle.session.specs.declared.step.SideState.{SideState}
-use Rattle.session.specs.declared.step.State.{State}
 use Rattle.session.specs.Frames.{Asked, frame_of}
 use Rattle.session.specs.Lines.{bytes_of}
 use Rattle.session.specs.Replies.{Replied, reply_line}
-use Rattle.session.specs.Steps.{image_of, start_state, side_of, replied, empty_stepped, After, after, after_line}
+use Rattle.session.specs.Steps.{SideState, State, image_of, start_state, side_of, replied, empty_stepped, After, after, after_line}
 
 -- before the first line, with stores and an output that hold anything; no reply is given yet
 abbrev pub started : List ℕ → List ℕ → List ℕ → After

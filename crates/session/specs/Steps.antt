@@ -8,13 +8,27 @@ use Rattle.answers.specs.Answers.{compare_answer, compare_range_answer, write_an
 use Rattle.session.specs.declared.frame.Frame.TheVariants.{Piece, Close, Compare, CompareRange, Write, Empty}
 use Rattle.session.specs.declared.reply.Reply.TheVariants.{Done}
 use Rattle.session.specs.declared.reply.Refusal.TheVariants.{NoFrame, Faulty, PastStore, Closed, Open}
-use Rattle.session.specs.declared.step.SideState.{SideState}
-use Rattle.session.specs.declared.step.State.{State}
-use Rattle.session.specs.declared.step.SideStepped.{SideStepped}
-use Rattle.session.specs.declared.step.Stepped.{Stepped}
 use Rattle.session.specs.Lines.{bytes_of}
 use Rattle.session.specs.Frames.{Asked, frame_of}
 use Rattle.session.specs.Replies.{Replied, compared_reply, ranges_reply, written_reply}
+
+-- one side: how much of its store is used, and whether it is closed
+pub record SideState : Type 0 where
+  pub used : ℕ
+  pub closed : Bool
+
+pub record State : Type 0 where
+  pub left : SideState
+  pub right : SideState
+
+-- a reply, and the side or the state after it
+pub record SideStepped : Type 0 where
+  pub state : SideState
+  pub reply : Replied
+
+pub record Stepped : Type 0 where
+  pub state : State
+  pub reply : Replied
 
 abbrev pub side_state : ℕ → Bool → SideState
 side_state used closed = record { used = used; closed = closed }

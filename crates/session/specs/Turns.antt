@@ -1,11 +1,11 @@
 -- Turns: what is done with the chunks that an input arrives in, a line at a time, and at the input's end.
-use Rattle.std.specs.Prelude.{cond, List, [], ◌∷◌, ◌++◌, ◌≡◌, ℕ, zero, suc, ◌+◌, length, take, drop, ltb}
-use Rattle.session.specs.declared.step.State.{State}
+use Rattle.std.specs.Prelude.{cond, List, [], ◌∷◌, ◌++◌, ◌≡◌, ℕ, zero, suc, ◌+◌, length, drop, ltb}
 use Rattle.session.specs.declared.turn.Progress.{Progress}
 use Rattle.session.specs.declared.turn.Taken.{Taken}
-use Rattle.session.specs.Feeds.{before_feed, has_feed, kept_of}
+use Rattle.session.specs.Feeds.{before_feed, has_feed, kept_of, kept_in}
 use Rattle.session.specs.Replies.{reply_line}
-use Rattle.session.specs.Steps.{start_state, After, after_line}
+use Rattle.session.specs.Steps.{State, After, after_line}
+use Rattle.session.specs.Stores.{state_of}
 
 -- What is held between two turns: of a line that has begun its first characters, 195 at most, and the session. Nothing is
 -- kept exactly where no line has begun.
@@ -60,40 +60,23 @@ end_of r =
     let ended = answered (line_at r.kept r) in
     cond (ltb 0 (length r.kept)) ended (outcome [] r)
 
--- before any input
-abbrev pub start_progress : Progress
-start_progress = record { kept = 0; state = start_state }
+-- what a progress holds: the characters that are kept stand at the front of its line
+abbrev pub held_in : Progress → Reader
+held_in p = reader (kept_in p.line) (state_of p.session.stores) p.session.stores.left.bytes p.session.stores.right.bytes p.session.out
 
--- what is held, where the characters that are kept stand at the front of the line
-abbrev pub held_in : Progress → List ℕ → List ℕ → List ℕ → List ℕ → Reader
-held_in progress line left right out = reader (take progress.kept line) progress.state left right out
-
--- what is lent beside the line
-pub record Lent : Type 0 where
-  pub left : List ℕ
-  pub right : List ℕ
-  pub out : List ℕ
-  pub text : List ℕ
-
-abbrev pub lent : List ℕ → List ℕ → List ℕ → List ℕ → Lent
-lent left right out text = record { left = left; right = right; out = out; text = text }
-
--- The state and the lent bytes afterwards: what is printed, so many characters, stands at the front of the text, and the rest
--- of the text is as it was.
-pub record Told (given : Outcome) (state-after : State) (count : ℕ) (text-before : List ℕ) (after : Lent) : Type 0 where
-  pub state : state-after ≡ given.reader.state
-  pub left : after.left ≡ given.reader.left
-  pub right : after.right ≡ given.reader.right
-  pub out : after.out ≡ given.reader.out
+-- What is held afterwards, and what is printed: so many characters, at the front of the text. The rest of the text is as it
+-- was.
+pub record Told (given : Outcome) (after : Reader) (count : ℕ) (text-before text-after : List ℕ) : Type 0 where
+  pub held : after ≡ given.reader
   pub printed : count ≡ length given.printed
-  pub text : after.text ≡ given.printed ++ drop (length given.printed) text-before
+  pub text : text-after ≡ given.printed ++ drop (length given.printed) text-before
 
--- after a turn over a chunk from a place on also where the chunk goes on, how much is kept, and the line that is lent
-pub record Turned (turn : Turn) (at : ℕ) (line_before text-before : List ℕ) (taken : Taken) (line_after : List ℕ) (after : Lent) : Type 0 where
-  pub told : Told turn.outcome taken.progress.state taken.printed text-before after
-  pub next : taken.next ≡ at + turn.consumed
-  pub kept : taken.progress.kept ≡ length turn.outcome.reader.kept
-  pub line : line_after ≡ turn.line ++ drop (length turn.line) line_before
+-- after a turn also how much of the chunk was taken, how much is kept, and every character of the line
+pub record Turned (turn : Turn) (before : Progress) (text-before : List ℕ) (taken : Taken) (after : Progress) (text-after : List ℕ) : Type 0 where
+  pub told : Told turn.outcome (held_in after) taken.printed text-before text-after
+  pub consumed : taken.consumed ≡ turn.consumed
+  pub kept : after.line.len ≡ length turn.outcome.reader.kept
+  pub chars : after.line.chars ≡ turn.line ++ drop (length turn.line) before.line.chars
 
 -- The turns over a chunk: each goes on where the one before it ended. A turn consumes a character at least, so that as many
 -- turns as characters are enough.

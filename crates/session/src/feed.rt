@@ -1,48 +1,60 @@
 // Lines out of the chunks that the input arrives in.
-ghost use Rattle.std.specs.Prelude.{◌≡◌, take};
-ghost use Rattle.session.specs.Feeds.{fed_of, line_after};
+ghost use Rattle.std.specs.Prelude.{◌≡◌, ◌++◌, length, drop, replicate};
+ghost use Rattle.session.specs.Feeds.{feed_at, kept_in, kept_with};
 
-use crate::front::front;
 use crate::line::LINE_FEED;
 use crate::sizes::KEPT;
 
-#[derive(Clone, Copy)]
-pub struct Fed {
-    // where the chunk goes on
-    pub next: usize,
-    // how many characters of the line are kept
-    pub len: usize,
-    // a line feed ended the line
-    pub whole: bool,
+// Where the first line feed of a chunk stands.
+pub fn line_feed(chunk: &[u8]) -> Option<usize>
+    ensures { result ≡ feed_at chunk.now }
+{
+    chunk.iter().position(|c| *c == LINE_FEED)
 }
 
-// Takes characters of a chunk from a place on, up to a line feed or the chunk's end, to those of the line that are kept
-// already.
-pub fn feed(chunk: &[u8], at: usize, line: &mut [u8; KEPT], len: usize) -> Fed
-    ensures value { result ≡ fed_of chunk.now at (take len line.old) }
-    ensures line_after { line.new ≡ line_after chunk.now at line.old len }
-{
-    let kept: &mut [u8] = line;
-    let mut i = at;
-    let mut n = front(kept, len);
-    while i < chunk.len() {
-        let c = chunk[i];
-        i += 1;
-        if c == LINE_FEED {
-            return Fed {
-                next: i,
-                len: n,
-                whole: true,
-            };
-        }
-        if n < KEPT {
-            kept[n] = c;
-            n += 1;
+// The first characters of a line: all that have come, or 195 where there are more.
+#[derive(Drop)]
+pub struct Line {
+    chars: [u8; KEPT],
+    // how many of them are kept; none where no line has begun
+    pub len: usize,
+}
+
+impl Line {
+    // No line has begun.
+    pub fn new() -> Line
+        ensures chars { result.chars ≡ replicate 195 0 }
+        ensures len { result.len ≡ 0 }
+    {
+        Line {
+            chars: [0; KEPT],
+            len: 0,
         }
     }
-    Fed {
-        next: i,
-        len: n,
-        whole: false,
+
+    // The characters that are kept.
+    pub fn kept(&self) -> &[u8]
+        ensures { result.now ≡ kept_in self.now }
+    {
+        &self.chars[..self.len.min(KEPT)]
+    }
+
+    // More characters of the line, kept as long as there is room.
+    pub fn add(&mut self, more: &[u8])
+        ensures len { self.new.len ≡ length (kept_with (kept_in self.old) more.now) }
+        ensures chars { self.new.chars ≡ kept_with (kept_in self.old) more.now ++ drop (length (kept_with (kept_in self.old) more.now)) self.old.chars }
+    {
+        let at = self.len.min(KEPT);
+        let n = more.len().min(KEPT - at);
+        self.chars[at..at + n].copy_from_slice(&more[..n]);
+        self.len = at + n;
+    }
+
+    // The line was answered.
+    pub fn clear(&mut self)
+        ensures len { self.new.len ≡ 0 }
+        ensures chars { self.new.chars ≡ self.old.chars }
+    {
+        self.len = 0;
     }
 }

@@ -1,6 +1,6 @@
 // Frames: what the bytes of a line ask for.
 ghost use Rattle.std.specs.Prelude.{◌≡◌};
-ghost use Rattle.session.specs.Frames.{of_length, side_in, piece_frame, close_frame, compare_frame, range_frame, write_frame, empty_frame, frame_of};
+ghost use Rattle.session.specs.Frames.{of_length, side_in, only_side, piece_frame, compare_frame, range_frame, write_frame, frame_of};
 
 use image::answer::Side;
 use image::bytes::{byte, le};
@@ -9,13 +9,14 @@ use image::bytes::{byte, le};
 pub enum Frame {
     // a piece of an image, the bytes after the first
     Piece(Side),
+    // "03 side, close"
     Close(Side),
     Compare,
     // left start, right start, count
     CompareRange(usize, usize, usize),
     // side, start, count
     Write(Side, usize, usize),
-    // empty and open
+    // "07 side, empty and open"
     Empty(Side),
 }
 
@@ -58,13 +59,12 @@ fn piece_frame(frame: &[u8], side: Side) -> Result<Frame, FrameFault>
     Ok(Frame::Piece(side))
 }
 
-// "03 side, close"
-fn close_frame(frame: &[u8]) -> Result<Frame, FrameFault>
-    ensures { result ≡ close_frame frame.now }
+// The side that a frame of two bytes names.
+fn only_side(frame: &[u8]) -> Result<Side, FrameFault>
+    ensures { result ≡ only_side frame.now }
 {
     of_length(frame, 2)?;
-    let side = side_in(frame)?;
-    Ok(Frame::Close(side))
+    side_in(frame)
 }
 
 // "04 compare all"
@@ -92,15 +92,6 @@ fn write_frame(frame: &[u8]) -> Result<Frame, FrameFault>
     Ok(Frame::Write(side, le::<4>(frame, 2), le::<4>(frame, 6)))
 }
 
-// "07 side, empty and open"
-fn empty_frame(frame: &[u8]) -> Result<Frame, FrameFault>
-    ensures { result ≡ empty_frame frame.now }
-{
-    of_length(frame, 2)?;
-    let side = side_in(frame)?;
-    Ok(Frame::Empty(side))
-}
-
 // What the bytes of a line ask for; no bytes are a line that is not hexadecimal.
 pub fn parse(frame: &[u8]) -> Result<Frame, FrameFault>
     ensures { result ≡ frame_of frame.now }
@@ -111,11 +102,11 @@ pub fn parse(frame: &[u8]) -> Result<Frame, FrameFault>
     match byte(frame, 0) {
         1 => piece_frame(frame, Side::Left),
         2 => piece_frame(frame, Side::Right),
-        3 => close_frame(frame),
+        3 => Ok(Frame::Close(only_side(frame)?)),
         4 => compare_frame(frame),
         5 => range_frame(frame),
         6 => write_frame(frame),
-        7 => empty_frame(frame),
+        7 => Ok(Frame::Empty(only_side(frame)?)),
         _ => Err(FrameFault::UnknownCommand),
     }
 }

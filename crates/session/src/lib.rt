@@ -3,9 +3,9 @@
 
 mod feed;
 mod frame;
-mod front;
 mod line;
 mod reply;
 pub mod sizes;
 mod step;
+mod store;
 pub mod turn;

@@ -1,9 +1,9 @@
 // Replies and refusals, and the line of characters that each is printed as.
 ghost use Rattle.std.specs.Prelude.{◌≡◌, ◌++◌, ◌+◌, ◌≤◌, length, take, drop};
-ghost use Rattle.session.specs.Replies.{compared_reply, ranges_reply, written_reply, frame_fault_number, refusal_bytes, answer_bytes, reply_bytes, digit_text, line_text, reply_line};
+ghost use Rattle.session.specs.declared.reply.Refusal.TheVariants.{NoFrame};
+ghost use Rattle.session.specs.Replies.{compared_reply, ranges_reply, written_reply, refusal_number, refusal_bytes, answer_bytes, reply_bytes, digit_text, line_text, reply_line};
 
 use crate::frame::FrameFault;
-use crate::front::front;
 use crate::line::LINE_FEED;
 use crate::sizes::{LONGEST_REPLY, OUTPUT};
 use answers::numbers::side_number;
@@ -21,25 +21,49 @@ pub enum Reply {
     Bytes(usize),
 }
 
-// Why a line is refused: the refusal's number, and what follows it.
+// Why a line is refused. Its line has the refusal's number, and what follows it.
 #[derive(Clone, Copy, Debug, PartialEq, Eq)]
 pub enum Refusal {
-    // 1, 2 or 3
     NoFrame(FrameFault),
-    // 10 to 19, then the node
+    // then the node
     Faulty(Fault),
-    // 20
     UnequalTypes,
-    // 21, then the side
+    // then the side
     OutOfRange(Side),
-    // 40: a piece past its store
+    // a piece past its store
     PastStore,
-    // 41: a piece for a side that is closed, or its close
+    // a piece for a side that is closed, or its close
     Closed,
-    // 42: a side that is needed is open
+    // a side that is needed is open
     Open,
-    // 43: the output is too small
+    // the output is too small
     TooLong,
+}
+
+impl Refusal {
+    // The refusal's number, the first byte of its line.
+    fn number(self) -> u8
+        ensures { result ≡ refusal_number self }
+    {
+        match self {
+            Refusal::NoFrame(fault) => fault as u8,
+            Refusal::Faulty(fault) => fault.number,
+            Refusal::UnequalTypes => 20,
+            Refusal::OutOfRange(_) => 21,
+            Refusal::PastStore => 40,
+            Refusal::Closed => 41,
+            Refusal::Open => 42,
+            Refusal::TooLong => 43,
+        }
+    }
+}
+
+impl From<FrameFault> for Refusal {
+    ghost from_gives = { λ e r. r ≡ NoFrame e };
+
+    fn from(fault: FrameFault) -> Refusal {
+        Refusal::NoFrame(fault)
+    }
 }
 
 // A reply has at most so many bytes, of which an output has all but the first.
@@ -80,17 +104,11 @@ pub fn written_reply(answer: Result<usize, WriteRefusal>, side: Side) -> Result<
 }
 
 // The character of a digit.
+// Kept: a digit's character is written out; the library has no `char::from_digit`.
 fn digit_text(x: u8) -> u8
     ensures { result ≡ digit_text x }
 {
-    if x < 10 { 48 + x } else { 87 + x % 16 }
-}
-
-// The number of a line that is no frame.
-fn frame_fault_number(fault: FrameFault) -> u8
-    ensures { result ≡ frame_fault_number fault }
-{
-    fault as u8
+    if x < 10 { b'0' + x } else { b'a' - 10 + x % 16 }
 }
 
 // The first n bytes of an output, put after the first byte; how many they are.
@@ -99,7 +117,7 @@ fn copy(n: usize, out: &[u8], bytes: &mut [u8]) -> usize
     ensures value { result ≡ length (take n out.now) }
     ensures bytes_after { take (1 + result) bytes.new ≡ take 1 bytes.old ++ take n out.now }
 {
-    let most = front(out, n);
+    let most = n.min(out.len());
     bytes[1..1 + most].copy_from_slice(&out[..most]);
     most
 }
@@ -110,43 +128,17 @@ fn refusal_bytes(refusal: Refusal, bytes: &mut [u8]) -> usize
     ensures value { result ≡ length (refusal_bytes refusal) }
     ensures bytes_after { take result bytes.new ≡ refusal_bytes refusal }
 {
+    bytes[0] = refusal.number();
     match refusal {
-        Refusal::NoFrame(fault) => {
-            bytes[0] = frame_fault_number(fault);
-            1
-        }
         Refusal::Faulty(fault) => {
-            let node = fault.node.to_le_bytes();
-            bytes[0] = fault.number;
-            bytes[1] = node[0];
-            bytes[2] = node[1];
+            bytes[1..3].copy_from_slice(&fault.node.to_le_bytes());
             3
         }
-        Refusal::UnequalTypes => {
-            bytes[0] = 20;
-            1
-        }
         Refusal::OutOfRange(side) => {
-            bytes[0] = 21;
             bytes[1] = side_number(side);
             2
         }
-        Refusal::PastStore => {
-            bytes[0] = 40;
-            1
-        }
-        Refusal::Closed => {
-            bytes[0] = 41;
-            1
-        }
-        Refusal::Open => {
-            bytes[0] = 42;
-            1
-        }
-        Refusal::TooLong => {
-            bytes[0] = 43;
-            1
-        }
+        _ => 1,
     }
 }
 
@@ -156,20 +148,14 @@ fn answer_bytes(reply: Reply, out: &[u8], bytes: &mut [u8]) -> usize
     ensures value { result ≡ length (answer_bytes reply out.now) }
     ensures bytes_after { take result bytes.new ≡ answer_bytes reply out.now }
 {
+    bytes[0] = 0;
     match reply {
-        Reply::Done => {
-            bytes[0] = 0;
-            1
-        }
+        Reply::Done => 1,
         Reply::Answer(agreed) => {
-            bytes[0] = 0;
             bytes[1] = u8::from(agreed);
             2
         }
-        Reply::Bytes(n) => {
-            bytes[0] = 0;
-            1 + copy(n, out, bytes)
-        }
+        Reply::Bytes(n) => 1 + copy(n, out, bytes),
     }
 }
 

@@ -1,132 +1,83 @@
 // Turns: the lines of an input that arrives in chunks, answered one after the other, and the end of the input.
-ghost use Rattle.std.specs.Prelude.{◌≡◌, take, drop};
-ghost use Rattle.session.specs.Steps.{after_line};
-ghost use Rattle.session.specs.Turns.{start_progress, lent, held_in, answered, turn_of, end_of, Told, Turned};
+ghost use Rattle.std.specs.Prelude.{◌≡◌, []};
+ghost use Rattle.session.specs.Input.{fresh};
+ghost use Rattle.session.specs.Turns.{reader_at, line_at, held_in, answered, turn_of, end_of, Told, Turned};
 
-use crate::feed::feed;
-use crate::front::front;
+use crate::feed::{Line, line_feed};
 use crate::reply::render;
-use crate::sizes::{KEPT, LONGEST_REPLY, OUTPUT, STORE};
-use crate::step::{State, both_open, step};
+use crate::sizes::LONGEST_REPLY;
+use crate::step::Session;
 
-// How many characters are kept where no line has begun.
-const NO_LINE: usize = 0;
-
-// How far an input was taken.
-#[derive(Clone, Copy)]
+// How far an input was taken: what is kept of a line that has begun, and the session.
+#[derive(Drop)]
 pub struct Progress {
-    // how many characters of a line are kept: none where no line has begun, and 195 where there would be more
-    pub kept: usize,
-    pub state: State,
+    line: Line,
+    session: Session,
 }
 
-// The state after a line, and how many characters of its reply's line stand at the text's front.
-#[derive(Clone, Copy)]
-pub struct Answered {
-    pub state: State,
-    pub printed: usize,
-}
-
+// What a turn did.
 #[derive(Clone, Copy)]
 pub struct Taken {
-    // where the chunk goes on
-    pub next: usize,
-    pub progress: Progress,
+    // how many characters of the chunk it took
+    pub consumed: usize,
     // how many characters are to be printed, at the text's front
     pub printed: usize,
 }
 
-// Before any input.
-pub fn start() -> Progress
-    ensures { result ≡ start_progress }
-{
-    Progress {
-        kept: NO_LINE,
-        state: both_open(),
+impl Progress {
+    // Before any input.
+    pub fn start() -> Progress
+        ensures { held_in result ≡ reader_at [] fresh }
+    {
+        Progress {
+            line: Line::new(),
+            session: Session::new(),
+        }
     }
-}
 
-// The line of the first `len` characters, answered.
-fn answer(
-    line: &[u8],
-    len: usize,
-    left: &mut [u8; STORE],
-    right: &mut [u8; STORE],
-    state: State,
-    out: &mut [u8; OUTPUT],
-    text: &mut [u8; LONGEST_REPLY],
-) -> Answered
-    ensures { Told (answered (after_line (take len line.now) left.old right.old state out.old)) result.state result.printed text.old (lent left.new right.new out.new text.new) }
-{
-    let n = front(line, len);
-    let stepped = step(&line[..n], left, right, state, out);
-    let after = stepped.state;
-    let reply = stepped.reply;
-    let printed = render(reply, out, text);
-    Answered {
-        state: after,
-        printed: printed,
+    // The line that is kept, answered; how many characters of its reply stand at the text's front.
+    fn answer(&mut self, text: &mut [u8; LONGEST_REPLY]) -> usize
+        ensures told { Told (answered (line_at (held_in self.old).kept (held_in self.old))) (held_in self.new) result text.old text.new }
+        ensures chars { self.new.line.chars ≡ self.old.line.chars }
+        ensures len { self.new.line.len ≡ 0 }
+    {
+        let reply = self.session.step(self.line.kept());
+        self.line.clear();
+        render(reply, &self.session.out, text)
     }
-}
 
-// Takes the characters of a chunk from a place on to those that are kept, up to a line feed or the chunk's end. A line
-// that a line feed ends is answered.
-pub fn turn(
-    chunk: &[u8],
-    at: usize,
-    progress: Progress,
-    line: &mut [u8; KEPT],
-    left: &mut [u8; STORE],
-    right: &mut [u8; STORE],
-    out: &mut [u8; OUTPUT],
-    text: &mut [u8; LONGEST_REPLY],
-) -> Taken
-    ensures { Turned (turn_of (drop at chunk.now) (held_in progress line.old left.old right.old out.old)) at line.old text.old result line.new (lent left.new right.new out.new text.new) }
-{
-    let fed = feed(chunk, at, line, progress.kept);
-    let next = fed.next;
-    let len = fed.len;
-    let state = progress.state;
-    if !fed.whole {
-        return Taken {
-            next: next,
-            progress: Progress {
-                kept: len,
-                state: state,
-            },
-            printed: 0,
-        };
+    // Takes the characters of a chunk to those that are kept, up to a line feed or the chunk's end. A line that a line
+    // feed ends is answered.
+    pub fn turn(&mut self, chunk: &[u8], text: &mut [u8; LONGEST_REPLY]) -> Taken
+        ensures { Turned (turn_of chunk.now (held_in self.old)) self.old text.old result self.new text.new }
+    {
+        match line_feed(chunk) {
+            None => {
+                self.line.add(chunk);
+                Taken {
+                    consumed: chunk.len(),
+                    printed: 0,
+                }
+            }
+            Some(end) => {
+                self.line.add(&chunk[..end]);
+                let printed = self.answer(text);
+                Taken {
+                    consumed: end + 1,
+                    printed: printed,
+                }
+            }
+        }
     }
-    let answered = answer(line, len, left, right, state, out, text);
-    let after = answered.state;
-    Taken {
-        next: next,
-        progress: Progress {
-            kept: NO_LINE,
-            state: after,
-        },
-        printed: answered.printed,
-    }
-}
 
-// The end of the input: a line that has begun is answered.
-pub fn end(
-    progress: Progress,
-    line: &[u8; KEPT],
-    left: &mut [u8; STORE],
-    right: &mut [u8; STORE],
-    out: &mut [u8; OUTPUT],
-    text: &mut [u8; LONGEST_REPLY],
-) -> Answered
-    ensures { Told (end_of (held_in progress line.now left.old right.old out.old)) result.state result.printed text.old (lent left.new right.new out.new text.new) }
-{
-    let kept = progress.kept;
-    let state = progress.state;
-    if kept > 0 {
-        return answer(line, kept, left, right, state, out, text);
-    }
-    Answered {
-        state: state,
-        printed: 0,
+    // The end of the input: a line that has begun is answered.
+    pub fn end(&mut self, text: &mut [u8; LONGEST_REPLY]) -> usize
+        ensures told { Told (end_of (held_in self.old)) (held_in self.new) result text.old text.new }
+        ensures chars { self.new.line.chars ≡ self.old.line.chars }
+    {
+        if self.line.len > 0 {
+            return self.answer(text);
+        }
+        0
     }
 }

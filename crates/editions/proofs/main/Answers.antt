@@ -1,36 +1,53 @@
 -- Every place of the program is reached with what its calls over the whole input so far lead to, and with the sizes that its
 -- calls need.
-use Rattle.std.proofs.Common.{◌-◌, ◌<◌, ◌≤◌, ℕ, List, length, take, drop, rules, arith}
-use lib.ListN.{length-take}
-use lib.Seq.{length-take-le}
-use Rattle.session.specs.declared.turn.Taken.{Taken}
-use Rattle.session.specs.Turns.{Reader, turn_of, Lent, Turned}
+use Rattle.std.proofs.Common.{Bool, true, false, ◌≡◌, ◌+◌, ◌-◌, ◌<◌, ◌≤◌, ℕ, List, [], length, take, drop, rules, tests, arith}
+use mathlib.Core.Bool.{cond}
+use mathlib.Core.Path.{refl}
+use lib.ListN.{length-drop, drop_of_length-le}
+use lib.Seq.{take_all}
+use Rattle.session.specs.Feeds.{before_feed, has_feed}
+use Rattle.session.specs.Turns.{Reader, turn_of, held_in}
+use Rattle.session.proofs.Feeds.{before_all, feed_inside}
 use Rattle.session.proofs.Reading.{read_start, read_chunk, read_turn, read_on}
 use Rattle.session.proofs.Takes.{turned_forward}
 use Rattle.editions.proofs.main.Goals as goal
 
--- a turn goes on
-nearer : (chunk : List ℕ) (n at : ℕ) (r : Reader) (line₀ text₀ : List ℕ) (taken : Taken) (line₁ : List ℕ) (after : Lent) →
-    Turned (turn_of (drop at (take n chunk)) r) at line₀ text₀ taken line₁ after → n ≤ length chunk → at < n → n - taken.next < n - at
-nearer chunk n at r line₀ text₀ taken line₁ after turned h more =
-    let inside : at < length (take n chunk) = rw (length-take-le n chunk h) more in
-    omega (arith, turned_forward (take n chunk) at r line₀ text₀ taken line₁ after turned inside)
+-- a turn consumes no more than there is
+turn_within : (chunk : List ℕ) (r : Reader) → (turn_of chunk r).consumed ≤ length chunk
+unfolding turn_of
+turn_within chunk r = cases (has_feed chunk) refl
+  where
+    cases : (b : Bool) → has_feed chunk ≡ b → length (before_feed chunk) + cond b 1 0 ≤ length chunk
+    cases true e = omega (arith, feed_inside chunk e)
+    cases false e = rw (before_all chunk e) (omega arith)
 
--- a chunk is used up where the place is past its end
-used_up : (chunk : List ℕ) (n at : ℕ) → n ≤ at → length (take n chunk) ≤ at
-used_up chunk n at h = omega (arith, length-take n chunk)
+-- what a turn leaves of a chunk
+rest_whole : (n : ℕ) (left : List ℕ) → take (length left - n) (drop n left) ≡ drop n left
+rest_whole n left = take_all (length left - n) (drop n left) (omega (arith, length-drop n left))
 
-pub loop-turns-init : goal.loop-turns-init
-loop-turns-init c = (search rules, read_start _ _ c.start-progress.ensures)
+pub loop-init : goal.loop-init
+loop-init c = read_start _ c.start-progress.ensures
 
-pub loop-at-init : goal.loop-at-init
-loop-at-init c = (search rules, search rules, read_chunk _ _ c.loop-turns.invariant.1)
+pub loop-left-init : goal.loop-left-init
+loop-left-init c = read_chunk _ _ c.loop.invariant
 
-pub loop-turns-preserved : goal.loop-turns-preserved
-loop-turns-preserved c = (search rules, read_on _ _ _ c.loop-at.invariant.2 (used_up _ _ _ c.loop-at-test.false))
+pub slice_bounds-left-count : goal.slice_bounds-left-count
+slice_bounds-left-count c = omega (arith, c.turn-taken.ensures.consumed, turn_within c.loop-left.left.now (held_in c.loop-left.progress))
 
-pub loop-at-smaller : goal.loop-at-smaller
-loop-at-smaller c = omega (arith, nearer _ _ _ _ _ _ _ _ _ c.turn-taken.ensures c.loop-at.invariant.0 c.loop-at-test.true)
+pub slice_bounds-left-start : goal.slice_bounds-left-start
+slice_bounds-left-start c = omega (arith, c.turn-taken.ensures.consumed, turn_within c.loop-left.left.now (held_in c.loop-left.progress))
 
-pub loop-at-preserved : goal.loop-at-preserved
-loop-at-preserved c = (c.loop-at.invariant.0, c.loop-at.invariant.1, read_turn _ _ _ _ _ _ _ _ c.loop-at.invariant.2 c.turn-taken.ensures)
+pub loop-left-smaller : goal.loop-left-smaller
+loop-left-smaller c =
+    let some : 0 < length c.loop-left.left.now = search (rules, tests) in
+    rw (rest_whole c.turn-taken.result.consumed c.loop-left.left.now)
+    (omega (arith, length-drop c.turn-taken.result.consumed c.loop-left.left.now, turned_forward _ _ _ _ _ _ c.turn-taken.ensures some, some))
+
+pub loop-left-preserved : goal.loop-left-preserved
+loop-left-preserved c = rw (rest_whole c.turn-taken.result.consumed c.loop-left.left.now) (read_turn _ _ _ _ _ _ _ c.loop-left.invariant c.turn-taken.ensures)
+
+pub loop-preserved : goal.loop-preserved
+loop-preserved c =
+    let end : length c.loop-left.left.now ≤ 0 = search (rules, tests) in
+    let none : c.loop-left.left.now ≡ [] = drop_of_length-le c.loop-left.left.now {i = 0} end in
+    read_on _ _ _ c.loop-left.invariant none

@@ -1,7 +1,7 @@
 -- The bytes that a line stands for stand in the frame.
 -- The loop keeps that they are those in the frame so far, with what is found from the place on.
 use mathlib.Core.Path.{refl, sym, ◌∙◌}
-use Rattle.session.proofs.Lines.{decoded_none, decoded_bad, decoded_full, decoded_more, decoded_done, rest_short, rest_high, rest_low, digit_found, no_digit}
+use Rattle.session.proofs.Lines.{decoded_none, decoded_bad, decoded_full, decoded_more, decoded_nothing, decoded_bytes, none_decoded, rest_short, rest_high, rest_low, digit_found, no_digit}
 use native.Mathlib.Omega.{arith}
 use borrow.Author.Rules.{rules}
 use Rattle.session.proofs.line.decode.Goals as goal
@@ -10,22 +10,30 @@ pub loop-at-init : goal.loop-at-init
 loop-at-init c = decoded_none _ _ (search rules)
 
 pub returns-then-line-at-lt2 : goal.returns-then-line-at-lt2
-returns-then-line-at-lt2 c = let both = decoded_bad _ _ _ _ c.loop-at.invariant (rest_short _ _ c.loop-at-test.true c.if-line-at-lt2.true) in record { value = both.0; frame_after = both.1 }
+returns-then-line-at-lt2 c = let both = none_decoded _ _ (decoded_bad _ _ _ _ c.loop-at.invariant (rest_short _ _ c.loop-at-test.true c.if-line-at-lt2.true)) in record { value = both.0; frame_after = both.1 }
 
-pub returns-in_default : goal.returns-in_default
-returns-in_default c = let both = decoded_bad _ _ _ _ c.loop-at.invariant (rest_high _ _ c.loop-at-test.true _ refl (no_digit _ (sym c.digit.ensures ∙ c.in_default.is))) in record { value = both.0; frame_after = both.1 }
+pub returns-in_err-high : goal.returns-in_err-high
+returns-in_err-high c =
+    let both = none_decoded _ c.loop-at.bytes (decoded_bad _ _ _ _ c.loop-at.invariant (rest_high _ _ c.loop-at-test.true _ refl (no_digit _ (sym c.digit.ensures ∙ c.in_err-high.was)))) in
+    record { value = c.from_residual.ensures ∙ both.0; frame_after = both.1 }
 
-pub returns-in_default-digit : goal.returns-in_default-digit
-returns-in_default-digit c = let both = decoded_bad _ _ _ _ c.loop-at.invariant (rest_low c.args.line.now c.loop-at.at c.if-line-at-lt2.false _ refl (no_digit _ (sym c.digit-in-loop-at.ensures ∙ c.in_default-digit.is))) in record { value = both.0; frame_after = both.1 }
+pub returns-in_err-low : goal.returns-in_err-low
+returns-in_err-low c =
+    let both = none_decoded _ c.loop-at.bytes (decoded_bad _ _ _ _ c.loop-at.invariant (rest_low c.args.line.now c.loop-at.at c.if-line-at-lt2.false _ refl (no_digit _ (sym c.digit-in-loop-at.ensures ∙ c.in_err-low.was)))) in
+    record { value = c.from_residual-in_err-low.ensures ∙ both.0; frame_after = both.1 }
 
 pub returns-then-n-eq-LONGEST_FRAME : goal.returns-then-n-eq-LONGEST_FRAME
-returns-then-n-eq-LONGEST_FRAME c = let both = decoded_full _ _ _ _ c.loop-at.invariant _ _ (record { more = c.if-line-at-lt2.false; first = (digit_found _ _ (sym c.digit.ensures ∙ c.in-Some.is)).0; second = (digit_found _ _ (sym c.digit-in-loop-at.ensures ∙ c.in-Some-digit.is)).0; high_small = (digit_found _ _ (sym c.digit.ensures ∙ c.in-Some.is)).1; low_small = (digit_found _ _ (sym c.digit-in-loop-at.ensures ∙ c.in-Some-digit.is)).1 }) c.if-n-eq-LONGEST_FRAME.true in record { value = both.0; frame_after = both.1 }
+returns-then-n-eq-LONGEST_FRAME c =
+    let high = digit_found _ _ (sym c.digit.ensures ∙ c.in_ok-high.was) in
+    let low = digit_found _ _ (sym c.digit-in-loop-at.ensures ∙ c.in_ok-low.was) in
+    let both = none_decoded _ c.loop-at.bytes (decoded_full _ _ _ _ c.loop-at.invariant _ _ (record { more = c.if-line-at-lt2.false; first = high.0; second = low.0; high_small = high.1; low_small = low.1 }) c.if-n-eq-LONGEST_FRAME.true) in
+    record { value = both.0; frame_after = both.1 }
 
 pub overflow_mul-bytes : goal.overflow_mul-bytes
-overflow_mul-bytes c = record { fits = omega (arith, (digit_found _ _ (sym c.digit.ensures ∙ c.in-Some.is)).1) }
+overflow_mul-bytes c = record { fits = omega (arith, (digit_found _ _ (sym c.digit.ensures ∙ c.in_ok-high.was)).1) }
 
 pub overflow_add-bytes : goal.overflow_add-bytes
-overflow_add-bytes c = record { fits = omega (arith, (digit_found _ _ (sym c.digit.ensures ∙ c.in-Some.is)).1, (digit_found _ _ (sym c.digit-in-loop-at.ensures ∙ c.in-Some-digit.is)).1) }
+overflow_add-bytes c = record { fits = omega (arith, (digit_found _ _ (sym c.digit.ensures ∙ c.in_ok-high.was)).1, (digit_found _ _ (sym c.digit-in-loop-at.ensures ∙ c.in_ok-low.was)).1) }
 
 pub bounds-bytes-n : goal.bounds-bytes-n
 bounds-bytes-n c = omega (arith, c.loop-at.invariant.few, c.loop-at.invariant.sized, c.if-n-eq-LONGEST_FRAME.false)
@@ -37,7 +45,15 @@ pub loop-at-smaller : goal.loop-at-smaller
 loop-at-smaller c = omega (arith, c.after_byte-at.ensures.from)
 
 pub loop-at-preserved : goal.loop-at-preserved
-loop-at-preserved c = decoded_more _ _ _ _ c.loop-at.invariant _ _ _ (record { more = c.if-line-at-lt2.false; first = (digit_found _ _ (sym c.digit.ensures ∙ c.in-Some.is)).0; second = (digit_found _ _ (sym c.digit-in-loop-at.ensures ∙ c.in-Some-digit.is)).0; high_small = (digit_found _ _ (sym c.digit.ensures ∙ c.in-Some.is)).1; low_small = (digit_found _ _ (sym c.digit-in-loop-at.ensures ∙ c.in-Some-digit.is)).1 }) c.if-n-eq-LONGEST_FRAME.false c.after_byte-at.ensures
+loop-at-preserved c =
+    let high = digit_found _ _ (sym c.digit.ensures ∙ c.in_ok-high.was) in
+    let low = digit_found _ _ (sym c.digit-in-loop-at.ensures ∙ c.in_ok-low.was) in
+    decoded_more _ _ _ _ c.loop-at.invariant _ _ _ (record { more = c.if-line-at-lt2.false; first = high.0; second = low.0; high_small = high.1; low_small = low.1 }) c.if-n-eq-LONGEST_FRAME.false c.after_byte-at.ensures
+
+pub returns-then-n-eq0 : goal.returns-then-n-eq0
+returns-then-n-eq0 c =
+    let both = none_decoded _ c.loop-at.bytes (decoded_nothing _ _ _ _ c.loop-at.invariant c.loop-at-test.false c.if-n-eq0.true) in
+    record { value = both.0; frame_after = both.1 }
 
 pub returns : goal.returns
-returns c = let both = decoded_done _ _ _ _ c.loop-at.invariant c.loop-at-test.false in record { value = both.0; frame_after = both.1 }
+returns c = let both = decoded_bytes _ _ _ _ c.loop-at.invariant c.loop-at-test.false c.if-n-eq0.false in record { value = both.0; frame_after = both.1 }

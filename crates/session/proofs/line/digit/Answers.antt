@@ -1,27 +1,30 @@
 -- A digit's value, and none of any other character.
--- Each way of the tests is the definition's.
+-- Each range is the definition's.
 use Rattle.session.specs.Lines.{digit_of}
-use Prim.Native.Nat.{◌-◌}
+use mathlib.Core.Path.{◌≡◌}
+use Prim.Native.Nat.{◌+◌, ◌-◌}
 use native.Mathlib.Omega.{arith}
 use borrow.Author.Tests.{lt-ltb, le-ltb}
 use Rattle.session.proofs.line.digit.Goals as goal
 
-pub returns-then-c-lt48 : goal.returns-then-c-lt48
+pub returns-in-48-to-57 : goal.returns-in-48-to-57
 unfolding digit_of
-returns-then-c-lt48 c = rw (lt-ltb _ _ c.if-c-lt48.true)
+returns-in-48-to-57 c = rw (le-ltb c.args.c 48 (omega arith), lt-ltb c.args.c 58 (omega arith), lt-ltb (c.args.c - 48) 16 (omega arith))
 
-pub returns-then-c-lt58 : goal.returns-then-c-lt58
+pub returns-in-97-to-102 : goal.returns-in-97-to-102
 unfolding digit_of
-returns-then-c-lt58 c = rw (le-ltb _ _ c.if-c-lt48.false, lt-ltb _ _ c.if-c-lt58.true, lt-ltb (c.args.c - 48) 16 (omega (arith, c.if-c-lt58.true)))
+returns-in-97-to-102 c =
+    let value : c.args.c - 97 + 10 ≡ c.args.c - 87 = omega arith in
+    rw (le-ltb c.args.c 48 (omega arith), le-ltb c.args.c 58 (omega arith), le-ltb c.args.c 97 (omega arith), lt-ltb c.args.c 103 (omega arith), lt-ltb (c.args.c - 87) 16 (omega arith), value)
 
-pub returns-then-c-lt97 : goal.returns-then-c-lt97
+pub returns-in_default : goal.returns-in_default
 unfolding digit_of
-returns-then-c-lt97 c = rw (le-ltb _ _ c.if-c-lt48.false, le-ltb _ _ c.if-c-lt58.false, lt-ltb _ _ c.if-c-lt97.true)
+returns-in_default c = rw (lt-ltb c.args.c 48 (omega arith))
 
-pub returns-then-c-lt103 : goal.returns-then-c-lt103
+pub returns-in_default-2 : goal.returns-in_default-2
 unfolding digit_of
-returns-then-c-lt103 c = rw (le-ltb _ _ c.if-c-lt48.false, le-ltb _ _ c.if-c-lt58.false, le-ltb _ _ c.if-c-lt97.false, lt-ltb _ _ c.if-c-lt103.true, lt-ltb (c.args.c - 87) 16 (omega (arith, c.if-c-lt103.true)))
+returns-in_default-2 c = rw (le-ltb c.args.c 48 (omega arith), le-ltb c.args.c 58 (omega arith), lt-ltb c.args.c 97 (omega arith))
 
-pub returns : goal.returns
+pub returns-in_default-3 : goal.returns-in_default-3
 unfolding digit_of
-returns c = rw (le-ltb _ _ c.if-c-lt48.false, le-ltb _ _ c.if-c-lt58.false, le-ltb _ _ c.if-c-lt97.false, le-ltb _ _ c.if-c-lt103.false)
+returns-in_default-3 c = rw (le-ltb c.args.c 48 (omega arith), le-ltb c.args.c 58 (omega arith), le-ltb c.args.c 97 (omega arith), le-ltb c.args.c 103 (omega arith))
