@@ -142,7 +142,7 @@ def point4():
         (r'\w+\[[^\]\n]*\] = \w+\[[^\]\n]*\];', 'bytes copied'),
         (r'\w+\[k\] = 0;', 'bytes set'),
         (r'fn (?:wide|least|yes_or_no|side_byte|agreed_byte|digit|digit_text|low_byte|high_byte|numbers_of|side_number|front)\(', 'a conversion'),
-        (r'if (?:byte\()?\w+(?:\[|, )[^\n]*!= (?:byte\()?\w+(?:\[|, )', 'bytes compared'),
+        (r'if (?:byte\()?\w+(?:\[|, )(?:(?!\.\.)[^\n])*!= (?:byte\()?\w+(?:\[|, )', 'bytes compared'),
     ]
     for path, text in sources():
         for pattern, what in looked:

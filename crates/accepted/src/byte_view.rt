@@ -11,7 +11,7 @@ use image::record::{ENTRY_SIZE, Node};
 // buffers start.
 pub fn long_place(node: Node, entries: usize, view: usize, len: usize) -> usize
     requires viewed { Viewed node.image.now node.number view len }
-    requires lt_len { (12 < len) × (entries ≡ entry_place node.image.now (first_buffer node.image.now node.number)) }
+    requires long { (12 < len) × (entries ≡ entry_place node.image.now (first_buffer node.image.now node.number)) }
     ensures { ViewBytes node.entry.image.now node.entry.number view len result }
 {
     let buffer = 1 + load::<4>(node.image, view + 8);

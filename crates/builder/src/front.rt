@@ -31,6 +31,7 @@ fn built_flags(node: Node) -> usize
 }
 
 // Where the name of a node stands, 0 where it has none; `name` is where it would stand.
+// Kept: the record has a place for the name, and 0 is what is put there.
 fn built_name(node: Node, name: usize) -> usize
     requires { name ≡ name_start of node }
     ensures { result ≡ built_name of node.entry }
@@ -43,6 +44,7 @@ fn built_name(node: Node, name: usize) -> usize
 
 impl Plan {
     // Where the bitmap of a node stands, 0 where its code may have none.
+    // Kept: the record has a place for the bitmap, and 0 is what is put there.
     fn bitmap_from(&self, node: Node) -> usize
         requires { node.number < 256 }
         ensures { result ≡ bitmap_from node.entry.image.now self.now.places node.entry.number }
@@ -78,7 +80,7 @@ fn put_type(node: Node, out: &mut Output)
 // The next fields: the rows, the name's place, the bitmap's place and length; `name` is where the name would stand.
 fn put_rows(node: Node, plan: &Plan, name: usize, out: &mut Output)
     requires node_from { (NodeFrom of node) plan.now.places }
-    requires name_value { name ≡ name_start of node }
+    requires name { name ≡ name_start of node }
     requires fits { Fits out.old.bytes.now out.old.at (row_fields node.image.now plan.now.lengths plan.now.places node.number) }
     ensures { Put out.old out.new (row_fields node.entry.image.now plan.now.lengths plan.now.places node.entry.number) }
 {
@@ -105,7 +107,7 @@ fn put_tables(node: Node, out: &mut Output)
 // The record of a node; `name` is where its name would stand.
 fn put_record(node: Node, plan: &Plan, name: usize, out: &mut Output)
     requires node_from { (NodeFrom of node) plan.now.places }
-    requires name_value { name ≡ name_start of node }
+    requires name { name ≡ name_start of node }
     requires fits { Fits out.old.bytes.now out.old.at (record_from node.image.now plan.now.lengths plan.now.places node.number) }
     ensures { Put out.old out.new (record_from node.entry.image.now plan.now.lengths plan.now.places node.entry.number) }
 {
@@ -156,7 +158,7 @@ fn put_entries(node: Node, plan: &Plan, out: &mut Output)
 
 // The entries of all nodes.
 fn put_all_entries(image: &[u8], plan: &Plan, out: &mut Output)
-    requires image_value { (check_image image.now ≡ Ok tt) × (readable image.now ≡ true) }
+    requires accepted { (check_image image.now ≡ Ok tt) × (readable image.now ≡ true) }
     requires rise { Rise image.now plan.now.places }
     requires fits { Fits out.old.bytes.now out.old.at (pieces (entries_from image.now plan.now.places) 0 (node_count image.now)) }
     ensures { Put out.old out.new (pieces (entries_from image.now plan.now.places) 0 (node_count image.now)) }
@@ -183,7 +185,7 @@ fn put_name(node: Node, out: &mut Output)
 
 // The names of all nodes.
 fn put_names(image: &[u8], out: &mut Output)
-    requires image_value { check_image image.now ≡ Ok tt }
+    requires accepted { check_image image.now ≡ Ok tt }
     requires fits { Fits out.old.bytes.now out.old.at (pieces (name_of image.now) 0 (node_count image.now)) }
     ensures { Put out.old out.new (pieces (name_of image.now) 0 (node_count image.now)) }
 {
@@ -195,7 +197,7 @@ fn put_names(image: &[u8], out: &mut Output)
 
 // Header, records, entries and names, from the buffer's start on. The answer is the place behind them.
 pub fn put_front(image: &[u8], plan: &Plan, out: &mut [u8]) -> usize
-    requires image_value { (check_image image.now ≡ Ok tt) × (readable image.now ≡ true) }
+    requires accepted { (check_image image.now ≡ Ok tt) × (readable image.now ≡ true) }
     requires rise { Rise image.now plan.now.places }
     requires fits { Fits out.old 0 (front_from image.now plan.now.lengths plan.now.places) }
     ensures value { result ≡ length (front_from image.now plan.now.lengths plan.now.places) }

@@ -109,7 +109,7 @@ impl Plan {
 
     // The bytes of part q of all: of node q / 3 its bitmap, its first or its second buffer.
     fn part_size(&self, image: &[u8], q: usize) -> usize
-        requires accepted_image { AcceptedImage image.now × (q < 3 * node_count image.now) }
+        requires accepted { AcceptedImage image.now × (q < 3 * node_count image.now) }
         requires q_bound { get_or self.now.lengths (q / 3) 0 ≤ most_elements }
         ensures { result ≡ part_size image.now self.now.lengths self.now.spans q }
     {

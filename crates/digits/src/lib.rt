@@ -108,7 +108,7 @@ fn chunk_agrees(pair: Pair, rows: Rows, p: usize) -> bool
 // Two ranges of rows of two tables agree in turn, once so many digits are dropped.
 pub fn digits_equal(a: &[u8], b: &[u8], rows: Rows, digits: usize) -> bool
     requires sides { Sides a.now b.now 0 0 rows.left rows.right rows.count max_depth }
-    requires digits_value { not_digits a.now digits ≡ false }
+    requires digits_fit { not_digits a.now digits ≡ false }
     ensures { result ≡ digits_equal digits a.now b.now rows.left rows.right rows.count }
 {
     let pair = Pair::roots(a, b);

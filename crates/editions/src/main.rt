@@ -23,6 +23,7 @@ fn main(rt: HostRuntime) -> io::Result<()> {
             return output.write_all(&text[..k]);
         }
         let mut left = &chunk[..n];
+        // Kept: no `for`, since a turn takes as many characters as the line has.
         while !left.is_empty() {
             let taken = progress.turn(left, &mut text);
             output.write_all(&text[..taken.printed])?;

@@ -13,7 +13,7 @@ use values::pair::{Pair, Rows};
 #[cycle(rows)]
 pub fn equal(pair: Pair, rows: Rows, depth: usize) -> bool
     requires parts { PartsOf pair rows depth }
-    requires fact { (layout_of (code_of pair.left.image.now pair.left.number) ≡ Struct) ⊎ (layout_of (code_of pair.left.image.now pair.left.number) ≡ SparseUnion) }
+    requires layout { (layout_of (code_of pair.left.image.now pair.left.number) ≡ Struct) ⊎ (layout_of (code_of pair.left.image.now pair.left.number) ≡ SparseUnion) }
     ensures { result ≡ equal_rows (nested struct_row depth) pair.entry rows }
 {
     for c in 0..pair.left.child_count() {

@@ -50,7 +50,7 @@ impl Filling<'_> {
     // left behind what it has read.
     #[cycle(fill)]
     fn fill_list<'b>(&mut self, node: Node, depth: usize, b: &'b [u8]) -> &'b [u8]
-        requires node_value { (layout_of (code_of of node) ≡ Lists) × (byte_at b.now 0 ≡ 1) }
+        requires layout { (layout_of (code_of of node) ≡ Lists) × (byte_at b.now 0 ≡ 1) }
         requires row_walk { RowWalk node.image.now self.old.places.now b.now depth node.number (state self.old) }
         ensures same { SameLent self.old self.new }
         ensures walked { RowWalked node.entry.image.now self.old.places.now b.now depth node.entry.number (state self.old) (state self.new) result.now }
@@ -63,7 +63,7 @@ impl Filling<'_> {
     // A row of a Struct that is not null: a row of each child.
     #[cycle(fill)]
     fn fill_struct<'b>(&mut self, node: Node, depth: usize, b: &'b [u8]) -> &'b [u8]
-        requires node_value { (layout_of (code_of of node) ≡ Struct) × (byte_at b.now 0 ≡ 1) }
+        requires layout { (layout_of (code_of of node) ≡ Struct) × (byte_at b.now 0 ≡ 1) }
         requires row_walk { RowWalk node.image.now self.old.places.now b.now depth node.number (state self.old) }
         ensures same { SameLent self.old self.new }
         ensures walked { RowWalked node.entry.image.now self.old.places.now b.now depth node.entry.number (state self.old) (state self.new) result.now }

@@ -42,6 +42,7 @@ struct Spot {
 }
 
 // Sets bit j of the bits that start at a place, where it and those behind it in its byte are 0.
+// Kept: one bit of the whole buffer changes, which the contract says by its place.
 fn set_bit(out: &mut [u8], place: usize, j: usize)
     requires j_in_bounds { place + j / 8 < length out.old }
     requires j_bound { byte_at out.old (place + j / 8) < 2 ^ (j % 8) }
@@ -53,6 +54,7 @@ fn set_bit(out: &mut [u8], place: usize, j: usize)
 }
 
 // Puts bytes at a place.
+// Kept: what changes of the whole buffer is said by the place.
 fn put(out: &mut [u8], at: usize, bytes: &[u8])
     requires { at + length bytes.now ≤ length out.old }
     ensures { out.new ≡ over out.old at bytes.now }
@@ -138,7 +140,7 @@ impl<'a> Filling<'a> {
 
     // A Struct's row that is not null: its bit.
     pub(crate) fn put_struct(&mut self, node: Node)
-        requires node_value { layout_of (code_of of node) ≡ Struct }
+        requires layout { layout_of (code_of of node) ≡ Struct }
         requires getting { Getting node.image.now self.old.places.now (state self.old) node.number 0 }
         ensures same { SameLent self.old self.new }
         ensures filled { StructFilled node.entry.image.now self.old.places.now node.entry.number (state self.old) (state self.new) }
@@ -150,7 +152,7 @@ impl<'a> Filling<'a> {
 
     // A Boolean: its bit in the bitmap, and its value's.
     pub(crate) fn put_boolean(&mut self, node: Node, x: u8)
-        requires node_value { layout_of (code_of of node) ≡ Boolean }
+        requires layout { layout_of (code_of of node) ≡ Boolean }
         requires x_bound { x ≤ 1 }
         requires getting { Getting node.image.now self.old.places.now (state self.old) node.number 0 }
         ensures same { SameLent self.old self.new }
@@ -166,7 +168,7 @@ impl<'a> Filling<'a> {
 
     // A value of a fixed width: its bit, and its bytes.
     pub(crate) fn put_fixed(&mut self, node: Node, value: &[u8])
-        requires node_value { layout_of (code_of of node) ≡ FixedWidth }
+        requires layout { layout_of (code_of of node) ≡ FixedWidth }
         requires width { length value.now ≡ (element_width of node) }
         requires getting { Getting node.image.now self.old.places.now (state self.old) node.number 0 }
         ensures same { SameLent self.old self.new }
@@ -180,7 +182,7 @@ impl<'a> Filling<'a> {
 
     // A text: its bit, its end among the offsets, and its bytes.
     pub(crate) fn put_text(&mut self, node: Node, text: &[u8])
-        requires node_value { layout_of (code_of of node) ≡ VariableSize }
+        requires layout { layout_of (code_of of node) ≡ VariableSize }
         requires getting { Getting node.image.now self.old.places.now (state self.old) node.number (length text.now) }
         ensures same { SameLent self.old self.new }
         ensures filled { Filled node.entry.image.now self.old.places.now (own (sized text.now) node.entry.number) (state self.old) (state self.new) }
@@ -195,7 +197,7 @@ impl<'a> Filling<'a> {
 
     // A list of n rows: its bit, and its end among the offsets.
     pub(crate) fn put_list(&mut self, node: Node, n: usize)
-        requires node_value { layout_of (code_of of node) ≡ Lists }
+        requires layout { layout_of (code_of of node) ≡ Lists }
         requires getting { Getting node.image.now self.old.places.now (state self.old) node.number n }
         ensures same { SameLent self.old self.new }
         ensures filled { ListFilled node.entry.image.now self.old.places.now node.entry.number n (state self.old) (state self.new) }

@@ -16,8 +16,8 @@ use image::record::{MAX_DEPTH, Node};
 // Whether the string b is so many rows of the type that the image has, and nothing more. Where it is, entry j of spans is
 // how far the offsets of node j go on.
 pub fn is_rows(image: &[u8], count: usize, b: &[u8], spans: &mut [usize]) -> bool
-    requires s_value { (check_image image.now ≡ Ok tt) × (readable image.now ≡ true) }
-    requires spans_value { spans.old ≡ replicate 256 0 }
+    requires accepted { (check_image image.now ≡ Ok tt) × (readable image.now ≡ true) }
+    requires spans { spans.old ≡ replicate 256 0 }
     ensures value { result ≡ are_rows (rows_in image.now count b.now) }
     ensures spanned { Spanned image.now (rows_in image.now count b.now) spans.new }
 {

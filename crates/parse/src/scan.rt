@@ -66,7 +66,7 @@ fn scan_by_layout<'a>(
     spans: &mut [usize],
 ) -> Option<&'a [u8]>
     requires within { (Within of node) × Begun text.now spans.old }
-    requires code_value { Read (code_of of node) 8 code }
+    requires code { Read (code_of of node) 8 code }
     ensures { Scans text.now 0 ((value_of depth of node.entry) text.now) (row_adds (suc depth) of node.entry) spans.old spans.new (option_copied result) }
 {
     match TypeCode::layout(code) {
@@ -84,7 +84,7 @@ fn scan_by_layout<'a>(
 #[cycle(rows)]
 fn scan_list<'a>(node: Node, depth: usize, text: &'a [u8], spans: &mut [usize]) -> Option<&'a [u8]>
     requires within { (Within of node) × Begun text.now spans.old }
-    requires node_value { layout_of (code_of of node) ≡ Lists }
+    requires layout { layout_of (code_of of node) ≡ Lists }
     ensures { Scans text.now 0 ((list_of depth of node.entry) text.now) (counted_adds depth of node.entry) spans.old spans.new (option_copied result) }
 {
     let (n, rest) = scan_count(text)?;

@@ -12,6 +12,7 @@ pub struct Output<'a> {
 
 impl Output<'_> {
     // The w bytes of a number, the lowest first.
+    // Kept: `to_le_bytes` gives eight bytes, of which w would be cut off and copied: no plainer.
     pub fn put_number(&mut self, x: usize, w: usize)
         requires { self.old.at + w ≤ length self.old.bytes.now }
         ensures { Put self.old self.new (number_bytes w x) }
@@ -38,13 +39,14 @@ impl Output<'_> {
     // The n bytes before the place that is reached so many times more, behind them. Each time as many are put as stand, or as
     // are left.
     pub fn put_times(&mut self, n: usize, times: usize)
-        requires n_le_at { (n ≤ self.old.at) × (self.old.at + times * n ≤ length self.old.bytes.now) }
+        requires behind { (n ≤ self.old.at) × (self.old.at + times * n ≤ length self.old.bytes.now) }
         requires times_bound { times < 2 ^ 34 }
         ensures { Put self.old self.new (repeated times (bytes_at self.old.bytes.now (self.old.at - n) n)) }
     {
         let from = self.at - n;
         let mut there: usize = 1;
         let mut left = times;
+        // Kept: no `for`, since each turn puts as much as all before it.
         while left > 0 {
             let m = there.min(left);
             self.bytes.copy_within(from..from + m * n, self.at);

@@ -84,7 +84,7 @@ fn boolean_value(node: Node, j: usize) -> Value
 // "Fixed widths: the bytes."
 fn fixed_value(node: Node, j: usize) -> Value
     requires part { (Part of node) j 1 }
-    requires node_value { layout_of (code_of of node) ≡ FixedWidth }
+    requires layout { layout_of (code_of of node) ≡ FixedWidth }
     ensures { result ≡ (value_of FixedWidth of node.entry) j }
 {
     let width = node.element_width();
@@ -94,7 +94,7 @@ fn fixed_value(node: Node, j: usize) -> Value
 // "Text, binary, views: u32 length, bytes." Here of texts and binary, from one offset up to the next.
 fn variable_value(node: Node, j: usize) -> Value
     requires part { (Part of node) j 1 }
-    requires node_value { layout_of (code_of of node) ≡ VariableSize }
+    requires layout { layout_of (code_of of node) ≡ VariableSize }
     ensures { result ≡ (value_of VariableSize of node.entry) j }
 {
     let from = node.offset_at(j);
@@ -105,7 +105,7 @@ fn variable_value(node: Node, j: usize) -> Value
 // The same of views, in the view or in a data buffer.
 fn view_value(node: Node, j: usize) -> Value
     requires part { (Part of node) j 1 }
-    requires node_value { layout_of (code_of of node) ≡ View }
+    requires layout { layout_of (code_of of node) ≡ View }
     ensures { result ≡ (value_of View of node.entry) j }
 {
     let view = node.buffer_place(0) + j * VIEW_SIZE;
@@ -116,7 +116,7 @@ fn view_value(node: Node, j: usize) -> Value
 // "List kinds and Map: u32 count, child rows." From one offset up to the next.
 fn list_value(node: Node, j: usize) -> Value
     requires part { (Part of node) j 1 }
-    requires node_value { layout_of (code_of of node) ≡ Lists }
+    requires layout { layout_of (code_of of node) ≡ Lists }
     ensures { result ≡ (value_of Lists of node.entry) j }
 {
     let from = node.offset_at(j);
@@ -127,7 +127,7 @@ fn list_value(node: Node, j: usize) -> Value
 // Of list views, from the offset on as many as the size says.
 fn list_view_value(node: Node, j: usize) -> Value
     requires part { (Part of node) j 1 }
-    requires node_value { layout_of (code_of of node) ≡ ListView }
+    requires layout { layout_of (code_of of node) ≡ ListView }
     ensures { result ≡ (value_of ListView of node.entry) j }
 {
     let from = node.offset_at(j);
@@ -138,7 +138,7 @@ fn list_view_value(node: Node, j: usize) -> Value
 // "Fixed lists, Structs: child rows." Here p1 rows of the child.
 fn fixed_list_value(node: Node, j: usize) -> Value
     requires part { (Part of node) j 1 }
-    requires node_value { layout_of (code_of of node) ≡ FixedList }
+    requires layout { layout_of (code_of of node) ≡ FixedList }
     ensures { result ≡ (value_of FixedList of node.entry) j }
 {
     let count = node.p1();
@@ -168,7 +168,7 @@ fn union_value(node: Node, j: usize, row: usize) -> Value
 // Its row is at the stored offset, or at the same place.
 fn dense_value(node: Node, j: usize) -> Value
     requires part { (Part of node) j 1 }
-    requires node_value { layout_of (code_of of node) ≡ DenseUnion }
+    requires layout { layout_of (code_of of node) ≡ DenseUnion }
     ensures { result ≡ (value_of DenseUnion of node.entry) j }
 {
     union_value(node, j, le::<4>(node.image, node.buffer_place(1) + j * 4))
@@ -176,7 +176,7 @@ fn dense_value(node: Node, j: usize) -> Value
 
 fn sparse_value(node: Node, j: usize) -> Value
     requires part { (Part of node) j 1 }
-    requires node_value { layout_of (code_of of node) ≡ SparseUnion }
+    requires layout { layout_of (code_of of node) ≡ SparseUnion }
     ensures { result ≡ (value_of SparseUnion of node.entry) j }
 {
     union_value(node, j, j)
@@ -185,7 +185,7 @@ fn sparse_value(node: Node, j: usize) -> Value
 // "Dictionary, runs: the row of the values child." It is named by the key, or numbered as the run.
 fn dictionary_value(node: Node, j: usize) -> Value
     requires part { (Part of node) j 1 }
-    requires node_value { layout_of (code_of of node) ≡ Dictionary }
+    requires layout { layout_of (code_of of node) ≡ Dictionary }
     ensures { result ≡ (value_of Dictionary of node.entry) j }
 {
     nested(0, 0, node.first_child(), 1, node.offset_at(j), 1)

@@ -39,6 +39,7 @@ fn of_length(frame: &[u8], n: usize) -> Result<(), FrameFault>
 }
 
 // The side that a frame names, in its second byte.
+// Kept: the documents number the sides.
 fn side_in(frame: &[u8]) -> Result<Side, FrameFault>
     ensures { result ≡ side_in frame.now }
 {
@@ -93,6 +94,7 @@ fn write_frame(frame: &[u8]) -> Result<Frame, FrameFault>
 }
 
 // What the bytes of a line ask for; no bytes are a line that is not hexadecimal.
+// Kept: the documents number the commands.
 pub fn parse(frame: &[u8]) -> Result<Frame, FrameFault>
     ensures { result ≡ frame_of frame.now }
 {

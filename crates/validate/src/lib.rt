@@ -23,14 +23,14 @@ use buffers::{fault_14, fault_15};
 use children::fault_16;
 use codes::fault_11;
 use image::answer::Fault;
-use image::record::{HEADER_SIZE, LONGEST_IMAGE, Node, buffer_total, node_count, tables_end};
+use image::record::{
+    HEADER_SIZE, LONGEST_IMAGE, MOST_NODES, Node, buffer_total, node_count, tables_end,
+};
 use names::fault_13;
 use offsets::fault_17;
 use rows::fault_18;
 use texts::fault_19;
 use tree::{Walk, fault_12};
-
-const MOST_NODES: u32 = 256;
 
 const MOST_BUFFERS: u32 = 1024;
 
@@ -57,7 +57,7 @@ fn fault_10(image: &[u8]) -> bool
     if n == 0 {
         return true;
     }
-    if MOST_NODES < n {
+    if MOST_NODES < n as usize {
         return true;
     }
     if MOST_BUFFERS < buffer_total(image) {
@@ -67,6 +67,7 @@ fn fault_10(image: &[u8]) -> bool
 }
 
 // The node has a fault of the number, where no node has one of a lower number.
+// Kept: a number, as said above.
 fn has_fault(number: u8, node: Node, walk: Walk) -> bool
     requires walks { (Walks of node) walk }
     requires none_below { NoneBelow number node.image.now × (11 ≤ number) × (node.number < node_count node.image.now) }
@@ -86,6 +87,7 @@ fn has_fault(number: u8, node: Node, walk: Walk) -> bool
 }
 
 // The first node that has a fault of the number; none has one of a lower number.
+// Kept: a number, as said above.
 fn first_faulty(image: &[u8], number: u8, start: Walk) -> Option<u16>
     requires walks { Walks image.now 0 start }
     requires none_below { NoneBelow number image.now × (11 ≤ number) }

@@ -24,8 +24,8 @@ fn offsets_fall(node: Node, end: usize) -> bool
 // A list view of the node does not lie inside its child. The size is compared with what the offset leaves, so that
 // nothing is added before it is bounded.
 fn lists_outside(node: Node) -> bool
-    requires holds { (Holds of node) 0 (element_width of node) (elements_of of node) }
-    requires holds_2 { (Holds of node) 1 (element_width of node) (elements_of of node) }
+    requires offsets { (Holds of node) 0 (element_width of node) (elements_of of node) }
+    requires sizes { (Holds of node) 1 (element_width of node) (elements_of of node) }
     ensures { result ≡ any (list_outside of node.entry) 0 (elements_of of node.entry) }
 {
     let width = node.element_width();

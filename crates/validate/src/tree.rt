@@ -53,6 +53,7 @@ fn child_start(image: &[u8], n: u32) -> usize
 }
 
 // The buffer counts of the first n nodes.
+// Kept: n is a count.
 fn buffer_start(image: &[u8], n: u32) -> usize
     ensures { Sum (buffer_start image.now n) n result }
 {
@@ -60,6 +61,7 @@ fn buffer_start(image: &[u8], n: u32) -> usize
 }
 
 // How many of the n nodes of an image are not too deep.
+// Kept: n is a count.
 fn level_end(image: &[u8], n: u32) -> u32
     requires { (n ≡ node_count image.now) × (n < 2 ^ 16) }
     ensures { result ≡ level_end image.now max_depth }

@@ -28,6 +28,7 @@ fn word_inside(s: &[u8], place: usize, i: usize) -> usize
 }
 
 // The same wherever they lie.
+// Kept: a slice and a place, as said above.
 fn word(s: &[u8], place: usize, i: usize) -> usize
     requires { (place < 2 ^ 32) × (i < 2 ^ 35) }
     ensures { result ≡ bits_at s.now place i 64 }
@@ -153,6 +154,7 @@ fn first_unequal_tail(x: Bits, y: Bits, k: usize, n: usize) -> usize
 }
 
 // Of n pairs of bits the number of the first that are not the same, or n where all are: 64 at a time, and the rest.
+// Kept: a number, as said above.
 pub fn first_unequal_bit(x: Bits, y: Bits, n: usize) -> usize
     requires { Near x n × Near y n }
     ensures { result ≡ first_unequal_in x.entry y.entry n }

@@ -26,7 +26,7 @@ pub digits_equal-requires : goal.digits_equal-requires
 digits_equal-requires c =
     record {
       sides = range_sides _ _ _ _ _ (sym c.paired.ensures ∙ c.in_ok-paired.was) (sym c.bounds_of.ensures ∙ c.in_ok-bounds_of.was);
-      digits_value = sym c.not_digits.ensures ∙ c.if-not_digits.false;
+      digits_fit = sym c.not_digits.ensures ∙ c.if-not_digits.false;
     }
 
 pub returns : goal.returns

@@ -6,7 +6,7 @@ use native.Mathlib.Omega.{arith}
 use Rattle.builder.proofs.build.Goals as goal
 
 pub is_rows-requires : goal.is_rows-requires
-is_rows-requires c = record { s_value = c.requires; spans_value = refl }
+is_rows-requires c = record { accepted = c.requires; spans = refl }
 
 pub returns-then-not-is_rows : goal.returns-then-not-is_rows
 returns-then-not-is_rows c = let both = build_not_rows _ _ _ _ (sym c.is_rows.ensures.value ∙ c.if-not-is_rows.true) in record { value = both.0; out_after = both.1 }

@@ -5,7 +5,7 @@ use Rattle.builder.proofs.Tables.{laid_rise, laid_front, laid_clear, laid_fill, 
 use Rattle.builder.proofs.put_table.Goals as goal
 
 pub put_front-parts-requires : goal.put_front-parts-requires
-put_front-parts-requires c = record { image_value = (c.requires.accepted, c.requires.coded); rise = laid_rise c.requires; fits = laid_front c.requires }
+put_front-parts-requires c = record { accepted = (c.requires.accepted, c.requires.coded); rise = laid_rise c.requires; fits = laid_front c.requires }
 
 pub slice_bounds-fill-end : goal.slice_bounds-fill-end
 slice_bounds-fill-end c = (laid_clear c.requires (c.put_front-parts.ensures.value, c.put_front-parts.ensures.out_after)).1

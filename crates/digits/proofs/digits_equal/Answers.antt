@@ -18,7 +18,7 @@ returns-then-not-equal_nulls c =
     sym (sym (by_pairs _ _ _ _ _ _ refl) ∙ masks_differ _ _ _ _ _ _ (sym masks ∙ c.if-not-equal_nulls.true))
 
 pub power_of-p-requires : goal.power_of-p-requires
-power_of-p-requires c = few_digits _ _ c.requires.digits_value
+power_of-p-requires c = few_digits _ _ c.requires.digits_fit
 
 pub each_block-requires-clause-near : goal.each_block-requires-clause-near
 each_block-requires-clause-near c = omega (arith, side_small _ _ _ _ c.requires.sides.left, side_small _ _ _ _ c.requires.sides.right)
@@ -27,7 +27,7 @@ pub each_block-requires-clause-tested : goal.each_block-requires-clause-tested
 each_block-requires-clause-tested c =
     let roots = c.roots-pair.ensures in
     let masks = rw (roots.left_image, roots.left_root, roots.right_image, roots.right_root) at c.equal_nulls.ensures in
-    let numbers = numbers_of _ _ c.requires.digits_value c.requires.sides (sym masks ∙ c.if-not-equal_nulls.false) in
+    let numbers = numbers_of _ _ c.requires.digits_fit c.requires.sides (sym masks ∙ c.if-not-equal_nulls.false) in
     λ k n le small _ _ _ _ _ _. (part_of _ _ (roots_of c.roots-pair.ensures numbers) le, c.power_of-p.ensures.1)
 
 pub returns : goal.returns

@@ -495,20 +495,20 @@ pub structure::equal-child-requires : goal.structure::equal-child-requires
 structure::equal-child-requires t c = omega (arith, c.child_count-c-end.ensures.small, c.loop-c-test.true)
 
 pub structure::equal-equal_range-requires : goal.structure::equal-equal_range-requires
-structure::equal-equal_range-requires t c = (search rules, rw c.child.ensures.same (struct_requires c.requires.parts c.requires.fact refl refl (record { value = refl; small = omega (arith, c.child_count-c-end.ensures.value, c.child_count-c-end.ensures.small) }) (rw c.child_count-c-end.ensures.value at c.loop-c-test.true)))
+structure::equal-equal_range-requires t c = (search rules, rw c.child.ensures.same (struct_requires c.requires.parts c.requires.layout refl refl (record { value = refl; small = omega (arith, c.child_count-c-end.ensures.value, c.child_count-c-end.ensures.small) }) (rw c.child_count-c-end.ensures.value at c.loop-c-test.true)))
 
 pub structure::equal-returns-then-not-equal_range : goal.structure::equal-returns-then-not-equal_range
 structure::equal-returns-then-not-equal_range t c =
     let same = rw c.child.ensures.same at c.equal_range.ensures in
-    columns_fail c.requires.parts c.requires.fact refl refl (record { value = refl; small = omega (arith, c.child_count-c-end.ensures.value, c.child_count-c-end.ensures.small) }) c.loop-c.invariant (rw c.child_count-c-end.ensures.value at c.loop-c-test.true) (sym same ∙ c.if-not-equal_range.true)
+    columns_fail c.requires.parts c.requires.layout refl refl (record { value = refl; small = omega (arith, c.child_count-c-end.ensures.value, c.child_count-c-end.ensures.small) }) c.loop-c.invariant (rw c.child_count-c-end.ensures.value at c.loop-c-test.true) (sym same ∙ c.if-not-equal_range.true)
 
 pub structure::equal-loop-c-preserved : goal.structure::equal-loop-c-preserved
 structure::equal-loop-c-preserved t c =
     let same = rw c.child.ensures.same at c.equal_range.ensures in
-    columns_more_left c.requires.parts c.requires.fact refl refl (record { value = refl; small = omega (arith, c.child_count-c-end.ensures.value, c.child_count-c-end.ensures.small) }) c.loop-c.invariant (rw c.child_count-c-end.ensures.value at c.loop-c-test.true) (sym same ∙ c.if-not-equal_range.false)
+    columns_more_left c.requires.parts c.requires.layout refl refl (record { value = refl; small = omega (arith, c.child_count-c-end.ensures.value, c.child_count-c-end.ensures.small) }) c.loop-c.invariant (rw c.child_count-c-end.ensures.value at c.loop-c-test.true) (sym same ∙ c.if-not-equal_range.false)
 
 pub structure::equal-returns : goal.structure::equal-returns
-structure::equal-returns t c = columns_done c.requires.parts c.requires.fact refl refl (record { value = refl; small = omega (arith, c.child_count-c-end.ensures.value, c.child_count-c-end.ensures.small) }) c.loop-c.invariant (rw c.child_count-c-end.ensures.value at c.loop-c-test.false)
+structure::equal-returns t c = columns_done c.requires.parts c.requires.layout refl refl (record { value = refl; small = omega (arith, c.child_count-c-end.ensures.value, c.child_count-c-end.ensures.small) }) c.loop-c.invariant (rw c.child_count-c-end.ensures.value at c.loop-c-test.false)
 
 pub run::equal-equal_range-requires : goal.run::equal-equal_range-requires
 run::equal-equal_range-requires t c = (search rules, rw c.child-values.ensures.same (together_requires c.requires.parts c.requires.layout c.run_of-i.ensures c.run_of-j.ensures (omega (arith, c.if-n-eq0.false)) c.in-Some.ensures.some c.in-Some.ensures.together refl refl))

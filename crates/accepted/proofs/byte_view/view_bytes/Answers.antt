@@ -7,7 +7,7 @@ pub returns-then-len-le-INLINE_LENGTH : goal.returns-then-len-le-INLINE_LENGTH
 returns-then-len-le-INLINE_LENGTH c = shown_short _ _ _ _ c.requires c.if-len-le-INLINE_LENGTH.true
 
 pub long_place-requires : goal.long_place-requires
-long_place-requires c = record { viewed = c.requires; lt_len = (c.if-len-le-INLINE_LENGTH.false, entries_read _ _ _ c.node_entry.ensures) }
+long_place-requires c = record { viewed = c.requires; long = (c.if-len-le-INLINE_LENGTH.false, entries_read _ _ _ c.node_entry.ensures) }
 
 pub returns : goal.returns
 returns c = c.long_place.ensures

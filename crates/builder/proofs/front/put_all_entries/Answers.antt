@@ -12,7 +12,7 @@ pub loop-k-init : goal.loop-k-init
 loop-k-init c = (refl, pieces_start _ _ _ c.requires.fits)
 
 pub put_entries-requires : goal.put_entries-requires
-put_entries-requires c = record { rise = (c.requires.rise, omega (arith, c.loop-k-test.true, c.node_count-n.ensures.value), (accepted _ c.requires.image_value.0).tables.few_nodes); node_bound = few_buffers _ (accepted _ c.requires.image_value.0) c.requires.image_value.1 _ (omega (arith, c.loop-k-test.true, c.node_count-n.ensures.value)); fits = piece_fits c.loop-k.invariant.1 (omega (arith, c.loop-k-test.true, c.node_count-n.ensures.value)) }
+put_entries-requires c = record { rise = (c.requires.rise, omega (arith, c.loop-k-test.true, c.node_count-n.ensures.value), (accepted _ c.requires.accepted.0).tables.few_nodes); node_bound = few_buffers _ (accepted _ c.requires.accepted.0) c.requires.accepted.1 _ (omega (arith, c.loop-k-test.true, c.node_count-n.ensures.value)); fits = piece_fits c.loop-k.invariant.1 (omega (arith, c.loop-k-test.true, c.node_count-n.ensures.value)) }
 
 pub loop-k-preserved : goal.loop-k-preserved
 loop-k-preserved c = (c.put_entries.ensures.lent ∙ c.loop-k.invariant.0, piece_put c.loop-k.invariant.1 (omega (arith, c.loop-k-test.true, c.node_count-n.ensures.value)) (c.put_entries.ensures.at, c.put_entries.ensures.bytes))

@@ -14,13 +14,13 @@ pub put_number-requires-2 : goal.put_number-requires-2
 put_number-requires-2 c = omega (arith, header_fits _ _ _ c.requires.fits, number_at _ _ c.put_number.ensures)
 
 pub put_records-requires : goal.put_records-requires
-put_records-requires c = record { tables = (accepted _ c.requires.image_value.0).tables; rise = c.requires.rise; fits = records_fit _ _ _ c.requires.fits c.node_count.ensures.value (c.put_number.ensures.at, c.put_number.ensures.bytes) c.buffer_total.ensures.value (c.put_number-2.ensures.at, c.put_number-2.ensures.bytes) }
+put_records-requires c = record { tables = (accepted _ c.requires.accepted.0).tables; rise = c.requires.rise; fits = records_fit _ _ _ c.requires.fits c.node_count.ensures.value (c.put_number.ensures.at, c.put_number.ensures.bytes) c.buffer_total.ensures.value (c.put_number-2.ensures.at, c.put_number-2.ensures.bytes) }
 
 pub put_all_entries-requires : goal.put_all_entries-requires
-put_all_entries-requires c = record { image_value = c.requires.image_value; rise = c.requires.rise; fits = entries_fit _ _ _ c.requires.fits c.node_count.ensures.value (c.put_number.ensures.at, c.put_number.ensures.bytes) c.buffer_total.ensures.value (c.put_number-2.ensures.at, c.put_number-2.ensures.bytes) (c.put_records.ensures.at, c.put_records.ensures.bytes) }
+put_all_entries-requires c = record { accepted = c.requires.accepted; rise = c.requires.rise; fits = entries_fit _ _ _ c.requires.fits c.node_count.ensures.value (c.put_number.ensures.at, c.put_number.ensures.bytes) c.buffer_total.ensures.value (c.put_number-2.ensures.at, c.put_number-2.ensures.bytes) (c.put_records.ensures.at, c.put_records.ensures.bytes) }
 
 pub put_names-requires : goal.put_names-requires
-put_names-requires c = record { image_value = c.requires.image_value.0; fits = names_fit _ _ _ c.requires.fits c.node_count.ensures.value (c.put_number.ensures.at, c.put_number.ensures.bytes) c.buffer_total.ensures.value (c.put_number-2.ensures.at, c.put_number-2.ensures.bytes) (c.put_records.ensures.at, c.put_records.ensures.bytes) (c.put_all_entries.ensures.at, c.put_all_entries.ensures.bytes) }
+put_names-requires c = record { accepted = c.requires.accepted.0; fits = names_fit _ _ _ c.requires.fits c.node_count.ensures.value (c.put_number.ensures.at, c.put_number.ensures.bytes) c.buffer_total.ensures.value (c.put_number-2.ensures.at, c.put_number-2.ensures.bytes) (c.put_records.ensures.at, c.put_records.ensures.bytes) (c.put_all_entries.ensures.at, c.put_all_entries.ensures.bytes) }
 
 pub returns : goal.returns
 returns c =

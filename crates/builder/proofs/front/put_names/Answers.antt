@@ -11,7 +11,7 @@ pub loop-k-init : goal.loop-k-init
 loop-k-init c = (refl, pieces_start _ _ _ c.requires.fits)
 
 pub put_name-requires : goal.put_name-requires
-put_name-requires c = record { named = ((accepted _ c.requires.image_value).node c.loop-k.k (omega (arith, c.loop-k-test.true, c.node_count-n.ensures.value))).named; fits = piece_fits c.loop-k.invariant.1 (omega (arith, c.loop-k-test.true, c.node_count-n.ensures.value)) }
+put_name-requires c = record { named = ((accepted _ c.requires.accepted).node c.loop-k.k (omega (arith, c.loop-k-test.true, c.node_count-n.ensures.value))).named; fits = piece_fits c.loop-k.invariant.1 (omega (arith, c.loop-k-test.true, c.node_count-n.ensures.value)) }
 
 pub loop-k-preserved : goal.loop-k-preserved
 loop-k-preserved c = (c.put_name.ensures.lent ∙ c.loop-k.invariant.0, piece_put c.loop-k.invariant.1 (omega (arith, c.loop-k-test.true, c.node_count-n.ensures.value)) (c.put_name.ensures.at, c.put_name.ensures.bytes))

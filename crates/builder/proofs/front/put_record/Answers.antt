@@ -8,7 +8,7 @@ pub put_type-requires : goal.put_type-requires
 put_type-requires c = type_fits _ _ _ _ c.requires.fits
 
 pub put_rows-requires : goal.put_rows-requires
-put_rows-requires c = record { node_from = c.requires.node_from; name_value = c.requires.name_value; fits = rows_fit _ _ _ _ c.requires.fits (c.put_type.ensures.at, c.put_type.ensures.bytes) }
+put_rows-requires c = record { node_from = c.requires.node_from; name = c.requires.name; fits = rows_fit _ _ _ _ c.requires.fits (c.put_type.ensures.at, c.put_type.ensures.bytes) }
 
 pub put_tables-requires : goal.put_tables-requires
 put_tables-requires c = tables_fit _ _ _ _ c.requires.fits (c.put_type.ensures.at, c.put_type.ensures.bytes) (c.put_rows.ensures.at, c.put_rows.ensures.bytes)

@@ -11,7 +11,7 @@ pub loop-k-init : goal.loop-k-init
 loop-k-init c = (refl, (pieces_start _ _ _ c.requires.fits, names_start _ c.requires.tables c.tables_end-name.ensures.value))
 
 pub put_record-requires : goal.put_record-requires
-put_record-requires c = record { node_from = record { node = omega (arith, c.loop-k-test.true, c.node_count-n.ensures.value); few = c.requires.tables.few_nodes; risen = c.requires.rise }; name_value = c.loop-k.invariant.1.1.start; fits = piece_fits c.loop-k.invariant.1.0 (omega (arith, c.loop-k-test.true, c.node_count-n.ensures.value)) }
+put_record-requires c = record { node_from = record { node = omega (arith, c.loop-k-test.true, c.node_count-n.ensures.value); few = c.requires.tables.few_nodes; risen = c.requires.rise }; name = c.loop-k.invariant.1.1.start; fits = piece_fits c.loop-k.invariant.1.0 (omega (arith, c.loop-k-test.true, c.node_count-n.ensures.value)) }
 
 pub overflow_add-name : goal.overflow_add-name
 overflow_add-name c = omega (arith, c.loop-k.invariant.1.1.near, c.loop-k-test.true, c.node_count-n.ensures.small, c.name_length-name.ensures.small)

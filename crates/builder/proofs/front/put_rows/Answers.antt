@@ -23,7 +23,7 @@ pub put_number-requires-2 : goal.put_number-requires-2
 put_number-requires-2 c = omega (arith, fits_sized (row_length _ _ _ _) c.requires.fits, number_at _ _ c.put_number.ensures)
 
 pub built_name-requires : goal.built_name-requires
-built_name-requires c = c.requires.name_value
+built_name-requires c = c.requires.name
 
 pub put_number-requires-3 : goal.put_number-requires-3
 put_number-requires-3 c = omega (arith, fits_sized (row_length _ _ _ _) c.requires.fits, number_at _ _ c.put_number.ensures, number_at _ _ c.put_number-2.ensures)

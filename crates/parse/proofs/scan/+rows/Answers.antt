@@ -43,38 +43,38 @@ pub scan_value-scan_by_layout-requires : goal.scan_value-scan_by_layout-requires
 scan_value-scan_by_layout-requires t c = (omega (arith, c.decreases), ((c.requires.0, c.requires.1), c.code-code.ensures))
 
 pub scan_by_layout-returns-in-Null : goal.scan_by_layout-returns-in-Null
-scan_by_layout-returns-in-Null t c = null_value _ _ _ _ _ (layout_told c.requires.code_value c.layout.ensures c.in-Null.is)
+scan_by_layout-returns-in-Null t c = null_value _ _ _ _ _ (layout_told c.requires.code c.layout.ensures c.in-Null.is)
 
 pub scan_by_layout-returns-in-Boolean : goal.scan_by_layout-returns-in-Boolean
-scan_by_layout-returns-in-Boolean t c = boolean_value _ _ _ _ _ (layout_told c.requires.code_value c.layout.ensures c.in-Boolean.is) c.scan_boolean.ensures
+scan_by_layout-returns-in-Boolean t c = boolean_value _ _ _ _ _ (layout_told c.requires.code c.layout.ensures c.in-Boolean.is) c.scan_boolean.ensures
 
 pub scan_by_layout-returns-in-FixedWidth : goal.scan_by_layout-returns-in-FixedWidth
-scan_by_layout-returns-in-FixedWidth t c = bytes_value _ _ _ _ _ _ (layout_told c.requires.code_value c.layout.ensures c.in-FixedWidth.is) c.element_width.ensures c.scan_bytes.ensures
+scan_by_layout-returns-in-FixedWidth t c = bytes_value _ _ _ _ _ _ (layout_told c.requires.code c.layout.ensures c.in-FixedWidth.is) c.element_width.ensures c.scan_bytes.ensures
 
 pub scan_by_layout-scan_text-requires : goal.scan_by_layout-scan_text-requires
 scan_by_layout-scan_text-requires t c = (c.requires.within.1, node_few c.requires.within.0)
 
 pub scan_by_layout-returns-in-VariableSize : goal.scan_by_layout-returns-in-VariableSize
-scan_by_layout-returns-in-VariableSize t c = text_value _ _ _ _ c.requires.code_value (layout_told c.requires.code_value c.layout.ensures c.in-VariableSize.is) c.scan_text.ensures
+scan_by_layout-returns-in-VariableSize t c = text_value _ _ _ _ c.requires.code (layout_told c.requires.code c.layout.ensures c.in-VariableSize.is) c.scan_text.ensures
 
 pub scan_by_layout-scan_list-requires : goal.scan_by_layout-scan_list-requires
-scan_by_layout-scan_list-requires t c = (omega (arith, c.decreases), ((c.requires.within.0, c.requires.within.1), layout_told c.requires.code_value c.layout.ensures c.in-List.is))
+scan_by_layout-scan_list-requires t c = (omega (arith, c.decreases), ((c.requires.within.0, c.requires.within.1), layout_told c.requires.code c.layout.ensures c.in-List.is))
 
 pub scan_by_layout-returns-in-List : goal.scan_by_layout-returns-in-List
-scan_by_layout-returns-in-List t c = list_value _ _ _ _ (layout_told c.requires.code_value c.layout.ensures c.in-List.is) c.scan_list.ensures
+scan_by_layout-returns-in-List t c = list_value _ _ _ _ (layout_told c.requires.code c.layout.ensures c.in-List.is) c.scan_list.ensures
 
 pub scan_by_layout-returns-in-Struct : goal.scan_by_layout-returns-in-Struct
-scan_by_layout-returns-in-Struct t c = struct_value _ _ _ _ (layout_told c.requires.code_value c.layout.ensures c.in-Struct.is) c.scan_struct.ensures
+scan_by_layout-returns-in-Struct t c = struct_value _ _ _ _ (layout_told c.requires.code c.layout.ensures c.in-Struct.is) c.scan_struct.ensures
 
 pub scan_by_layout-returns-in_default : goal.scan_by_layout-returns-in_default
-scan_by_layout-returns-in_default t c = other_value _ _ _ _ _ _ (layout_is c.requires.code_value c.layout.ensures) (opened c.in_default.in_default-own.keys7)
+scan_by_layout-returns-in_default t c = other_value _ _ _ _ _ _ (layout_is c.requires.code c.layout.ensures) (opened c.in_default.in_default-own.keys7)
 
 pub scan_list-returns-in_err-n : goal.scan_list-returns-in_err-n
 scan_list-returns-in_err-n t c = rw c.from_residual.ensures (list_none _ _ _ _ c.in_err-n.ensures)
 
 pub scan_list-scan_rows-requires : goal.scan_list-scan_rows-requires
 scan_list-scan_rows-requires t c =
-    (omega (arith, c.decreases), (rw (c.child.ensures.image, c.child.ensures.number, add-zero) (list_child c.requires.within.0 c.requires.node_value), begun_at _ c.requires.within.1 (omega (arith, c.in_ok-n.ensures.took))))
+    (omega (arith, c.decreases), (rw (c.child.ensures.image, c.child.ensures.number, add-zero) (list_child c.requires.within.0 c.requires.layout), begun_at _ c.requires.within.1 (omega (arith, c.in_ok-n.ensures.took))))
 
 pub scan_list-returns-in_err-rest : goal.scan_list-returns-in_err-rest
 scan_list-returns-in_err-rest t c =

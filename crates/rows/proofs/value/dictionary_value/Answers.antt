@@ -5,7 +5,7 @@ use Rattle.accepted.proofs.Nodes.{part_node, part_small}
 use Rattle.rows.proofs.value.dictionary_value.Goals as goal
 
 pub offset_at-requires : goal.offset_at-requires
-offset_at-requires c = ((part_node c.requires.part).widths.keys c.requires.node_value, omega (arith, part_small c.requires.part))
+offset_at-requires c = ((part_node c.requires.part).widths.keys c.requires.layout, omega (arith, part_small c.requires.part))
 
 pub returns : goal.returns
 returns c = rw (c.nested.ensures, c.offset_at.ensures, c.first_child.ensures.value)

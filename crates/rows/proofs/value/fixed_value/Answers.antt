@@ -6,10 +6,10 @@ use Rattle.rows.proofs.ValuePlaces.{fixed_small}
 use Rattle.rows.proofs.value.fixed_value.Goals as goal
 
 pub overflow_mul-j : goal.overflow_mul-j
-overflow_mul-j c = omega (arith, fixed_small c.requires.part c.requires.node_value c.element_width-width.ensures c.buffer_place.ensures.value)
+overflow_mul-j c = omega (arith, fixed_small c.requires.part c.requires.layout c.element_width-width.ensures c.buffer_place.ensures.value)
 
 pub overflow_add-buffer_place : goal.overflow_add-buffer_place
-overflow_add-buffer_place c = omega (arith, fixed_small c.requires.part c.requires.node_value c.element_width-width.ensures c.buffer_place.ensures.value)
+overflow_add-buffer_place c = omega (arith, fixed_small c.requires.part c.requires.layout c.element_width-width.ensures c.buffer_place.ensures.value)
 
 pub returns : goal.returns
 unfolding element_place

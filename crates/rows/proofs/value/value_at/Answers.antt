@@ -9,31 +9,31 @@ use Rattle.accepted.proofs.Nodes.{layout_is}
 use Rattle.rows.proofs.value.value_at.Goals as goal
 
 pub fixed_value-requires : goal.fixed_value-requires
-fixed_value-requires c = record { part = c.requires.part; node_value = layout_is c.code.ensures c.layout-layout.ensures (sym c.in-FixedWidth.is) }
+fixed_value-requires c = record { part = c.requires.part; layout = layout_is c.code.ensures c.layout-layout.ensures (sym c.in-FixedWidth.is) }
 
 pub variable_value-requires : goal.variable_value-requires
-variable_value-requires c = record { part = c.requires.part; node_value = layout_is c.code.ensures c.layout-layout.ensures (sym c.in-VariableSize.is) }
+variable_value-requires c = record { part = c.requires.part; layout = layout_is c.code.ensures c.layout-layout.ensures (sym c.in-VariableSize.is) }
 
 pub view_value-requires : goal.view_value-requires
-view_value-requires c = record { part = c.requires.part; node_value = layout_is c.code.ensures c.layout-layout.ensures (sym c.in-View.is) }
+view_value-requires c = record { part = c.requires.part; layout = layout_is c.code.ensures c.layout-layout.ensures (sym c.in-View.is) }
 
 pub list_value-requires : goal.list_value-requires
-list_value-requires c = record { part = c.requires.part; node_value = layout_is c.code.ensures c.layout-layout.ensures (sym c.in-List.is) }
+list_value-requires c = record { part = c.requires.part; layout = layout_is c.code.ensures c.layout-layout.ensures (sym c.in-List.is) }
 
 pub list_view_value-requires : goal.list_view_value-requires
-list_view_value-requires c = record { part = c.requires.part; node_value = layout_is c.code.ensures c.layout-layout.ensures (sym c.in-ListView.is) }
+list_view_value-requires c = record { part = c.requires.part; layout = layout_is c.code.ensures c.layout-layout.ensures (sym c.in-ListView.is) }
 
 pub fixed_list_value-requires : goal.fixed_list_value-requires
-fixed_list_value-requires c = record { part = c.requires.part; node_value = layout_is c.code.ensures c.layout-layout.ensures (sym c.in-FixedList.is) }
+fixed_list_value-requires c = record { part = c.requires.part; layout = layout_is c.code.ensures c.layout-layout.ensures (sym c.in-FixedList.is) }
 
 pub dense_value-requires : goal.dense_value-requires
-dense_value-requires c = record { part = c.requires.part; node_value = layout_is c.code.ensures c.layout-layout.ensures (sym c.in-DenseUnion.is) }
+dense_value-requires c = record { part = c.requires.part; layout = layout_is c.code.ensures c.layout-layout.ensures (sym c.in-DenseUnion.is) }
 
 pub sparse_value-requires : goal.sparse_value-requires
-sparse_value-requires c = record { part = c.requires.part; node_value = layout_is c.code.ensures c.layout-layout.ensures (sym c.in-SparseUnion.is) }
+sparse_value-requires c = record { part = c.requires.part; layout = layout_is c.code.ensures c.layout-layout.ensures (sym c.in-SparseUnion.is) }
 
 pub dictionary_value-requires : goal.dictionary_value-requires
-dictionary_value-requires c = record { part = c.requires.part; node_value = layout_is c.code.ensures c.layout-layout.ensures (sym c.in-Dictionary.is) }
+dictionary_value-requires c = record { part = c.requires.part; layout = layout_is c.code.ensures c.layout-layout.ensures (sym c.in-Dictionary.is) }
 
 pub returns-in-Null : goal.returns-in-Null
 returns-in-Null c = rw (layout_is c.code.ensures c.layout-layout.ensures (sym c.in-Null.is)) c.leaf.ensures

@@ -13,8 +13,8 @@ pub overflow_add-view : goal.overflow_add-view
 overflow_add-view c = omega (arith, part_small c.requires.part, c.buffer_place.ensures.small)
 
 pub view_bytes-requires : goal.view_bytes-requires
-view_bytes-requires c = viewed c.requires.part c.requires.node_value c.buffer_place.ensures.value c.le-size.ensures.value
+view_bytes-requires c = viewed c.requires.part c.requires.layout c.buffer_place.ensures.value c.le-size.ensures.value
 
 pub returns : goal.returns
 unfolding view_length
-returns c = rw (c.leaf.ensures, c.view_bytes.ensures.place, c.le-size.ensures.value, view_place_lem c.requires.part c.requires.node_value c.buffer_place.ensures.value)
+returns c = rw (c.leaf.ensures, c.view_bytes.ensures.place, c.le-size.ensures.value, view_place_lem c.requires.part c.requires.layout c.buffer_place.ensures.value)

@@ -74,7 +74,7 @@ pub write_rows-overflow_sub-stay : goal.write_rows-overflow_sub-stay
 write_rows-overflow_sub-stay t c = omega (arith, c.stay-stay.ensures.some)
 
 pub write_rows-put_times-requires : goal.write_rows-put_times-requires
-write_rows-put_times-requires t c = record { n_le_at = others_fit c.loop-k.invariant.1.0 c.loop-k-test.true (rw c.new-column.ensures.node c.requires.side) c.stay-stay.ensures (c.write_row.ensures.put.at, c.write_row.ensures.put.bytes); times_bound = omega (arith, c.stay-stay.ensures.within, side_few c.requires.side) }
+write_rows-put_times-requires t c = record { behind = others_fit c.loop-k.invariant.1.0 c.loop-k-test.true (rw c.new-column.ensures.node c.requires.side) c.stay-stay.ensures (c.write_row.ensures.put.at, c.write_row.ensures.put.bytes); times_bound = omega (arith, c.stay-stay.ensures.within, side_few c.requires.side) }
 
 pub write_rows-overflow_add-k : goal.write_rows-overflow_add-k
 write_rows-overflow_add-k t c = omega (arith, c.stay-stay.ensures.within, side_few c.requires.side, c.loop-k-test.true)

@@ -21,7 +21,7 @@ offsets_fall-requires-in-List c = list_offsets c.requires.0 (omega arith) _ c.re
 pub lists_outside-requires : goal.lists_outside-requires
 lists_outside-requires c =
     let both = list_views c.requires.0 (omega arith) _ c.requires.1 (sym (at_place 6 ListView (λ l. l) refl c.layout-layout.result c.in-ListView.in-ListView-own.keys3 _ _ c.layout-layout.ensures c.code.ensures.value)) in
-    record { holds = both.0; holds_2 = both.1 }
+    record { offsets = both.0; sizes = both.1 }
 
 pub returns-in-VariableSize : goal.returns-in-VariableSize
 unfolding fault17

@@ -25,7 +25,7 @@ pub loop-j-init : goal.loop-j-init
 loop-j-init c = rest_none _ _ _
 
 pub inside-offset-requires : goal.inside-offset-requires
-inside-offset-requires c = number_inside c.args.node c.numbers-offsets.result 0 _ c.requires.holds (c.numbers-offsets.ensures.width ∙ c.element_width-width.ensures) c.numbers-offsets.ensures.bytes c.numbers-offsets.ensures.place.value (omega (arith, c.elements-j-end.ensures.value))
+inside-offset-requires c = number_inside c.args.node c.numbers-offsets.result 0 _ c.requires.offsets (c.numbers-offsets.ensures.width ∙ c.element_width-width.ensures) c.numbers-offsets.ensures.bytes c.numbers-offsets.ensures.place.value (omega (arith, c.elements-j-end.ensures.value))
 
 pub returns-then-end-offset : goal.returns-then-end-offset
 returns-then-end-offset c =
@@ -33,7 +33,7 @@ returns-then-end-offset c =
     rw (← c.elements-j-end.ensures.value) (any_found _ _ _ _ c.loop-j-test.true c.loop-j.invariant (listed _ _ _ _ _ _ _ c.element_width-width.ensures c.numbers-offsets.ensures.place.value c.numbers-sizes.ensures.place.value rows (rw (c.numbers-offsets.ensures.bytes, c.numbers-offsets.ensures.width) at c.inside-offset.ensures.value) (rw (c.numbers-sizes.ensures.bytes, c.numbers-sizes.ensures.width) at c.inside-size.ensures.value) ∙ lt-ltb c.length-end.result (c.inside-offset.result + c.inside-size.result) (omega arith)))
 
 pub inside-size-requires : goal.inside-size-requires
-inside-size-requires c = number_inside c.args.node c.numbers-sizes.result 1 _ c.requires.holds_2 (c.numbers-sizes.ensures.width ∙ c.element_width-width.ensures) c.numbers-sizes.ensures.bytes c.numbers-sizes.ensures.place.value (omega (arith, c.elements-j-end.ensures.value))
+inside-size-requires c = number_inside c.args.node c.numbers-sizes.result 1 _ c.requires.sizes (c.numbers-sizes.ensures.width ∙ c.element_width-width.ensures) c.numbers-sizes.ensures.bytes c.numbers-sizes.ensures.place.value (omega (arith, c.elements-j-end.ensures.value))
 
 pub returns-then-end-offset-2 : goal.returns-then-end-offset-2
 returns-then-end-offset-2 c =

@@ -17,10 +17,10 @@ pub returns-then-len-le-INLINE_LENGTH : goal.returns-then-len-le-INLINE_LENGTH
 returns-then-len-le-INLINE_LENGTH c = short_are c.requires.0.viewed c.requires.1.viewed c.load-len.ensures c.load.ensures c.if-len-load.false c.if-len-le-INLINE_LENGTH.true (c.eq.ensures ∙ parts_same _ _ _ _ _ _ (omega (arith, c.requires.0.viewed.fits, c.if-len-le-INLINE_LENGTH.true)) (omega (arith, c.requires.1.viewed.fits, c.if-len-le-INLINE_LENGTH.true)))
 
 pub long_place-at-requires : goal.long_place-at-requires
-long_place-at-requires c = record { viewed = sized_left c.requires.0.viewed c.requires.1.viewed c.load-len.ensures c.load.ensures; lt_len = (c.if-len-le-INLINE_LENGTH.false, c.requires.0.entries) }
+long_place-at-requires c = record { viewed = sized_left c.requires.0.viewed c.requires.1.viewed c.load-len.ensures c.load.ensures; long = (c.if-len-le-INLINE_LENGTH.false, c.requires.0.entries) }
 
 pub long_place-bt-requires : goal.long_place-bt-requires
-long_place-bt-requires c = record { viewed = sized_right c.requires.0.viewed c.requires.1.viewed c.load-len.ensures c.load.ensures c.if-len-load.false; lt_len = (c.if-len-le-INLINE_LENGTH.false, c.requires.1.entries) }
+long_place-bt-requires c = record { viewed = sized_right c.requires.0.viewed c.requires.1.viewed c.load-len.ensures c.load.ensures c.if-len-load.false; long = (c.if-len-le-INLINE_LENGTH.false, c.requires.1.entries) }
 
 pub returns : goal.returns
 returns c = shown_are c.requires.0.viewed c.requires.1.viewed c.load-len.ensures c.load.ensures c.if-len-load.false c.long_place-at.ensures c.long_place-bt.ensures (c.eq-2.ensures ∙ parts_same _ _ _ _ _ _ c.long_place-at.ensures.inside c.long_place-bt.ensures.inside)

@@ -19,7 +19,7 @@ pub loop-q-init : goal.loop-q-init
 loop-q-init c = (refl, refl, planning_start _ _ _ _ _ (omega (arith, c.well_formed)) c.names_end-place.ensures)
 
 pub part_size-size-requires : goal.part_size-size-requires
-part_size-size-requires c = record { accepted_image = (accepted _ c.requires, (omega (arith, c.loop-q-test.true, c.node_count.ensures.value))); q_bound = rw c.loop-q.invariant.0 (few_rows _ _ (sym c.too_many.ensures ∙ c.if-too_many.false) _ (omega (arith, c.loop-q-test.true, c.node_count.ensures.value))) }
+part_size-size-requires c = record { accepted = (accepted _ c.requires, (omega (arith, c.loop-q-test.true, c.node_count.ensures.value))); q_bound = rw c.loop-q.invariant.0 (few_rows _ _ (sym c.too_many.ensures ∙ c.if-too_many.false) _ (omega (arith, c.loop-q-test.true, c.node_count.ensures.value))) }
 
 pub overflow_sub-place : goal.overflow_sub-place
 overflow_sub-place c = omega (arith, c.loop-q.invariant.2.short)

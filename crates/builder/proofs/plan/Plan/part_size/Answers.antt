@@ -11,7 +11,7 @@ unfolding part_size size_of
 returns-in-0 c = rw (c.in-0.is, ← c.code-code.ensures.value) c.bitmap_size.ensures
 
 pub first_size-requires : goal.first_size-requires
-first_size-requires c = (rw c.element_width.ensures (width_most _ _ (c.requires.accepted_image.0.node _ (omega (arith, c.requires.accepted_image.1))).known), c.requires.q_bound)
+first_size-requires c = (rw c.element_width.ensures (width_most _ _ (c.requires.accepted.0.node _ (omega (arith, c.requires.accepted.1))).known), c.requires.q_bound)
 
 pub returns-in-1 : goal.returns-in-1
 unfolding part_size size_of

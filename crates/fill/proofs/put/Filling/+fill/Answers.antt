@@ -22,22 +22,22 @@ use Rattle.fill.proofs.Arms.{row_inside, row_deep, listed_getting, listed_inside
 use Rattle.fill.proofs.put.Filling.+fill.Goals as goal
 
 pub fill_list-put_list-requires-clause-getting : goal.fill_list-put_list-requires-clause-getting
-fill_list-put_list-requires-clause-getting t c = listed_getting c.requires.row_walk c.requires.node_value.0 c.requires.node_value.1 c.le-n.ensures.value
+fill_list-put_list-requires-clause-getting t c = listed_getting c.requires.row_walk c.requires.layout.0 c.requires.layout.1 c.le-n.ensures.value
 
 pub fill_list-overflow_sub-depth : goal.fill_list-overflow_sub-depth
 fill_list-overflow_sub-depth t c = omega (arith, row_deep c.requires.row_walk)
 
 pub fill_list-slice_bounds-fill_rows-count : goal.fill_list-slice_bounds-fill_rows-count
-fill_list-slice_bounds-fill_rows-count t c = omega (arith, listed_inside c.requires.row_walk c.requires.node_value.0 c.requires.node_value.1 c.le-n.ensures.value)
+fill_list-slice_bounds-fill_rows-count t c = omega (arith, listed_inside c.requires.row_walk c.requires.layout.0 c.requires.layout.1 c.le-n.ensures.value)
 
 pub fill_list-slice_bounds-fill_rows-start : goal.fill_list-slice_bounds-fill_rows-start
-fill_list-slice_bounds-fill_rows-start t c = omega (arith, listed_inside c.requires.row_walk c.requires.node_value.0 c.requires.node_value.1 c.le-n.ensures.value)
+fill_list-slice_bounds-fill_rows-start t c = omega (arith, listed_inside c.requires.row_walk c.requires.layout.0 c.requires.layout.1 c.le-n.ensures.value)
 
 pub fill_list-fill_rows-requires : goal.fill_list-fill_rows-requires
-fill_list-fill_rows-requires t c = (omega (arith, c.decreases, row_deep c.requires.row_walk), rw (c.child.ensures.image, c.child.ensures.number, add-zero, c.put_list.ensures.same.places, from_place c.args.b.now 5) (listed_walk c.requires.row_walk c.requires.node_value.0 c.requires.node_value.1 c.le-n.ensures.value refl c.put_list.ensures.filled))
+fill_list-fill_rows-requires t c = (omega (arith, c.decreases, row_deep c.requires.row_walk), rw (c.child.ensures.image, c.child.ensures.number, add-zero, c.put_list.ensures.same.places, from_place c.args.b.now 5) (listed_walk c.requires.row_walk c.requires.layout.0 c.requires.layout.1 c.le-n.ensures.value refl c.put_list.ensures.filled))
 
 pub fill_list-returns-clause-walked : goal.fill_list-returns-clause-walked
-fill_list-returns-clause-walked t c = listed_walked c.requires.row_walk c.requires.node_value.0 c.requires.node_value.1 c.le-n.ensures.value refl c.put_list.ensures.filled (rw (c.child.ensures.image, c.child.ensures.number, add-zero, c.put_list.ensures.same.places, from_place c.args.b.now 5) at c.fill_rows.ensures.walked)
+fill_list-returns-clause-walked t c = listed_walked c.requires.row_walk c.requires.layout.0 c.requires.layout.1 c.le-n.ensures.value refl c.put_list.ensures.filled (rw (c.child.ensures.image, c.child.ensures.number, add-zero, c.put_list.ensures.same.places, from_place c.args.b.now 5) at c.fill_rows.ensures.walked)
 
 pub fill_row-bounds-b-0 : goal.fill_row-bounds-b-0
 fill_row-bounds-b-0 t c = omega (arith, row_inside c.requires)
@@ -124,19 +124,19 @@ pub fill_rows-returns-clause-walked : goal.fill_rows-returns-clause-walked
 fill_rows-returns-clause-walked t c = rows_done c.loop-i.invariant.1 c.loop-i-test.false
 
 pub fill_struct-put_struct-requires-clause-getting : goal.fill_struct-put_struct-requires-clause-getting
-fill_struct-put_struct-requires-clause-getting t c = struct_getting c.requires.row_walk (one_mark c.requires.node_value.1) c.requires.node_value.0
+fill_struct-put_struct-requires-clause-getting t c = struct_getting c.requires.row_walk (one_mark c.requires.layout.1) c.requires.layout.0
 
 pub fill_struct-loop-c-init : goal.fill_struct-loop-c-init
-fill_struct-loop-c-init t c = rw (from_place c.args.b.now 1) (c.put_struct.ensures.same, fields_start c.requires.row_walk c.requires.node_value.0 c.requires.node_value.1 refl c.child_count-c-end.ensures.value c.put_struct.ensures.filled)
+fill_struct-loop-c-init t c = rw (from_place c.args.b.now 1) (c.put_struct.ensures.same, fields_start c.requires.row_walk c.requires.layout.0 c.requires.layout.1 refl c.child_count-c-end.ensures.value c.put_struct.ensures.filled)
 
 pub fill_struct-overflow_sub-depth : goal.fill_struct-overflow_sub-depth
 fill_struct-overflow_sub-depth t c = omega (arith, row_deep c.requires.row_walk)
 
 pub fill_struct-fill_row-rest-requires : goal.fill_struct-fill_row-rest-requires
-fill_struct-fill_row-rest-requires t c = (omega (arith, c.decreases, row_deep c.requires.row_walk), rw (c.child.ensures.image, c.child.ensures.number, c.loop-c.invariant.0.places) (field_walk c.requires.row_walk c.requires.node_value.0 c.requires.node_value.1 refl c.child_count-c-end.ensures.value c.put_struct.ensures.filled c.loop-c.invariant.1 c.loop-c-test.true))
+fill_struct-fill_row-rest-requires t c = (omega (arith, c.decreases, row_deep c.requires.row_walk), rw (c.child.ensures.image, c.child.ensures.number, c.loop-c.invariant.0.places) (field_walk c.requires.row_walk c.requires.layout.0 c.requires.layout.1 refl c.child_count-c-end.ensures.value c.put_struct.ensures.filled c.loop-c.invariant.1 c.loop-c-test.true))
 
 pub fill_struct-loop-c-preserved : goal.fill_struct-loop-c-preserved
 fill_struct-loop-c-preserved t c = (same_then c.loop-c.invariant.0 c.fill_row-rest.ensures.same, field_more c.loop-c.invariant.1 c.loop-c-test.true (rw (c.child.ensures.image, c.child.ensures.number, c.loop-c.invariant.0.places) at c.fill_row-rest.ensures.walked))
 
 pub fill_struct-returns-clause-walked : goal.fill_struct-returns-clause-walked
-fill_struct-returns-clause-walked t c = fields_done c.requires.row_walk c.requires.node_value.0 c.requires.node_value.1 refl c.child_count-c-end.ensures.value c.put_struct.ensures.filled c.loop-c.invariant.1 c.loop-c-test.false
+fill_struct-returns-clause-walked t c = fields_done c.requires.row_walk c.requires.layout.0 c.requires.layout.1 refl c.child_count-c-end.ensures.value c.put_struct.ensures.filled c.loop-c.invariant.1 c.loop-c-test.false

@@ -9,16 +9,16 @@ pub spot_of-spot-requires : goal.spot_of-spot-requires
 spot_of-spot-requires c = node_small c.requires.getting
 
 pub set_bit-requires : goal.set_bit-requires
-set_bit-requires c = let both = bit_requires c.requires.getting c.spot_of-spot.ensures (rw c.requires.node_value) in record { j_in_bounds = both.0; j_bound = both.1 }
+set_bit-requires c = let both = bit_requires c.requires.getting c.spot_of-spot.ensures (rw c.requires.layout) in record { j_in_bounds = both.0; j_bound = both.1 }
 
 pub count_row-requires : goal.count_row-requires
 count_row-requires c = count_requires c.requires.getting c.spot_of-spot.ensures
 
 pub set_bit-requires-then-x-eq1 : goal.set_bit-requires-then-x-eq1
-set_bit-requires-then-x-eq1 c = let both = value_requires c.requires.getting c.spot_of-spot.ensures c.requires.node_value (c.count_row.ensures.out_after ∙ c.set_bit.ensures) in record { j_in_bounds = both.0; j_bound = both.1 }
+set_bit-requires-then-x-eq1 c = let both = value_requires c.requires.getting c.spot_of-spot.ensures c.requires.layout (c.count_row.ensures.out_after ∙ c.set_bit.ensures) in record { j_in_bounds = both.0; j_bound = both.1 }
 
 pub returns-then-x-eq1-clause-filled : goal.returns-then-x-eq1-clause-filled
-returns-then-x-eq1-clause-filled c = rw c.if-x-eq1.true (true_filled c.requires.getting c.spot_of-spot.ensures c.requires.node_value (omega (arith, c.well_formed), omega (arith, c.well_formed)) (c.count_row.ensures.out_after ∙ c.set_bit.ensures) c.set_bit-then-x-eq1.ensures (c.count_row.ensures.rows_after, c.count_row.ensures.spans_after))
+returns-then-x-eq1-clause-filled c = rw c.if-x-eq1.true (true_filled c.requires.getting c.spot_of-spot.ensures c.requires.layout (omega (arith, c.well_formed), omega (arith, c.well_formed)) (c.count_row.ensures.out_after ∙ c.set_bit.ensures) c.set_bit-then-x-eq1.ensures (c.count_row.ensures.rows_after, c.count_row.ensures.spans_after))
 
 pub returns-else-x-eq1-clause-filled : goal.returns-else-x-eq1-clause-filled
-returns-else-x-eq1-clause-filled c = let zero_bit : c.args.x ≡ 0 = omega (arith, c.requires.x_bound, c.if-x-eq1.false) in rw zero_bit (false_filled c.requires.getting c.spot_of-spot.ensures c.requires.node_value (omega (arith, c.well_formed), omega (arith, c.well_formed)) (c.count_row.ensures.out_after ∙ c.set_bit.ensures) (c.count_row.ensures.rows_after, c.count_row.ensures.spans_after))
+returns-else-x-eq1-clause-filled c = let zero_bit : c.args.x ≡ 0 = omega (arith, c.requires.x_bound, c.if-x-eq1.false) in rw zero_bit (false_filled c.requires.getting c.spot_of-spot.ensures c.requires.layout (omega (arith, c.well_formed), omega (arith, c.well_formed)) (c.count_row.ensures.out_after ∙ c.set_bit.ensures) (c.count_row.ensures.rows_after, c.count_row.ensures.spans_after))

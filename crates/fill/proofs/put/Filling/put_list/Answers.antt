@@ -9,16 +9,16 @@ pub spot_of-spot-requires : goal.spot_of-spot-requires
 spot_of-spot-requires c = node_small c.requires.getting
 
 pub overflow_add-end : goal.overflow_add-end
-overflow_add-end c = omega (arith, list_near c.requires.getting c.spot_of-spot.ensures c.requires.node_value)
+overflow_add-end c = omega (arith, list_near c.requires.getting c.spot_of-spot.ensures c.requires.layout)
 
 pub set_bit-requires : goal.set_bit-requires
-set_bit-requires c = let both = bit_requires c.requires.getting c.spot_of-spot.ensures (rw c.requires.node_value) in record { j_in_bounds = both.0; j_bound = both.1 }
+set_bit-requires c = let both = bit_requires c.requires.getting c.spot_of-spot.ensures (rw c.requires.layout) in record { j_in_bounds = both.0; j_bound = both.1 }
 
 pub put_end-requires : goal.put_end-requires
-put_end-requires c = let both = list_end_requires c.requires.getting c.spot_of-spot.ensures c.requires.node_value c.set_bit.ensures in record { row_bound = both.0; node_in_bounds = both.1 }
+put_end-requires c = let both = list_end_requires c.requires.getting c.spot_of-spot.ensures c.requires.layout c.set_bit.ensures in record { row_bound = both.0; node_in_bounds = both.1 }
 
 pub count_row-requires : goal.count_row-requires
 count_row-requires c = count_requires c.requires.getting c.spot_of-spot.ensures
 
 pub returns-clause-filled : goal.returns-clause-filled
-returns-clause-filled c = list_filled c.requires.getting c.spot_of-spot.ensures c.requires.node_value (omega (arith, c.well_formed), omega (arith, c.well_formed)) c.set_bit.ensures (c.count_row.ensures.out_after ∙ c.put_end.ensures) (c.count_row.ensures.rows_after, c.count_row.ensures.spans_after)
+returns-clause-filled c = list_filled c.requires.getting c.spot_of-spot.ensures c.requires.layout (omega (arith, c.well_formed), omega (arith, c.well_formed)) c.set_bit.ensures (c.count_row.ensures.out_after ∙ c.put_end.ensures) (c.count_row.ensures.rows_after, c.count_row.ensures.spans_after)

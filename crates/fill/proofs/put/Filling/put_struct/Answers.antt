@@ -9,10 +9,10 @@ pub spot_of-spot-requires : goal.spot_of-spot-requires
 spot_of-spot-requires c = node_small c.requires.getting
 
 pub set_bit-requires : goal.set_bit-requires
-set_bit-requires c = let both = bit_requires c.requires.getting c.spot_of-spot.ensures (rw c.requires.node_value) in record { j_in_bounds = both.0; j_bound = both.1 }
+set_bit-requires c = let both = bit_requires c.requires.getting c.spot_of-spot.ensures (rw c.requires.layout) in record { j_in_bounds = both.0; j_bound = both.1 }
 
 pub count_row-requires : goal.count_row-requires
 count_row-requires c = count_requires c.requires.getting c.spot_of-spot.ensures
 
 pub returns-clause-filled : goal.returns-clause-filled
-returns-clause-filled c = struct_filled c.requires.getting c.spot_of-spot.ensures c.requires.node_value (omega (arith, c.well_formed), omega (arith, c.well_formed)) (c.count_row.ensures.out_after ∙ c.set_bit.ensures) (c.count_row.ensures.rows_after, c.count_row.ensures.spans_after)
+returns-clause-filled c = struct_filled c.requires.getting c.spot_of-spot.ensures c.requires.layout (omega (arith, c.well_formed), omega (arith, c.well_formed)) (c.count_row.ensures.out_after ∙ c.set_bit.ensures) (c.count_row.ensures.rows_after, c.count_row.ensures.spans_after)

@@ -9,22 +9,22 @@ pub spot_of-spot-requires : goal.spot_of-spot-requires
 spot_of-spot-requires c = node_small c.requires.getting
 
 pub overflow_add-end : goal.overflow_add-end
-overflow_add-end c = omega (arith, (text_near c.requires.getting c.spot_of-spot.ensures c.requires.node_value).1)
+overflow_add-end c = omega (arith, (text_near c.requires.getting c.spot_of-spot.ensures c.requires.layout).1)
 
 pub set_bit-requires : goal.set_bit-requires
-set_bit-requires c = let both = bit_requires c.requires.getting c.spot_of-spot.ensures (rw c.requires.node_value) in record { j_in_bounds = both.0; j_bound = both.1 }
+set_bit-requires c = let both = bit_requires c.requires.getting c.spot_of-spot.ensures (rw c.requires.layout) in record { j_in_bounds = both.0; j_bound = both.1 }
 
 pub put_end-requires : goal.put_end-requires
-put_end-requires c = let both = text_end_requires c.requires.getting c.spot_of-spot.ensures c.requires.node_value c.set_bit.ensures in record { row_bound = both.0; node_in_bounds = both.1 }
+put_end-requires c = let both = text_end_requires c.requires.getting c.spot_of-spot.ensures c.requires.layout c.set_bit.ensures in record { row_bound = both.0; node_in_bounds = both.1 }
 
 pub overflow_add-spot : goal.overflow_add-spot
-overflow_add-spot c = omega (arith, (text_near c.requires.getting c.spot_of-spot.ensures c.requires.node_value).0)
+overflow_add-spot c = omega (arith, (text_near c.requires.getting c.spot_of-spot.ensures c.requires.layout).0)
 
 pub put-requires : goal.put-requires
-put-requires c = text_inside c.requires.getting c.spot_of-spot.ensures c.requires.node_value c.set_bit.ensures c.put_end.ensures
+put-requires c = text_inside c.requires.getting c.spot_of-spot.ensures c.requires.layout c.set_bit.ensures c.put_end.ensures
 
 pub count_row-requires : goal.count_row-requires
 count_row-requires c = count_requires c.requires.getting c.spot_of-spot.ensures
 
 pub returns-clause-filled : goal.returns-clause-filled
-returns-clause-filled c = text_filled c.requires.getting c.spot_of-spot.ensures c.requires.node_value (omega (arith, c.well_formed), omega (arith, c.well_formed)) _ refl c.set_bit.ensures c.put_end.ensures (c.count_row.ensures.out_after ∙ c.put.ensures) (c.count_row.ensures.rows_after, c.count_row.ensures.spans_after)
+returns-clause-filled c = text_filled c.requires.getting c.spot_of-spot.ensures c.requires.layout (omega (arith, c.well_formed), omega (arith, c.well_formed)) _ refl c.set_bit.ensures c.put_end.ensures (c.count_row.ensures.out_after ∙ c.put.ensures) (c.count_row.ensures.rows_after, c.count_row.ensures.spans_after)

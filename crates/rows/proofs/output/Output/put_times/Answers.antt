@@ -7,10 +7,10 @@ use Rattle.rows.proofs.Repeats.{repeating_start, again_requires, again_more, aga
 use Rattle.rows.proofs.output.Output.put_times.Goals as goal
 
 pub overflow_sub-from : goal.overflow_sub-from
-overflow_sub-from c = omega (arith, c.requires.n_le_at.0)
+overflow_sub-from c = omega (arith, c.requires.behind.0)
 
 pub loop-left-init : goal.loop-left-init
-loop-left-init c = (refl, repeating_start c.requires.n_le_at.0 c.requires.n_le_at.1)
+loop-left-init c = (refl, repeating_start c.requires.behind.0 c.requires.behind.1)
 
 pub overflow_mul-m : goal.overflow_mul-m
 overflow_mul-m c = omega (arith, (again_requires c.loop-left.invariant.1 c.min-m.ensures).1, c.loop-left.invariant.1.put.long, c.well_formed)
