@@ -42,7 +42,7 @@ struct Spot {
 }
 
 // Sets bit j of the bits that start at a place, where it and those behind it in its byte are 0.
-// Kept: one bit of the whole buffer changes, which the contract says by its place.
+// Kept: the parts of a node lie anywhere in the buffer, so each write has its own place and none goes on from the last.
 fn set_bit(out: &mut [u8], place: usize, j: usize)
     requires j_in_bounds { place + j / 8 < length out.old }
     requires j_bound { byte_at out.old (place + j / 8) < 2 ^ (j % 8) }
@@ -54,7 +54,7 @@ fn set_bit(out: &mut [u8], place: usize, j: usize)
 }
 
 // Puts bytes at a place.
-// Kept: what changes of the whole buffer is said by the place.
+// Kept: as with a bit, the place is not that behind the last bytes.
 fn put(out: &mut [u8], at: usize, bytes: &[u8])
     requires { at + length bytes.now ≤ length out.old }
     ensures { out.new ≡ over out.old at bytes.now }
