@@ -15,7 +15,7 @@ fn main(rt: HostRuntime) -> io::Result<()> {
     let mut progress = Progress::start();
     let mut text = [0u8; LONGEST_REPLY];
     let mut chunk = [0u8; CHUNK];
-    // More reads than any input takes; a loop without an end is not proved.
+    // Kept: a count of reads, more than any input takes, since a loop has to end.
     for _ in 0..u64::MAX {
         let n = input.read(&mut chunk)?;
         if n == 0 {

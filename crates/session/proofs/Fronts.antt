@@ -1,10 +1,9 @@
--- The front of a list, taken by its own length, and over what follows it; how long it is at most.
+-- The front of a list, taken by its own length, and over what follows it.
 -- By induction on the length that is taken.
-use mathlib.Core.Path.{◌≡◌, refl, sym, ap, ◌∙◌}
+use mathlib.Core.Path.{◌≡◌, refl, ap}
 use mathlib.Core.List.{List, [], ◌∷◌, ◌++◌}
-use Prim.Native.Nat.{ℕ, zero, suc, ◌≤◌}
-use native.Mathlib.Omega.{arith}
-use lib.ListN.{length, take, length-take}
+use Prim.Native.Nat.{ℕ, zero, suc}
+use lib.ListN.{length, take}
 
 pub front : (n : ℕ) (xs : List ℕ) → take (length (take n xs)) xs ≡ take n xs
 front zero xs = refl
@@ -16,14 +15,8 @@ module _ (n m : ℕ) (xs : List ℕ) (e : n ≡ length (take m xs)) where
   pub front_same : take n xs ≡ take m xs
   front_same = rw e (front m xs)
 
-  pub front_length : n ≡ length (take n xs)
-  front_length = e ∙ ap length (sym front_same)
-
 -- what stands past a front is not missed where more follows
 pub front_over : (n : ℕ) (xs ys : List ℕ) → take n (take n xs ++ ys) ≡ take n (xs ++ ys)
 front_over zero xs ys = refl
 front_over (suc n) [] ys = refl
 front_over (suc n) (x ∷ xs) ys = ap (λ (r : List ℕ). x ∷ r) (front_over n xs ys)
-
-pub front_within : (n : ℕ) (xs ys : List ℕ) → n ≡ length xs → take n ys ≡ xs → n ≤ length ys
-front_within n xs ys e is = omega (arith, length-take n ys, ap length is)

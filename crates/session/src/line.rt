@@ -11,7 +11,7 @@ const SPACE: u8 = b' ';
 pub const LINE_FEED: u8 = b'\n';
 
 // The value of a digit, 0 to 9 and a to f.
-// Kept: the library has no `to_digit` of a character, and Rust's takes capitals too.
+// Kept: the library's `to_digit` takes capitals too, which no line has.
 fn digit(c: u8) -> Option<u8>
     ensures { result ≡ digit_value c }
 {

@@ -104,7 +104,7 @@ pub fn written_reply(answer: Result<usize, WriteRefusal>, side: Side) -> Result<
 }
 
 // The character of a digit.
-// Kept: a digit's character is written out; the library has no `char::from_digit`.
+// Kept: the library's `from_digit` answers an `Option` of a character, and so is no plainer.
 fn digit_text(x: u8) -> u8
     ensures { result ≡ digit_text x }
 {

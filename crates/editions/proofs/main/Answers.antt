@@ -2,13 +2,13 @@
 -- calls need.
 use Rattle.std.proofs.Common.{Bool, true, false, ◌≡◌, ◌+◌, ◌-◌, ◌<◌, ◌≤◌, ℕ, List, [], length, take, drop, rules, tests, arith}
 use mathlib.Core.Bool.{cond}
-use mathlib.Core.Path.{refl}
-use lib.ListN.{length-drop, drop_of_length-le}
+use mathlib.Core.Path.{refl, sym, subst}
+use lib.ListN.{length-take, length-drop, drop_of_length-le}
 use lib.Seq.{take_all}
 use Rattle.session.specs.Feeds.{before_feed, has_feed}
 use Rattle.session.specs.Turns.{Reader, turn_of, held_in}
 use Rattle.session.proofs.Feeds.{before_all, feed_inside}
-use Rattle.session.proofs.Reading.{read_start, read_chunk, read_turn, read_on}
+use Rattle.session.proofs.Reading.{Read, read_start, read_chunk, read_turn, read_on}
 use Rattle.session.proofs.Takes.{turned_forward}
 use Rattle.editions.proofs.main.Goals as goal
 
@@ -40,11 +40,11 @@ slice_bounds-left-start c = omega (arith, c.turn-taken.ensures.consumed, turn_wi
 pub loop-left-smaller : goal.loop-left-smaller
 loop-left-smaller c =
     let some : 0 < length c.loop-left.left.now = search (rules, tests) in
-    rw (rest_whole c.turn-taken.result.consumed c.loop-left.left.now)
-    (omega (arith, length-drop c.turn-taken.result.consumed c.loop-left.left.now, turned_forward _ _ _ _ _ _ c.turn-taken.ensures some, some))
+    simp (length-take, length-drop) (omega (arith, turned_forward _ _ _ _ _ _ c.turn-taken.ensures some, some))
 
 pub loop-left-preserved : goal.loop-left-preserved
-loop-left-preserved c = rw (rest_whole c.turn-taken.result.consumed c.loop-left.left.now) (read_turn _ _ _ _ _ _ _ c.loop-left.invariant c.turn-taken.ensures)
+loop-left-preserved c =
+    subst (λ (left : List ℕ). Read (held_in c.turn-taken.new.self) (take c.in_ok-n.n c.read.new.buf) left) (sym (rest_whole c.turn-taken.result.consumed c.loop-left.left.now)) (read_turn _ _ _ _ _ _ _ c.loop-left.invariant c.turn-taken.ensures)
 
 pub loop-preserved : goal.loop-preserved
 loop-preserved c =

@@ -1,9 +1,11 @@
 -- A close answers 41 for a closed side, and else what the check of its image says.
 -- By the ways of the test and the check's variants.
 use Rattle.session.proofs.Sides.{close_accepts, close_refuses}
-use Rattle.session.specs.Steps.{close_side}
+use Rattle.session.specs.Steps.{SideState, side_stepped, close_side}
+use Rattle.session.specs.declared.reply.Refusal.TheVariants.{Faulty}
+use Rattle.std.proofs.Common.{Err}
 use Rattle.session.specs.Stores.{side_of_store}
-use mathlib.Core.Path.{refl}
+use mathlib.Core.Path.{refl, ap, ◌∙◌}
 use Rattle.session.proofs.store.Store.close.Goals as goal
 
 pub returns-then-self : goal.returns-then-self
@@ -16,6 +18,6 @@ returns-in-Ok c = record { side_after = close_accepts _ (side_of_store c.args.se
 pub returns-in-Err : goal.returns-in-Err
 returns-in-Err c =
     record {
-      side_after = rw c.empty.ensures.side_after (close_refuses _ (side_of_store c.args.self.now) _ c.image.ensures _ _ c.if-self.false c.check.ensures c.in-Err.is);
+      side_after = ap (λ (now : SideState). side_stepped now (Err (Faulty c.in-Err.fault))) c.empty.ensures.side_after ∙ close_refuses _ (side_of_store c.args.self.now) _ c.image.ensures _ _ c.if-self.false c.check.ensures c.in-Err.is;
       bytes_after = c.empty.ensures.bytes_after;
     }
