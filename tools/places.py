@@ -55,7 +55,10 @@ def is_kept(path, line):
     with open(os.path.join(TOP, path)) as f:
         lines = f.read().split('\n')
     n = line - 1
-    beside = [lines[n]] + comment_over(lines, n)
+    end = n
+    while lines[end].strip().startswith('//'):
+        end += 1
+    beside = lines[n:end + 1] + comment_over(lines, n)
     head = 0
     while lines[head].startswith('//'):
         head += 1
