@@ -125,13 +125,6 @@ padded_zeros n x w fits =
     let all : w + (n - (length x + w)) ≡ n - length x = omega arith in
     rw (size, append_assoc x (zeros w) (zeros (n - (length x + w))), replicate-append-replicate {A = ℕ} w (n - (length x + w)) 0, all)
 
--- bytes that the library copies over a part of a buffer
-pub part_over : (out : List ℕ) (at : ℕ) (bytes : List ℕ) {part : List ℕ} → part ≡ bytes → put_mid at (at + length bytes - at) out part ≡ over out at bytes
-unfolding over
-part_over out at bytes e =
-    let a : at + length bytes - at ≡ length bytes = omega arith in
-    rw (e, a, drop-drop (length bytes) at out)
-
 -- a slice from a place on
 pub from_place : (b : List ℕ) (k : ℕ) → take (length b - k) (drop k b) ≡ drop k b
 from_place b k = take_all (length b - k) (drop k b) (omega (arith, length-drop k b))

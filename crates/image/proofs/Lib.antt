@@ -8,4 +8,5 @@ pub mod NameBytes
 pub mod Numbers
 pub mod Ranges
 pub mod RunEnds
+pub mod Slices
 pub mod Widths

@@ -9,7 +9,7 @@ use lib.Seq.{drop-drop}
 use borrow.Author.Tests.{lt-ltb, le-ltb}
 use Rattle.image.specs.Bytes.{number_at, bytes_at}
 use Rattle.image.specs.Parse.{failed, parsed, bytes_in, number_in}
-use Rattle.utf8.proofs.Slices.{bytes_taken}
+use Rattle.image.proofs.Slices.{bytes_taken}
 
 module _ (n at : ℕ) (b : List ℕ) where
   pub bytes_here : at + n ≤ length b → bytes_in n (drop at b) ≡ parsed (bytes_at b at n) (drop (at + n) b)

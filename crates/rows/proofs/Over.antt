@@ -2,15 +2,16 @@
 -- A piece that is put first leaves the rest for the place after it; nothing is left in the end.
 use mathlib.Core.Path.{◌≡◌, refl, sym, ap, ◌∙◌}
 use mathlib.Core.List.{List, [], ◌∷◌, ◌++◌, append_assoc}
-use Prim.Native.Nat.{ℕ, zero, suc, ◌+◌, ◌-◌, ◌/◌, ◌%◌, ◌≤◌, ◌<◌}
+use Prim.Native.Nat.{ℕ, suc, ◌+◌, ◌-◌, ◌/◌, ◌%◌, ◌≤◌, ◌<◌}
 use native.Mathlib.Omega.{arith}
 use lib.ListN.{length, take, drop, set, length-append, length-drop, take-append-drop, get_or-append}
-use lib.Seq.{paste, length-take-le, take_at, drop_at, drop-cons, drop-drop, take-append_seam, get_or-take, set_split}
+use lib.Seq.{paste, length-take-le, take_at, drop_at, drop-drop, take-append_seam, get_or-take, set_split}
 use borrow.Rule.Slice.PartMut.{put_mid}
 use Rattle.image.specs.Ranges.{pieces}
 use Rattle.image.specs.Bytes.{byte_at, number_bytes, bytes_at}
 use Rattle.image.specs.Row.{row_at}
 use Rattle.image.specs.RowBytes.{row_bytes}
+use Rattle.image.proofs.Slices.{bytes_taken}
 use Rattle.laws.proofs.Lengths.{number_length, bytes_length}
 use Rattle.rows.specs.declared.value.Value.{Value}
 use Rattle.rows.specs.declared.output.Output.{Output}
@@ -31,12 +32,6 @@ unfolding over
 over_one out at x lt =
     let e : at + 1 ≡ suc at = omega arith in
     rw e (set_split out at x lt)
-
--- bytes from a place on, as a part of the list
-bytes_taken : (n i : ℕ) (s : List ℕ) → i + n ≤ length s → bytes_at s i n ≡ take n (drop i s)
-unfolding bytes_at
-bytes_taken zero i s fits = refl
-bytes_taken (suc n) i s fits = rw (drop-cons s i 0 (omega arith)) (ap (λ (b : List ℕ). byte_at s i ∷ b) (bytes_taken n (suc i) s (omega arith)))
 
 module _ (out : List ℕ) (at : ℕ) (x : List ℕ) (fits : at + length x ≤ length out) where
   front_length : length (take at out ++ x) ≡ at + length x
@@ -77,7 +72,7 @@ module _ (out : List ℕ) (at : ℕ) (x : List ℕ) (fits : at + length x ≤ le
   over_there =
       let front : length (take at out) ≡ at = length-take-le at out (omega arith) in
       let whole : length (over out at x) ≡ length out = over_length in
-      bytes_taken (length x) at (over out at x) (omega arith)
+      sym (bytes_taken (over out at x) at (length x) (omega arith))
       ∙ ap (take (length x)) (drop_at (take at out) (x ++ drop (at + length x) out) at front)
       ∙ take-append_seam x (drop (at + length x) out)
 
@@ -194,18 +189,13 @@ part_over out at bytes e =
     let a : at + length bytes - at ≡ length bytes = omega arith in
     rw (e, a, drop-drop (length bytes) at out)
 
--- Bytes of an image, as a slice lends them, and bytes of the buffer itself, as the library copies them.
+-- Bytes of the buffer itself, as the library copies them.
 module _ (s : List ℕ) (place n : ℕ) (inside : place + n ≤ length s) where
-  pub lent_bytes : take (place + n - place) (drop place s) ≡ bytes_at s place n
-  lent_bytes =
-      let b : place + n - place ≡ n = omega arith in
-      rw (b, bytes_taken n place s inside)
-
   pub pasted : (out : List ℕ) (at : ℕ) {after : List ℕ} → after ≡ paste out at (drop place s) (place + n - place) → after ≡ over out at (bytes_at s place n)
   unfolding over
   pasted out at e =
       let b : place + n - place ≡ n = omega arith in
-      rw (e, b, bytes_length s place n, bytes_taken n place s inside) (append_assoc (take at out) (take n (drop place s)) (drop (at + n) out))
+      rw (e, b, bytes_length s place n, ← bytes_taken s place n inside) (append_assoc (take at out) (take n (drop place s)) (drop (at + n) out))
 
 -- a null, one byte
 module _ {out bytes : List ℕ} {at : ℕ} (fits : Fits out at bytes) (e : bytes ≡ 0 ∷ []) where

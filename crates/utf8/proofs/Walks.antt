@@ -22,7 +22,8 @@ use Rattle.utf8.specs.Cuts.{Cut}
 use Rattle.utf8.specs.Walks.{Begun, Left, Further, Passed, ends_well, between, high_ahead, ill, plain}
 use Rattle.utf8.proofs.Cutting.{cut_at_lem, ill_formed}
 use Rattle.utf8.proofs.Plain.{plain_walk}
-use Rattle.utf8.proofs.Slices.{bytes_taken, all_bytes}
+use Rattle.image.proofs.Slices.{bytes_taken}
+use Rattle.utf8.proofs.Slices.{all_bytes}
 use Rattle.utf8.proofs.Steps.{walk_step}
 use Rattle.utf8.proofs.WalkAgrees.{walk_agrees}
 

@@ -1,5 +1,5 @@
 -- What `==` says of two parts of slices: that their bytes are the same.
--- A part that lies inside is the bytes from its place on, by induction over its length.
+-- A part that lies inside is the bytes from its place on.
 use mathlib.Core.Path.{◌≡◌, refl, ap, ◌∙◌}
 use mathlib.Core.Bool.{Bool, ◌&&◌}
 use mathlib.Core.List.{List, [], ◌∷◌}
@@ -7,10 +7,11 @@ use Prim.Native.Nat.{ℕ, zero, suc, ◌+◌, ◌-◌, ◌<◌, ◌≤◌}
 use native.Mathlib.Omega.{arith}
 use lib.Dec.{eqb}
 use lib.ListN.{length, take, drop}
-use lib.Seq.{drop-cons}
 use lib.Pointwise.{pointwise}
 use Rattle.image.specs.Bytes.{byte_at, bytes_at}
 use Rattle.image.specs.Types.{same_bytes}
+use Rattle.image.proofs.Slices.{sliced}
+use Rattle.laws.proofs.Lengths.{bytes_length}
 use Rattle.values.specs.Pairs.{all, same_byte}
 use Rattle.values.proofs.Steps.{all_moved}
 
@@ -21,17 +22,8 @@ lists_same [] (y ∷ ys) = refl
 lists_same (x ∷ xs) [] = refl
 lists_same (x ∷ xs) (y ∷ ys) = ap (λ (r : Bool). eqb x y && r) (lists_same xs ys)
 
--- the bytes from a place on
-pub bytes_taken : (s : List ℕ) (i n : ℕ) → i + n ≤ length s → take n (drop i s) ≡ bytes_at s i n
-unfolding bytes_at
-bytes_taken s i zero le = refl
-bytes_taken s i (suc n) le = rw (drop-cons s i 0 (omega arith)) (ap (λ (b : List ℕ). byte_at s i ∷ b) (bytes_taken s (suc i) n (omega arith)))
-
-pub part_bytes : (s : List ℕ) (i n : ℕ) → i + n ≤ length s → take (i + n - i) (drop i s) ≡ bytes_at s i n
-part_bytes s i n le = let e : i + n - i ≡ n = omega arith in rw e (bytes_taken s i n le)
-
 pub parts_same : (a b : List ℕ) (i j m n : ℕ) → i + m ≤ length a → j + n ≤ length b → pointwise eqb (take (i + m - i) (drop i a)) (take (j + n - j) (drop j b)) ≡ same_bytes (bytes_at a i m) (bytes_at b j n)
-parts_same a b i j m n la lb = rw (part_bytes a i m la, part_bytes b j n lb) (lists_same _ _)
+parts_same a b i j m n la lb = rw (sliced a i m la, sliced b j n lb) (lists_same _ _)
 
 -- byte h of a part
 pub byte_of_part : (s : List ℕ) (i n h : ℕ) → h < n → byte_at (bytes_at s i n) h ≡ byte_at s (i + h)
@@ -49,10 +41,5 @@ part_pairs a b i j m g w le =
     let y : j + (g + h) ≡ j + g + h = omega arith in
     rw (byte_of_part a i m (g + h) (omega arith), byte_of_part b j m (g + h) (omega arith), x, y))
 
-pub length_of_part : (s : List ℕ) (i n : ℕ) → length (bytes_at s i n) ≡ n
-unfolding bytes_at
-length_of_part s i zero = refl
-length_of_part s i (suc n) = ap suc (length_of_part s (suc i) n)
-
 pub part_length : (s : List ℕ) (i n : ℕ) → i + n ≤ length s → length (take (i + n - i) (drop i s)) ≡ n
-part_length s i n le = ap length (part_bytes s i n le) ∙ length_of_part s i n
+part_length s i n le = ap length (sliced s i n le) ∙ bytes_length s i n

@@ -2,7 +2,7 @@
 -- A name without bytes is not read.
 use mathlib.Core.Path.{refl}
 use Rattle.laws.proofs.Lengths.{bytes_length}
-use Rattle.rows.proofs.Over.{lent_bytes}
+use Rattle.image.proofs.Slices.{sliced}
 use Rattle.builder.proofs.Fronts.{name_none, name_fits, name_put}
 use native.Mathlib.Omega.{arith}
 use Rattle.builder.proofs.front.put_name.Goals as goal
@@ -17,10 +17,10 @@ pub slice_bounds-put_bytes-end : goal.slice_bounds-put_bytes-end
 slice_bounds-put_bytes-end c = omega (arith, c.requires.named.inside (omega (arith, c.if-n-eq0.false, c.name_length-n.ensures.value)), c.name_length-n.ensures.value, c.name_place-place.ensures.value)
 
 pub put_bytes-requires : goal.put_bytes-requires
-put_bytes-requires c = rw (lent_bytes c.args.node.image.now c.name_place-place.result c.name_length-n.result (omega (arith, c.requires.named.inside (omega (arith, c.if-n-eq0.false, c.name_length-n.ensures.value)), c.name_length-n.ensures.value, c.name_place-place.ensures.value)), bytes_length) (name_fits _ _ c.requires.fits c.name_length-n.ensures.value)
+put_bytes-requires c = rw (sliced c.args.node.image.now c.name_place-place.result c.name_length-n.result (omega (arith, c.requires.named.inside (omega (arith, c.if-n-eq0.false, c.name_length-n.ensures.value)), c.name_length-n.ensures.value, c.name_place-place.ensures.value)), bytes_length) (name_fits _ _ c.requires.fits c.name_length-n.ensures.value)
 
 pub returns : goal.returns
 returns c =
-    let p = rw (lent_bytes c.args.node.image.now c.name_place-place.result c.name_length-n.result (omega (arith, c.requires.named.inside (omega (arith, c.if-n-eq0.false, c.name_length-n.ensures.value)), c.name_length-n.ensures.value, c.name_place-place.ensures.value))) at c.put_bytes.ensures in
+    let p = rw (sliced c.args.node.image.now c.name_place-place.result c.name_length-n.result (omega (arith, c.requires.named.inside (omega (arith, c.if-n-eq0.false, c.name_length-n.ensures.value)), c.name_length-n.ensures.value, c.name_place-place.ensures.value))) at c.put_bytes.ensures in
     let both = name_put _ _ c.requires.fits c.name_length-n.ensures.value c.name_place-place.ensures.value (p.at, p.bytes) in
     record { lent = p.lent; long = p.long; at = both.0; bytes = both.1 }

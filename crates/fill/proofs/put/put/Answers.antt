@@ -1,6 +1,6 @@
 -- `put` puts the bytes over the buffer.
 -- The library copies them over the part.
-use Rattle.fill.proofs.Bytes.{part_over}
+use Rattle.rows.proofs.Over.{part_over}
 use Rattle.fill.proofs.put.put.Goals as goal
 
 pub returns : goal.returns

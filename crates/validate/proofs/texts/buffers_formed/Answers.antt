@@ -3,7 +3,7 @@
 use mathlib.Core.Path.{ap, ◌∙◌}
 use mathlib.Core.Bool.{false≢true}
 use Rattle.image.specs.Utf8.{well_formed}
-use Rattle.utf8.proofs.Slices.{sliced}
+use Rattle.image.proofs.Slices.{sliced}
 use Rattle.validate.proofs.TextRows.{buffer_none, buffer_more, buffer_all, formed_here, data_inside}
 use native.Mathlib.Omega.{arith}
 use Rattle.validate.proofs.texts.buffers_formed.Goals as goal

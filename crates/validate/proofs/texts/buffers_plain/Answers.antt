@@ -3,7 +3,7 @@
 use mathlib.Core.Path.{ap, ◌∙◌}
 use mathlib.Core.Bool.{false≢true}
 use Rattle.utf8.specs.Ascii.{any_high}
-use Rattle.utf8.proofs.Slices.{sliced}
+use Rattle.image.proofs.Slices.{sliced}
 use Rattle.validate.proofs.TextRows.{buffer_none, buffer_more, buffer_all, plain_here, data_inside}
 use native.Mathlib.Omega.{arith}
 use Rattle.validate.proofs.texts.buffers_plain.Goals as goal

@@ -5,7 +5,7 @@ use mathlib.Core.Bool.{false≢true}
 use borrow.Author.Tests.{not-true}
 use Rattle.image.specs.Utf8.{well_formed}
 use Rattle.utf8.specs.Ascii.{any_high}
-use Rattle.utf8.proofs.Slices.{sliced}
+use Rattle.image.proofs.Slices.{sliced}
 use Rattle.validate.proofs.TextRows.{small_image, plain_together, cut_together}
 use native.Mathlib.Omega.{arith}
 use Rattle.validate.proofs.texts.formed_together.Goals as goal

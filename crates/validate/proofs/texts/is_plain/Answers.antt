@@ -3,7 +3,7 @@
 use mathlib.Core.Path.{refl, sym, ap, ◌∙◌}
 use borrow.Author.Tests.{not-true}
 use Rattle.utf8.specs.Ascii.{any_high}
-use Rattle.utf8.proofs.Slices.{sliced}
+use Rattle.image.proofs.Slices.{sliced}
 use Rattle.validate.proofs.TextRows.{small_image, view_fits, plain_short, plain_long}
 use native.Mathlib.Omega.{arith}
 use Rattle.validate.proofs.texts.is_plain.Goals as goal

@@ -3,7 +3,7 @@
 use mathlib.Core.Path.{ap, ◌∙◌}
 use Prim.Native.Nat.{◌+◌}
 use Rattle.image.specs.Utf8.{well_formed}
-use Rattle.utf8.proofs.Slices.{bytes_taken}
+use Rattle.image.proofs.Slices.{bytes_taken}
 use Rattle.validate.proofs.TextRows.{small_image, few_rows, offset_inside, starts_apart, starts_inside, offset_text}
 use native.Mathlib.Omega.{arith}
 use Rattle.validate.proofs.texts.text_formed.Goals as goal

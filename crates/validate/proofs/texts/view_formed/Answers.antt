@@ -2,7 +2,7 @@
 -- A view without a byte above 7F is, and one that is cut well out of a well-formed buffer; else the text's bytes are looked at.
 use mathlib.Core.Path.{ap, sym, ◌∙◌}
 use Rattle.image.specs.Utf8.{well_formed}
-use Rattle.utf8.proofs.Slices.{sliced}
+use Rattle.image.proofs.Slices.{sliced}
 use Rattle.validate.proofs.TextRows.{small_image, view_fits, viewed, view_text}
 use native.Mathlib.Omega.{arith}
 use Rattle.validate.proofs.texts.view_formed.Goals as goal

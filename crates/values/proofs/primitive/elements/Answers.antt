@@ -3,7 +3,7 @@
 use mathlib.Core.Path.{◌∙◌}
 use native.Mathlib.Omega.{arith}
 use Rattle.accepted.proofs.Fixed.{spanned, spanned_small}
-use Rattle.values.proofs.Slices.{part_bytes}
+use Rattle.image.proofs.Slices.{sliced}
 use Rattle.values.proofs.primitive.elements.Goals as goal
 
 pub overflow_mul-at : goal.overflow_mul-at
@@ -24,4 +24,4 @@ slice_bounds-result-end c = (spanned _ _ _ _ _ _ c.requires c.element_width-widt
 pub returns : goal.returns
 returns c =
     let at = spanned _ _ _ _ _ _ c.requires c.element_width-width.ensures c.buffer_place.ensures.value in
-    part_bytes _ _ _ at.inside ∙ rw (at.place, at.size)
+    sliced _ _ _ at.inside ∙ rw (at.place, at.size)

@@ -1,6 +1,7 @@
 -- `word_equal` compares at most 64 rows.
 -- The bits of the word are those of the rows; the elements lie inside.
-use Rattle.values.proofs.Slices.{part_bytes, part_length}
+use Rattle.image.proofs.Slices.{sliced}
+use Rattle.values.proofs.Slices.{part_length}
 use Rattle.accepted.proofs.Nodes.{side_small}
 use Rattle.values.proofs.Masks.{mask_word}
 use Rattle.values.proofs.ValidElements.{left_inside, right_inside, word_rows}
@@ -43,5 +44,5 @@ valid_equal-requires c = (c.requires.masked.0, rw (part_length _ _ _ (left_insid
 
 pub returns : goal.returns
 returns c =
-    let same = rw (part_bytes _ _ _ (left_inside c.requires.masked.1 c.requires.columns), part_bytes _ _ _ (right_inside c.requires.masked.1 c.requires.columns)) at c.valid_equal.ensures in
+    let same = rw (sliced _ _ _ (left_inside c.requires.masked.1 c.requires.columns), sliced _ _ _ (right_inside c.requires.masked.1 c.requires.columns)) at c.valid_equal.ensures in
     same ∙ word_rows c.requires.masked.1 c.requires.columns c.requires.mask.is_there (mask_word _ c.requires.mask c.word.ensures) c.requires.masked.0

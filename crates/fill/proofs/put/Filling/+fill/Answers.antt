@@ -13,7 +13,7 @@ use mathlib.Core.Path.{refl}
 use mathlib.Core.Bool.{true}
 use mathlib.Core.List.{◌∷◌, []}
 use Rattle.image.proofs.CodeTable.{at_layouts}
-use Rattle.utf8.proofs.Slices.{sliced}
+use Rattle.image.proofs.Slices.{sliced}
 use Rattle.laws.proofs.Lengths.{bytes_length}
 use Rattle.fill.proofs.Bytes.{from_place}
 use Rattle.fill.proofs.Steps.{same_then}
