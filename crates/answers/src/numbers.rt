@@ -1,5 +1,5 @@
 // The numbers of an answer, and these as one number of 64 bits.
-// Kept: refusals are numbers here, since the papers number them and C hosts are given the numbers.
+// Kept: refusals are numbers here, since docs/FORMAT.md numbers them and C hosts are given the numbers.
 ghost use Rattle.std.specs.Prelude.{◌≡◌, ℕ, ◌<◌, ◌^◌};
 ghost use Rattle.image.specs.declared.answer.Side.TheVariants.{Left};
 ghost use Rattle.answers.specs.declared.numbers.Numbers.{Numbers};
@@ -41,14 +41,14 @@ pub trait Found: Drop {
         ensures { result ≡ found_value self };
 }
 
-// Kept: as an `impl From<Side> for u8` it would have to stand in `image`, which knows nothing of what answers return.
+// Kept: `side as u8` with its contract; an `impl From` is no plainer.
 pub fn side_number(side: Side) -> u8
     ensures { result ≡ side_number side }
 {
     side as u8
 }
 
-// Kept: it spares each of the answers below a line for each of the four.
+// Kept: a literal takes six lines, in each of the answers below.
 fn numbers_of(number: u8, side: u8, node: u16, value: usize) -> Numbers
     ensures { result ≡ numbers number side node value }
 {
@@ -170,7 +170,7 @@ impl Found for Option<usize> {
 }
 
 // The numbers of an answer.
-fn answer_numbers<T: Found, E: Refusal>(answer: Result<T, E>) -> Numbers
+pub fn answer_numbers<T: Found, E: Refusal>(answer: Result<T, E>) -> Numbers
     requires { (answer_numbers T.found_value E.refusal_numbers answer).value < 2 ^ 56 }
     ensures { result ≡ answer_numbers T.found_value E.refusal_numbers answer }
 {

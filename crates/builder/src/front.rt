@@ -31,7 +31,7 @@ fn built_flags(node: Node) -> usize
 }
 
 // Where the name of a node stands, 0 where it has none; `name` is where it would stand.
-// Kept: the record has a place for the name, and 0 is what is put there.
+// Kept: the format has 0 where there is none.
 fn built_name(node: Node, name: usize) -> usize
     requires { name ≡ name_start of node }
     ensures { result ≡ built_name of node.entry }
@@ -44,7 +44,7 @@ fn built_name(node: Node, name: usize) -> usize
 
 impl Plan {
     // Where the bitmap of a node stands, 0 where its code may have none.
-    // Kept: the record has a place for the bitmap, and 0 is what is put there.
+    // Kept: the format has 0 where there is none.
     fn bitmap_from(&self, node: Node) -> usize
         requires { node.number < 256 }
         ensures { result ≡ bitmap_from node.entry.image.now self.now.places node.entry.number }

@@ -95,6 +95,7 @@ impl Plan {
     pub fn give_lengths(&mut self, image: &[u8], count: usize)
         requires { check_image image.now ≡ Ok tt }
         ensures spans { self.new.spans ≡ self.old.spans }
+        ensures places { self.new.places ≡ self.old.places }
         ensures lengths { Lengths image.now count self.old.spans self.new.lengths }
     {
         self.lengths[0] = count;
@@ -144,6 +145,7 @@ impl Plan {
     pub fn give_places(&mut self, image: &[u8], room: usize) -> Option<usize>
         requires { check_image image.now ≡ Ok tt }
         ensures lengths { self.new.lengths ≡ self.old.lengths }
+        ensures spans { self.new.spans ≡ self.old.spans }
         ensures places { PlanOf image.now self.old.lengths self.old.spans room self.new.places result }
     {
         if self.too_many(image) {

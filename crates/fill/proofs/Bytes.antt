@@ -9,9 +9,8 @@ use Prim.Native.Nat.{ℕ, zero, suc, ◌+◌, ◌-◌, ◌≤◌, ◌<◌}
 use native.Mathlib.Nat.{add-zero}
 use native.Mathlib.Omega.{arith}
 use lib.ListN.{length, take, drop, replicate, length-append, length-drop, length-replicate, replicate-append-replicate, get_or-append}
-use lib.Seq.{length-take-le, take-append_seam, drop-append-add, drop-drop, get_or-append-add, get_or-drop, ext_get_or}
+use lib.Seq.{length-take-le, take-append_seam, drop-append-add, get_or-append-add, get_or-drop, ext_get_or}
 use lib.Dec.{ltb}
-use borrow.Rule.Slice.PartMut.{put_mid}
 use borrow.Author.Tests.{ltb-true, ltb-false}
 use Rattle.std.proofs.lemmas.List.{take_all}
 use Rattle.image.specs.Bytes.{byte_at, bytes_at}

@@ -54,7 +54,7 @@ fn set_bit(out: &mut [u8], place: usize, j: usize)
 }
 
 // Puts bytes at a place.
-// Kept: as with a bit, the place is not that behind the last bytes.
+// Kept: one call of the library; an `Output` made for it is no plainer.
 fn put(out: &mut [u8], at: usize, bytes: &[u8])
     requires { at + length bytes.now ≤ length out.old }
     ensures { out.new ≡ over out.old at bytes.now }

@@ -8,7 +8,8 @@ pub enum Side {
 }
 
 // A fault of an image: its number, 10 to 19, and the node that has it.
-// Kept: the papers have no names for the faults, only numbers, in whose order they are looked for.
+// Kept: the check goes through the numbers in order, and what it promises is said by number (docs/FORMAT.md); an enum would be
+// turned into its number at once.
 #[derive(Clone, Copy, Debug, PartialEq, Eq)]
 pub struct Fault {
     pub number: u8,

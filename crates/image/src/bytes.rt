@@ -84,7 +84,7 @@ pub fn le<const W: usize>(s: &[u8], i: usize) -> usize
 }
 
 // The same, of w bytes.
-// Kept: the width is read from an image, and these two are the ones that most columns have; any other is read as well.
+// Kept: the width is known only when the program runs; numbers of four and of eight bytes, which most columns have, are one load.
 pub fn number(s: &[u8], i: usize, w: usize) -> usize
     requires { w ≤ 8 }
     ensures { Read (number_at w s.now i) (8 * w) result }
@@ -97,7 +97,7 @@ pub fn number(s: &[u8], i: usize, w: usize) -> usize
 }
 
 // Bit j of the bits that start at a place.
-// Kept: a slice from the place on is none where the place lies past the end, where bits read as 0.
+// Kept: the sum of place and j / 8 may pass the largest number there is, so the length is tested before they are added.
 pub fn bit(s: &[u8], place: usize, j: usize) -> bool
     ensures { result ≡ bit_at s.now place j }
 {

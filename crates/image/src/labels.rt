@@ -5,7 +5,7 @@ ghost use Rattle.image.specs.Types.{counted_for};
 use crate::type_code::TypeCode;
 
 // Which of a child's labels count.
-// Kept: three answers, of which any may be yes while the others are no.
+// Kept: each is asked by itself; an enum of the cases there are would be taken apart into these three again.
 #[derive(Clone, Copy, Debug, PartialEq, Eq)]
 pub struct Counted {
     pub name: bool,

@@ -52,7 +52,7 @@ fn measure_row(
 
 // The room that is left after n rows of a node from row i on. The rows of one run are the same row, and take as much
 // each.
-// Kept: the loop goes on by as many rows as are in a run.
+// Kept: no `for`, since a step is as long as a run.
 #[cycle(measure_row_measure_rows)]
 pub fn measure_rows(
     node: Node,

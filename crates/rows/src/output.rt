@@ -12,7 +12,7 @@ pub struct Output<'a> {
 
 impl Output<'_> {
     // The w bytes of a number, the lowest first.
-    // Kept: `to_le_bytes` gives eight bytes, of which w would be cut off and copied: no plainer.
+    // Kept: `to_le_bytes` gives eight bytes, and a number may be put in more.
     pub fn put_number(&mut self, x: usize, w: usize)
         requires { self.old.at + w ≤ length self.old.bytes.now }
         ensures { Put self.old self.new (number_bytes w x) }

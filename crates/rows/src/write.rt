@@ -13,13 +13,12 @@ use crate::value::{Value, is_null, value_at};
 use accepted::column::{Column, KeptRuns};
 use image::record::Node;
 
-// The first byte of a row.
+// The first byte of a row: of a null, and of any other row.
 const MARK_WIDTH: usize = 1;
 
 const NULL: usize = 0;
 
-// Kept: it is a byte that the row rule has written, and stands for no missing number.
-const NOT_NULL: usize = 1;
+const VALID: usize = 1;
 
 // What a value has before its child rows.
 fn put_own(s: &[u8], v: Value, out: &mut Output)
@@ -27,7 +26,7 @@ fn put_own(s: &[u8], v: Value, out: &mut Output)
     requires fits { Fits out.old.bytes.now out.old.at (own_bytes s.now v) }
     ensures { Put out.old out.new (own_bytes s.now v) }
 {
-    out.put_number(NOT_NULL, MARK_WIDTH);
+    out.put_number(VALID, MARK_WIDTH);
     out.put_number(v.head, v.width);
     out.put_bytes(&s[v.place..v.place + v.size]);
 }
@@ -65,7 +64,7 @@ fn write_row(
 }
 
 // n rows of a node from row i on. The rows of one run are the same row, whose bytes are put again.
-// Kept: the loop goes on by as many rows as are in a run.
+// Kept: no `for`, since a step is as long as a run.
 #[cycle(write_row_write_rows)]
 pub fn write_rows(
     node: Node,

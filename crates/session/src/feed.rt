@@ -17,7 +17,7 @@ pub fn line_feed(chunk: &[u8]) -> Option<usize>
 pub struct Line {
     chars: [u8; KEPT],
     // how many of them are kept; none where no line has begun
-    // Kept: a count, since a line begins with its first character.
+    // Kept: 0 stands for nothing else: a line has begun exactly where a character is kept.
     pub len: usize,
 }
 

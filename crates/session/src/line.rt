@@ -23,7 +23,7 @@ fn digit(c: u8) -> Option<u8>
 }
 
 // Where the next byte begins after one that ends at a place: past one space, if something follows it.
-// Kept: the place is the answer.
+// Kept: `decode` goes by places, of which this is the next.
 fn after_byte(line: &[u8], at: usize) -> usize
     requires { at ≤ length line.now }
     ensures { NextByte line.now at result }

@@ -13,7 +13,7 @@ pub struct Store {
     bytes: [u8; STORE],
     // how many of them are used
     used: usize,
-    // Kept: open or closed, a store has as many bytes; an enum would say it twice.
+    // Kept: open or closed, a store has the same fields; an enum would say them twice.
     pub closed: bool,
 }
 

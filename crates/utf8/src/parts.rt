@@ -24,7 +24,7 @@ pub fn is_tail(b: u8) -> bool
 }
 
 // The first of three places from one on where no tail stands, or the fourth: a character has three tails at most.
-// Kept: the place is the answer, so that a part of the text would have to be told where it stands.
+// Kept: the text is cut at this place; found in a part of it, it would be added up again.
 fn cut(text: &[u8], at: usize) -> usize
     requires { at + 3 ≤ length text.now }
     ensures place { result ≡ first (begins text.now) at 3 }

@@ -4,15 +4,12 @@ use mathlib.Core.Path.{◌≡◌, sym, ◌∙◌}
 use Prim.Native.Nat.{ℕ, ◌+◌, ◌-◌, ◌*◌, ◌/◌, ◌<◌, ◌≤◌}
 use native.Mathlib.Omega.{arith}
 use native.Mathlib.Nat.{zero-add}
-use Rattle.image.proofs.Loops.{rest_none, any_empty, any_snoc, any_jump, jump_found, any_more, any_found, any_done}
+use Rattle.image.proofs.Loops.{any_empty, any_snoc, any_jump, jump_found, any_more, any_found, any_done}
 use Rattle.image.proofs.blocks.any_in_blocks.Goals as goal
 
 -- block b lies below n
 inside : (n b : ℕ) → b < n / 64 → 64 ≤ n - 64 * b
 inside n b lt = omega arith
-
-pub loop-b-init : goal.loop-b-init
-loop-b-init g c = λ p h. rest_none _ _ _
 
 pub loop-j-init : goal.loop-j-init
 loop-j-init g c = λ p h. any_empty _ _
@@ -32,11 +29,6 @@ returns-then-found g c = λ p h.
     let whole : c.loop-j.j ≡ 64 = omega arith in
     let some = rw whole at (sym (c.loop-j.invariant p h) ∙ c.if-found.true) in
     jump_found _ _ _ _ 64 (inside _ _ c.loop-b-test.true) (c.loop-b.invariant p h) (rw zero-add some)
-
-pub loop-k-init : goal.loop-k-init
-loop-k-init g c = λ p h.
-    let all : 64 * c.loop-b.b ≡ c.args.n / 64 * 64 = omega arith in
-    rw (← all) (c.loop-b.invariant p h)
 
 pub returns-then-test : goal.returns-then-test
 returns-then-test g c = λ p h. any_found _ _ _ _ c.loop-k-test.true (c.loop-k.invariant p h) (rw zero-add (sym (h _ _ c.loop-k-test.true c.test.ensures) ∙ c.if-test.true))

@@ -1,7 +1,7 @@
 -- `by_bytes` gives the number of the w bytes at a place.
 -- Each turn reads one byte below those that were read.
 use native.Mathlib.Omega.{arith}
-use Rattle.image.proofs.Numbers.{read_same, read_past, read_none, read_more, read_all, fits_word}
+use Rattle.image.proofs.Numbers.{read_same, read_past, read_none, read_more, fits_word}
 use Rattle.image.proofs.bytes.by_bytes.Goals as goal
 
 pub returns-then-s-i : goal.returns-then-s-i
@@ -18,6 +18,3 @@ overflow_add-x c = omega (arith, c.from.ensures, c.byte.ensures.small, fits_word
 
 pub loop-k-preserved : goal.loop-k-preserved
 loop-k-preserved c = read_more _ _ _ _ c.loop-k-test.true c.loop-k.auto.k c.loop-k.invariant (read_same c.from.ensures c.byte.ensures)
-
-pub returns : goal.returns
-returns c = read_all _ _ _ _ c.loop-k-test.false c.loop-k.invariant

@@ -2,7 +2,7 @@
 -- Each turn reads one byte below those that were read.
 use Prim.Native.Nat.{◌+◌, ◌-◌}
 use native.Mathlib.Omega.{arith}
-use Rattle.image.proofs.Numbers.{read_of, read_none, read_more, read_all, fits_word}
+use Rattle.image.proofs.Numbers.{read_of, read_none, read_more, fits_word}
 use Rattle.image.proofs.bytes.load.Goals as goal
 
 pub loop-k-init : goal.loop-k-init
@@ -16,15 +16,3 @@ overflow_add-x g c = omega (arith, c.from.ensures, c.type_inv.s (c.args.i + (c.l
 
 pub loop-k-preserved : goal.loop-k-preserved
 loop-k-preserved g c = read_more _ _ _ _ c.loop-k-test.true c.loop-k.auto.k c.loop-k.invariant (read_of c.from.ensures (omega (arith, c.type_inv.s (c.args.i + (c.loop-k.k - 1)))))
-
-pub returns : goal.returns
-returns g c = read_all _ _ _ _ c.loop-k-test.false c.loop-k.invariant
-
-pub returns-then-this-eq2 : goal.returns-then-this-eq2
-returns-then-this-eq2 g c = rw (c.if-this-eq2.true) c.two.ensures
-
-pub returns-then-this-eq4 : goal.returns-then-this-eq4
-returns-then-this-eq4 g c = rw (c.if-this-eq4.true) c.four.ensures
-
-pub returns-then-this-eq8 : goal.returns-then-this-eq8
-returns-then-this-eq8 g c = rw (c.if-this-eq8.true) c.eight.ensures

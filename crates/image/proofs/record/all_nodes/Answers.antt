@@ -2,14 +2,8 @@
 -- A turn tests one node.
 use mathlib.Core.Path.{sym, ◌∙◌}
 use native.Mathlib.Nat.{zero-add}
-use Rattle.image.proofs.Loops.{rest_none, every_more, every_fails, every_done}
+use Rattle.image.proofs.Loops.{every_more, every_fails, every_done}
 use Rattle.image.proofs.record.all_nodes.Goals as goal
-
-pub loop-k-init : goal.loop-k-init
-loop-k-init g c = λ p h. rest_none _ _ _
-
-pub test-requires : goal.test-requires
-test-requires g c = c.requires _ (rw (← c.node_count-k-end.ensures.value) c.loop-k-test.true)
 
 pub returns-then-not-test : goal.returns-then-not-test
 returns-then-not-test g c = λ p h.

@@ -1,7 +1,7 @@
 -- `scan_text` reads a length and so many bytes, and adds the length to the node's span.
 -- Its tests are those of the definition: there are so many bytes, and the code allows the text.
 use mathlib.Core.Path.{sym, ◌∙◌}
-use Rattle.parse.proofs.Leaves.{text_short, text_cut, text_ill, text_room, text_go}
+use Rattle.parse.proofs.Leaves.{text_short, text_cut, text_ill, text_go}
 use Rattle.parse.proofs.leaf.scan_text.Goals as goal
 
 pub returns-in_err-n : goal.returns-in_err-n
@@ -12,9 +12,6 @@ returns-in_err-value c = rw c.from_residual-in_err-value.ensures (text_cut _ _ _
 
 pub returns-then-not-is_allowed : goal.returns-then-not-is_allowed
 returns-then-not-is_allowed c = text_ill _ _ _ c.in_ok-n.ensures c.in_ok-value.ensures.cases (sym c.is_allowed.ensures ∙ c.if-not-is_allowed.true)
-
-pub add_span-requires : goal.add_span-requires
-add_span-requires c = text_room c.args.code _ _ c.in_ok-n.ensures c.in_ok-value.ensures.cases c.requires.0 c.requires.1
 
 pub returns : goal.returns
 returns c = text_go _ _ _ c.in_ok-n.ensures c.in_ok-value.ensures.cases (sym c.is_allowed.ensures ∙ c.if-not-is_allowed.false) c.add_span.ensures

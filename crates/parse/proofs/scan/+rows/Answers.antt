@@ -8,11 +8,10 @@
 -- Their loops keep that a scan of the rows that are left tells what a scan of all tells.
 use native.Mathlib.Nat.{add-zero}
 use native.Mathlib.Omega.{arith}
-use borrow.Enum.Refused.{opened}
 use Rattle.parse.proofs.Scans.{begun_at, begun_next}
-use Rattle.parse.proofs.Values.{node_few, list_child, struct_child, layout_is, layout_told, bitmap_told, fixed_codes, null_value, boolean_value, bytes_value, text_value, list_value, struct_value, other_value}
-use Rattle.parse.proofs.Rows.{row_too_deep, row_none, row_other, row_no_null, row_null, row_value, list_none, list_stop, list_room, list_go}
-use Rattle.parse.proofs.Loops.{rows_begin, children_begin, left_stop, left_next, left_done}
+use Rattle.parse.proofs.Values.{list_child, struct_child, layout_told, bitmap_told, fixed_codes, null_value, boolean_value, bytes_value, text_value, list_value, struct_value}
+use Rattle.parse.proofs.Rows.{row_too_deep, row_none, row_other, row_no_null, row_null, row_value, list_none, list_stop, list_go}
+use Rattle.parse.proofs.Loops.{left_stop, left_next, left_done}
 use Rattle.parse.proofs.scan.+rows.Goals as goal
 
 pub scan_row-returns-then-depth-eq0 : goal.scan_row-returns-then-depth-eq0
@@ -20,9 +19,6 @@ scan_row-returns-then-depth-eq0 t c = row_too_deep _ _ _ _ c.if-depth-eq0.true
 
 pub scan_row-returns-in_err-mark : goal.scan_row-returns-in_err-mark
 scan_row-returns-in_err-mark t c = rw c.from_residual.ensures (row_none _ _ _ _ c.if-depth-eq0.false c.in_err-mark.ensures.cases)
-
-pub scan_row-scan_value-requires : goal.scan_row-scan_value-requires
-scan_row-scan_value-requires t c = (omega (arith, c.decreases, c.if-depth-eq0.false), (c.requires.0, begun_at _ c.requires.1 (omega (arith, c.in_ok-mark.ensures.cases.1))))
 
 pub scan_row-returns-then-mark-eq-VALUE : goal.scan_row-returns-then-mark-eq-VALUE
 scan_row-returns-then-mark-eq-VALUE t c = row_value _ _ _ _ c.if-depth-eq0.false c.in_ok-mark.ensures.cases c.if-mark-eq-VALUE.true c.scan_value.ensures
@@ -39,9 +35,6 @@ scan_row-returns t c = row_null _ _ _ _ c.if-depth-eq0.false c.in_ok-mark.ensure
 pub scan_value-returns-then-code-le-INTERVAL_MONTH_DAY_NANO : goal.scan_value-returns-then-code-le-INTERVAL_MONTH_DAY_NANO
 scan_value-returns-then-code-le-INTERVAL_MONTH_DAY_NANO t c = bytes_value _ _ _ _ _ _ (fixed_codes c.code-code.ensures c.if-code-ge-INT8.true c.if-code-le-INTERVAL_MONTH_DAY_NANO.true) c.element_width.ensures c.scan_bytes.ensures
 
-pub scan_value-scan_by_layout-requires : goal.scan_value-scan_by_layout-requires
-scan_value-scan_by_layout-requires t c = (omega (arith, c.decreases), ((c.requires.0, c.requires.1), c.code-code.ensures))
-
 pub scan_by_layout-returns-in-Null : goal.scan_by_layout-returns-in-Null
 scan_by_layout-returns-in-Null t c = null_value _ _ _ _ _ (layout_told c.requires.code c.layout.ensures c.in-Null.is)
 
@@ -51,23 +44,14 @@ scan_by_layout-returns-in-Boolean t c = boolean_value _ _ _ _ _ (layout_told c.r
 pub scan_by_layout-returns-in-FixedWidth : goal.scan_by_layout-returns-in-FixedWidth
 scan_by_layout-returns-in-FixedWidth t c = bytes_value _ _ _ _ _ _ (layout_told c.requires.code c.layout.ensures c.in-FixedWidth.is) c.element_width.ensures c.scan_bytes.ensures
 
-pub scan_by_layout-scan_text-requires : goal.scan_by_layout-scan_text-requires
-scan_by_layout-scan_text-requires t c = (c.requires.within.1, node_few c.requires.within.0)
-
 pub scan_by_layout-returns-in-VariableSize : goal.scan_by_layout-returns-in-VariableSize
 scan_by_layout-returns-in-VariableSize t c = text_value _ _ _ _ c.requires.code (layout_told c.requires.code c.layout.ensures c.in-VariableSize.is) c.scan_text.ensures
-
-pub scan_by_layout-scan_list-requires : goal.scan_by_layout-scan_list-requires
-scan_by_layout-scan_list-requires t c = (omega (arith, c.decreases), ((c.requires.within.0, c.requires.within.1), layout_told c.requires.code c.layout.ensures c.in-List.is))
 
 pub scan_by_layout-returns-in-List : goal.scan_by_layout-returns-in-List
 scan_by_layout-returns-in-List t c = list_value _ _ _ _ (layout_told c.requires.code c.layout.ensures c.in-List.is) c.scan_list.ensures
 
 pub scan_by_layout-returns-in-Struct : goal.scan_by_layout-returns-in-Struct
 scan_by_layout-returns-in-Struct t c = struct_value _ _ _ _ (layout_told c.requires.code c.layout.ensures c.in-Struct.is) c.scan_struct.ensures
-
-pub scan_by_layout-returns-in_default : goal.scan_by_layout-returns-in_default
-scan_by_layout-returns-in_default t c = other_value _ _ _ _ _ _ (layout_is c.requires.code c.layout.ensures) (opened c.in_default.in_default-own.keys7)
 
 pub scan_list-returns-in_err-n : goal.scan_list-returns-in_err-n
 scan_list-returns-in_err-n t c = rw c.from_residual.ensures (list_none _ _ _ _ c.in_err-n.ensures)
@@ -81,18 +65,10 @@ scan_list-returns-in_err-rest t c =
     let rows = rw (c.child.ensures.image, c.child.ensures.number, add-zero, c.in_err-rest.was) at c.scan_rows.ensures in
     rw c.from_residual-in_err-rest.ensures (list_stop _ _ _ _ c.in_ok-n.ensures rows)
 
-pub scan_list-add_span-requires : goal.scan_list-add_span-requires
-scan_list-add_span-requires t c =
-    let rows = rw (c.child.ensures.image, c.child.ensures.number, add-zero, c.in_ok-rest.was) at c.scan_rows.ensures in
-    list_room _ _ _ _ c.in_ok-n.ensures rows c.requires.within.1 (node_few c.requires.within.0)
-
 pub scan_list-returns : goal.scan_list-returns
 scan_list-returns t c =
     let rows = rw (c.child.ensures.image, c.child.ensures.number, add-zero, c.in_ok-rest.was) at c.scan_rows.ensures in
     list_go _ _ _ _ c.in_ok-n.ensures rows c.add_span.ensures
-
-pub scan_struct-loop-c-init : goal.scan_struct-loop-c-init
-scan_struct-loop-c-init t c = (children_begin _ _ _ _ _, c.requires.1)
 
 pub scan_struct-scan_row-requires : goal.scan_struct-scan_row-requires
 scan_struct-scan_row-requires t c =
@@ -110,12 +86,6 @@ scan_struct-loop-c-preserved t c =
 
 pub scan_struct-returns : goal.scan_struct-returns
 scan_struct-returns t c = left_done c.loop-c.invariant.0 (omega (arith, c.loop-c-test.false, c.child_count-c-end.ensures.value))
-
-pub scan_rows-loop-init : goal.scan_rows-loop-init
-scan_rows-loop-init t c = (rows_begin _ _ _ _ _ _, c.requires.1)
-
-pub scan_rows-scan_row-requires : goal.scan_rows-scan_row-requires
-scan_rows-scan_row-requires t c = (omega (arith, c.decreases), (c.requires.0, c.loop.invariant.1))
 
 pub scan_rows-returns-in_err-rest : goal.scan_rows-returns-in_err-rest
 scan_rows-returns-in_err-rest t c =

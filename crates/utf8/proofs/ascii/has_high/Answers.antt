@@ -1,20 +1,15 @@
 -- `utf8::ascii::has_high` meets its contract: blocks of 256 bytes, then of 16, then the last 16.
 -- Both loops keep that what is left to look at gives the answer.
-use mathlib.Core.Path.{◌≡◌, refl, sym, ap, ◌∙◌}
+use mathlib.Core.Path.{sym, ap, ◌∙◌}
 use native.Mathlib.Omega.{arith}
-use Prim.Native.Nat.{ℕ, ◌-◌, ◌%◌}
-use lib.ListN.{length, drop}
+use Prim.Native.Nat.{◌-◌}
+use lib.ListN.{length}
 use Rattle.std.specs.Slice.Iter.{chunks_exact_rest}
 use Rattle.std.proofs.Common.{length-append}
 use Rattle.std.proofs.lemmas.List.{take_rest}
 use Rattle.utf8.specs.Ascii.{any_high}
-use Rattle.utf8.proofs.Ends.{ahead_none, ahead_more, ahead_found, ahead_last}
+use Rattle.utf8.proofs.Ends.{ahead_more, ahead_found, ahead_last}
 use Rattle.utf8.proofs.ascii.has_high.Goals as goal
-
-pub loop-block-init : goal.loop-block-init
-loop-block-init c =
-    let new = c.chunks_exact-blocks.ensures in
-    rw (c.into_iter-block-iterator.ensures.into_iter_gives, new.size, new.rest) (omega arith, tt, refl, refl, ahead_none _)
 
 pub returns-then-high_among : goal.returns-then-high_among
 returns-then-high_among c = ahead_found _ _ _ c.loop-block.invariant.4 c.in-Some.ensures.steps.1.0 (sym c.high_among.ensures ∙ c.if-high_among.true)
@@ -24,15 +19,6 @@ loop-block-preserved c =
     let step = c.in-Some.ensures.steps in
     let long = ap length step.1.0 ∙ length-append c.in-Some.block.now (chunks_exact_rest c.next.new.self) in
     (rw step.0 c.loop-block.invariant.0, tt, step.0 ∙ c.loop-block.invariant.2, omega (arith, long, step.1.1, c.loop-block.invariant.2, c.loop-block.invariant.3), ahead_more _ _ _ c.loop-block.invariant.4 step.1.0 (sym c.high_among.ensures ∙ c.if-high_among.false))
-
-pub loop-block-2-init : goal.loop-block-2-init
-loop-block-2-init c =
-    let new = c.chunks_exact-block-items.ensures in
-    let end = c.in-None.ensures.steps in
-    let few : length (chunks_exact_rest c.loop-block.block-iterator) ≡ length c.args.text.now % 256 = omega (arith, end.1.0, c.loop-block.invariant.2, c.loop-block.invariant.3) in
-    let same : c.remainder-rest.result.now ≡ chunks_exact_rest c.loop-block.block-iterator =
-    c.remainder-rest.ensures ∙ c.chunks_exact-blocks.ensures.remainder ∙ ap (λ (n : ℕ). drop (length c.args.text.now - n) c.args.text.now) (sym few) ∙ sym c.loop-block.invariant.4.part in
-    rw (c.into_iter-block-iterator-2.ensures.into_iter_gives, new.size, new.rest, same) (omega arith, tt, refl, c.loop-block.invariant.4)
 
 pub returns-then-high_among-2 : goal.returns-then-high_among-2
 returns-then-high_among-2 c = ahead_found _ _ _ c.loop-block-2.invariant.3 c.in-Some-block.ensures.steps.1.0 (sym c.high_among-in-loop-block-2.ensures ∙ c.if-high_among-2.true)

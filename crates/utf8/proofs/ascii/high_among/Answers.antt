@@ -2,7 +2,6 @@
 -- The loop keeps that what was found is what stands in the bytes passed.
 use mathlib.Core.Path.{refl}
 use lib.Dec.{leb}
-use Rattle.std.proofs.lemmas.List.{take_all}
 use Rattle.std.proofs.lemmas.List.Folds.{list_any_more}
 use Rattle.utf8.specs.Ascii.{any_high}
 use Rattle.utf8.proofs.ascii.high_among.Goals as goal
@@ -14,7 +13,3 @@ loop-b-init c = refl
 pub loop-b-preserved : goal.loop-b-preserved
 unfolding any_high
 loop-b-preserved c = rw (list_any_more (leb 128) c.args.text.now c.loop-b.b-index 0 c.loop-b-test.true, ← c.loop-b.invariant)
-
-pub returns : goal.returns
-unfolding any_high
-returns c = rw (take_all c.loop-b.b-index c.args.text.now c.loop-b-test.false) at c.loop-b.invariant

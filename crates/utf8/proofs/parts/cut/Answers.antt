@@ -2,12 +2,9 @@
 -- The loop keeps that the search goes on from the place reached; the measure is how many places are left.
 use mathlib.Core.Path.{ap, sym, ◌∙◌}
 use mathlib.Core.Bool.{not}
-use Rattle.image.proofs.Loops.{rest_none, first_more, first_found, first_done}
+use Rattle.image.proofs.Loops.{first_more, first_found, first_done}
 use Rattle.utf8.specs.Cuts.{begins}
 use Rattle.utf8.proofs.parts.cut.Goals as goal
-
-pub loop-k-init : goal.loop-k-init
-loop-k-init c = rest_none _ _ _
 
 pub returns-then-not-is_tail-clause-place : goal.returns-then-not-is_tail-clause-place
 unfolding begins

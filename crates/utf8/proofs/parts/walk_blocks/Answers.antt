@@ -19,8 +19,3 @@ pub loop-preserved : goal.loop-preserved
 loop-preserved c =
     let e : (c.loop.counter + 1) * 16 ≡ c.loop.counter * 16 + 16 = omega arith in
     rw e (each_then _ _ _ _ _ c.loop.invariant c.walk_small_blocks-moved.ensures)
-
-pub returns : goal.returns
-returns c =
-    let e : 64 ≡ c.loop.counter * 16 = omega arith in
-    rw e c.loop.invariant

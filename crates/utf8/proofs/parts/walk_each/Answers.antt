@@ -1,6 +1,5 @@
 -- `utf8::parts::walk_each` meets its contract.
 -- The loop keeps that each walk is as many bytes further as it has turned.
-use mathlib.Core.Path.{◌≡◌}
 use native.Mathlib.Omega.{arith}
 use Rattle.utf8.proofs.Walks.{each_none, each_then, each_after}
 use Rattle.utf8.proofs.parts.walk_each.Goals as goal
@@ -13,6 +12,3 @@ step_each-moved-requires c = each_after _ _ _ (omega arith) c.requires c.loop.in
 
 pub loop-preserved : goal.loop-preserved
 loop-preserved c = each_then _ _ _ _ _ c.loop.invariant c.step_each-moved.ensures
-
-pub returns : goal.returns
-returns c = let e : c.args.n ≡ c.loop.counter = omega arith in rw e c.loop.invariant

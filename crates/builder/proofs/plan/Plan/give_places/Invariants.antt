@@ -1,4 +1,4 @@
--- `plan` gives the places of the parts and answers the size of the image.
+-- `Plan::give_places` gives the places of the parts and answers the size of the image.
 -- The loop keeps the places up to part q; a refusal needs no table.
 use mathlib.Core.Path.{◌≡◌}
 use Rattle.builder.proofs.Planning.{Planning}

@@ -1,12 +1,9 @@
 -- `Node::child_with_id` finds the child that has the type id.
 -- A turn looks at one child, by its type id.
 use native.Mathlib.Omega.{arith}
-use Rattle.image.proofs.Loops.{rest_none, first_more, first_found, first_done}
+use Rattle.image.proofs.Loops.{first_more, first_found, first_done}
 use Rattle.image.proofs.ChildTable.{has_it, has_not, named_some, named_none}
 use Rattle.image.proofs.record.Node.child_with_id.Goals as goal
-
-pub loop-c-init : goal.loop-c-init
-loop-c-init c = rest_none _ _ _
 
 pub returns-then-type_id-id : goal.returns-then-type_id-id
 returns-then-type_id-id c =

@@ -4,15 +4,12 @@ use mathlib.Core.Path.{sym, ◌∙◌}
 use native.Mathlib.Omega.{arith}
 use native.Mathlib.Nat.{zero-add}
 use borrow.Author.Tests.{eq-eqb, ne_eqb}
-use Rattle.image.proofs.Loops.{rest_none, every_more, every_fails, every_done}
+use Rattle.image.proofs.Loops.{every_more, every_fails, every_done}
 use Rattle.image.proofs.NameBytes.{name_differs, name_bytes}
 use Rattle.image.proofs.record.Node.name_is.Goals as goal
 
 pub returns-then-name_length-n : goal.returns-then-name_length-n
 returns-then-name_length-n c = name_differs _ _ _ _ _ _ c.name_length.ensures.value (λ e. omega (arith, e, c.if-name_length-n.true))
-
-pub loop-k-init : goal.loop-k-init
-loop-k-init c = rest_none _ _ _
 
 pub returns-then-byte : goal.returns-then-byte
 returns-then-byte c =

@@ -4,14 +4,8 @@ use mathlib.Core.Path.{ap}
 use Prim.Native.Nat.{ℕ}
 use lib.Dec.{eqb}
 use Rattle.utf8.specs.Walks.{ends_well}
-use Rattle.utf8.proofs.Steps.{walked_none, walked_more, walked_done}
+use Rattle.utf8.proofs.Steps.{walked_more, walked_done}
 use Rattle.utf8.proofs.walk.Walk.ends_well.Goals as goal
-
-pub loop-b-init : goal.loop-b-init
-loop-b-init c = walked_none _ _ c.args.self.known
-
-pub next-state-requires : goal.next-state-requires
-next-state-requires c = c.loop-b.invariant.state
 
 pub loop-b-preserved : goal.loop-b-preserved
 loop-b-preserved c = walked_more _ _ c.loop-b-test.true c.loop-b.invariant c.next-state.ensures

@@ -1,6 +1,0 @@
--- `image::record::Node::byte_field` meets its contract.
--- The definition is rewritten by what the calls ensure and by the tests on the way.
-use Rattle.image.proofs.record.Node.byte_field.Goals as goal
-
-pub returns : goal.returns
-returns c = rw (← c.record_place.ensures.value) c.byte.ensures
