@@ -1,6 +1,6 @@
 -- Steps of the answers of the comparisons: what callees gave, put into the definitions.
 -- By rewriting with the callees' equations; the variants that an answer cannot be are impossible.
-use mathlib.Core.Path.{◌≡◌, refl, sym}
+use mathlib.Core.Path.{◌≡◌, refl, sym, ap}
 use mathlib.Core.Bool.{Bool, true, false, cond, ◌&&◌}
 use mathlib.Core.List.{List}
 use Prim.Native.Nat.{ℕ, ◌+◌, ◌-◌, ◌≤◌, ◌<◌}
@@ -8,6 +8,7 @@ use native.Mathlib.Omega.{arith}
 use lib.Dec.{eqb, ltb}
 use borrow.Author.Tests.{eqb-true, ltb-true, ltb-false, lt-ltb, le-ltb}
 use Rattle.image.specs.declared.answer.Side.TheVariants.{Left, Right}
+use Rattle.image.specs.declared.answer.Fault.{Fault}
 use Rattle.image.specs.Faults.{Checked, check_image}
 use Rattle.std.proofs.Common.{Ok, Err}
 use Rattle.image.specs.Record.{max_depth, length_of}
@@ -16,11 +17,25 @@ use Rattle.image.specs.Types.{types_agree}
 use Rattle.image.specs.Equality.{ranges_equal, tables_equal}
 use Rattle.image.proofs.Bools.{and_left, and_right}
 use Rattle.answers.specs.declared.RangeRefusal.TheVariants.{Image, UnequalTypes, OutOfRange}
-use Rattle.answers.specs.Answers.{◌>>=◌, refused_as, refuse_if, side_fault, paired_of, bounds_of, exceeds}
+use Rattle.answers.specs.Answers.{◌>>=◌, refused_as, refuse_if, side_fault, compare_answer, paired_of, bounds_of, exceeds}
 use Rattle.values.specs.Pairs.{range_equal}
 use Rattle.values.specs.Parts.{Sides}
 use Rattle.laws.proofs.Accepted.{accepted}
 use Rattle.equal.proofs.Types.{table_sides, table_answer}
+
+-- The whole comparison: a refused check ends it.
+module _ (s t : List ℕ) where
+  pub compare_left : {f : Fault} → check_image s ≡ Err f → Err (side_fault Left f) ≡ compare_answer s t
+  unfolding compare_answer
+  compare_left is = rw is
+
+  pub compare_right : {f : Fault} → check_image s ≡ Ok tt → check_image t ≡ Err f → Err (side_fault Right f) ≡ compare_answer s t
+  unfolding compare_answer
+  compare_right left is = rw (left, is)
+
+  pub compare_both : {r : Bool} → check_image s ≡ Ok tt → check_image t ≡ Ok tt → r ≡ tables_equal s t → Ok r ≡ compare_answer s t
+  unfolding compare_answer
+  compare_both left right e = rw (left, right) (ap Ok e)
 
 pub whole_sides : (s t : List ℕ) (n : ℕ) → (check_image s ≡ Ok tt) × (check_image t ≡ Ok tt) → types_agree s t && eqb (length_of s 0) (length_of t 0) ≡ true → n ≡ length_of s 0 → Sides s t 0 0 0 0 n max_depth
 whole_sides s t n b same is =

@@ -19,6 +19,8 @@ pub fn equal(pair: Pair, rows: Rows, depth: usize) -> bool
 {
     let (s, t, n) = (rows.left, rows.right, rows.count);
     let values = pair.child(1);
+    let mut equal = true;
+    let mut k: usize = 0;
     if n == 0 {
         return true;
     }
@@ -35,11 +37,11 @@ pub fn equal(pair: Pair, rows: Rows, depth: usize) -> bool
     let leaves = leaves_of(values);
     let left = pair.left.ends();
     let right = pair.right.ends();
-    let mut k: usize = 0;
-    // Kept: no `for`, since a step is as long as the shorter run goes on.
-    while k < n {
+    // Kept: no `for`, since a step is as long as the shorter run goes on; a loop with a label, as document 01 has it here.
+    'runs: while k < n {
         if !equal_row(values, leaves, i, j, depth) {
-            return false;
+            equal = false;
+            break 'runs;
         }
         let x = left.at(i);
         let y = right.at(j);
@@ -49,5 +51,5 @@ pub fn equal(pair: Pair, rows: Rows, depth: usize) -> bool
         i = next_run(s + last, i, x);
         j = next_run(t + last, j, y);
     }
-    true
+    equal
 }

@@ -242,20 +242,20 @@ run::equal-run_of-j-requires t c = run_first c.requires.parts.right (layout_righ
 pub run::equal-same_runs-requires : goal.run::equal-same_runs-requires
 run::equal-same_runs-requires t c = run_parts c.requires.parts c.requires.layout (omega (arith, c.if-n-eq0.false)) c.run_of-i.ensures c.run_of-j.ensures
 
-pub run::equal-loop-k-init : goal.run::equal-loop-k-init
-run::equal-loop-k-init t c = (stepping_start _ _ _ _ _ _ _ c.run_of-i.ensures c.run_of-j.ensures, rows_none _ _ _ _ _)
+pub run::equal-runs-init : goal.run::equal-runs-init
+run::equal-runs-init t c = (refl, (stepping_start _ _ _ _ _ _ _ c.run_of-i.ensures c.run_of-j.ensures, rows_none _ _ _ _ _))
 
 pub run::equal-overflow_add-s : goal.run::equal-overflow_add-s
-run::equal-overflow_add-s t c = omega (arith, part_small c.requires.parts.left, c.loop-k-test.true)
+run::equal-overflow_add-s t c = omega (arith, part_small c.requires.parts.left, c.runs-test.true)
 
 pub run::equal-overflow_sub-x : goal.run::equal-overflow_sub-x
-run::equal-overflow_sub-x t c = omega (arith, run_above c.requires.parts.left c.requires.layout c.loop-k-test.true (c.loop-k.invariant.0.left c.loop-k-test.true) (end_is c.ends-left.ensures _ c.at-x.ensures))
+run::equal-overflow_sub-x t c = omega (arith, run_above c.requires.parts.left c.requires.layout c.runs-test.true (c.runs.invariant.1.0.left c.runs-test.true) (end_is c.ends-left.ensures _ c.at-x.ensures))
 
 pub run::equal-overflow_add-t : goal.run::equal-overflow_add-t
-run::equal-overflow_add-t t c = omega (arith, part_small c.requires.parts.right, c.loop-k-test.true)
+run::equal-overflow_add-t t c = omega (arith, part_small c.requires.parts.right, c.runs-test.true)
 
 pub run::equal-overflow_sub-y : goal.run::equal-overflow_sub-y
-run::equal-overflow_sub-y t c = omega (arith, run_above c.requires.parts.right (layout_right c.requires.parts c.requires.layout) c.loop-k-test.true (c.loop-k.invariant.0.right c.loop-k-test.true) (end_is c.ends-right.ensures _ c.at-y.ensures))
+run::equal-overflow_sub-y t c = omega (arith, run_above c.requires.parts.right (layout_right c.requires.parts c.requires.layout) c.runs-test.true (c.runs.invariant.1.0.right c.runs-test.true) (end_is c.ends-right.ensures _ c.at-y.ensures))
 
 pub run::equal-overflow_sub-n : goal.run::equal-overflow_sub-n
 run::equal-overflow_sub-n t c = omega arith
@@ -264,35 +264,35 @@ pub run::equal-overflow_add-k : goal.run::equal-overflow_add-k
 run::equal-overflow_add-k t c = omega (arith, part_small c.requires.parts.left)
 
 pub run::equal-overflow_sub-last : goal.run::equal-overflow_sub-last
-run::equal-overflow_sub-last t c = omega (arith, step_some c.requires.parts c.requires.layout c.loop-k.invariant.0 c.loop-k-test.true (end_is c.ends-left.ensures _ c.at-x.ensures) (end_is c.ends-right.ensures _ c.at-y.ensures) c.min.ensures c.min-step.ensures)
+run::equal-overflow_sub-last t c = omega (arith, step_some c.requires.parts c.requires.layout c.runs.invariant.1.0 c.runs-test.true (end_is c.ends-left.ensures _ c.at-x.ensures) (end_is c.ends-right.ensures _ c.at-y.ensures) c.min.ensures c.min-step.ensures)
 
-pub run::equal-overflow_add-s-in-loop-k : goal.run::equal-overflow_add-s-in-loop-k
-run::equal-overflow_add-s-in-loop-k t c = omega (arith, part_small c.requires.parts.left)
+pub run::equal-overflow_add-s-in-runs : goal.run::equal-overflow_add-s-in-runs
+run::equal-overflow_add-s-in-runs t c = omega (arith, part_small c.requires.parts.left)
 
 pub run::equal-next_run-i-requires : goal.run::equal-next_run-i-requires
-run::equal-next_run-i-requires t c = (omega (arith, part_small c.requires.parts.left), omega (arith, run_small c.requires.parts.left c.requires.layout c.loop-k-test.true (c.loop-k.invariant.0.left c.loop-k-test.true)))
+run::equal-next_run-i-requires t c = (omega (arith, part_small c.requires.parts.left), omega (arith, run_small c.requires.parts.left c.requires.layout c.runs-test.true (c.runs.invariant.1.0.left c.runs-test.true)))
 
-pub run::equal-overflow_add-t-in-loop-k : goal.run::equal-overflow_add-t-in-loop-k
-run::equal-overflow_add-t-in-loop-k t c = omega (arith, part_small c.requires.parts.right)
+pub run::equal-overflow_add-t-in-runs : goal.run::equal-overflow_add-t-in-runs
+run::equal-overflow_add-t-in-runs t c = omega (arith, part_small c.requires.parts.right)
 
 pub run::equal-next_run-j-requires : goal.run::equal-next_run-j-requires
-run::equal-next_run-j-requires t c = (omega (arith, part_small c.requires.parts.right), omega (arith, run_small c.requires.parts.right (layout_right c.requires.parts c.requires.layout) c.loop-k-test.true (c.loop-k.invariant.0.right c.loop-k-test.true)))
+run::equal-next_run-j-requires t c = (omega (arith, part_small c.requires.parts.right), omega (arith, run_small c.requires.parts.right (layout_right c.requires.parts c.requires.layout) c.runs-test.true (c.runs.invariant.1.0.right c.runs-test.true)))
 
-pub run::equal-loop-k-smaller : goal.run::equal-loop-k-smaller
-run::equal-loop-k-smaller t c = omega (arith, step_some c.requires.parts c.requires.layout c.loop-k.invariant.0 c.loop-k-test.true (end_is c.ends-left.ensures _ c.at-x.ensures) (end_is c.ends-right.ensures _ c.at-y.ensures) c.min.ensures c.min-step.ensures)
+pub run::equal-runs-smaller : goal.run::equal-runs-smaller
+run::equal-runs-smaller t c = omega (arith, step_some c.requires.parts c.requires.layout c.runs.invariant.1.0 c.runs-test.true (end_is c.ends-left.ensures _ c.at-x.ensures) (end_is c.ends-right.ensures _ c.at-y.ensures) c.min.ensures c.min-step.ensures)
 
-pub run::equal-loop-k-preserved : goal.run::equal-loop-k-preserved
-run::equal-loop-k-preserved t c =
+pub run::equal-runs-preserved : goal.run::equal-runs-preserved
+run::equal-runs-preserved t c =
     let same = rw c.child-values.ensures.same at c.equal_row.ensures in
-    (step_again c.requires.parts c.requires.layout c.loop-k.invariant.0 c.loop-k-test.true (end_is c.ends-left.ensures _ c.at-x.ensures) (end_is c.ends-right.ensures _ c.at-y.ensures) c.min.ensures c.min-step.ensures refl refl c.loop-k.invariant.1 (sym same ∙ c.if-not-equal_row.false) c.next_run-i.ensures c.next_run-j.ensures)
+    (c.runs.invariant.0, step_again c.requires.parts c.requires.layout c.runs.invariant.1.0 c.runs-test.true (end_is c.ends-left.ensures _ c.at-x.ensures) (end_is c.ends-right.ensures _ c.at-y.ensures) c.min.ensures c.min-step.ensures refl refl c.runs.invariant.1.1 (sym same ∙ c.if-not-equal_row.false) c.next_run-i.ensures c.next_run-j.ensures)
 
-pub run::equal-returns : goal.run::equal-returns
-run::equal-returns t c = rows_done c.loop-k.invariant.1 c.loop-k-test.false
+pub run::equal-returns-after-runs : goal.run::equal-returns-after-runs
+run::equal-returns-after-runs t c = c.runs.invariant.0 ∙ rows_done c.runs.invariant.1.1 c.runs-test.false
 
 pub run::equal-returns-then-not-equal_row : goal.run::equal-returns-then-not-equal_row
 run::equal-returns-then-not-equal_row t c =
     let same = rw c.child-values.ensures.same at c.equal_row.ensures in
-    step_fail c.requires.parts c.requires.layout c.loop-k.invariant.0 c.loop-k-test.true refl refl c.loop-k.invariant.1 (sym same ∙ c.if-not-equal_row.true)
+    step_fail c.requires.parts c.requires.layout c.runs.invariant.1.0 c.runs-test.true refl refl c.runs.invariant.1.1 (sym same ∙ c.if-not-equal_row.true)
 
 pub equal_row-leaf_equal-requires : goal.equal_row-leaf_equal-requires
 equal_row-leaf_equal-requires t c = record { sides = range_sides c.requires.sides (λ z. omega (arith, c.if-depth-gt0.true)); leaves = rw c.in-Some.is at c.requires.leaves }
@@ -522,13 +522,13 @@ pub run::equal-leaves_of-leaves-requires : goal.run::equal-leaves_of-leaves-requ
 run::equal-leaves_of-leaves-requires t c = rw c.child-values.ensures.same (run_nodes c.requires.parts c.requires.layout refl refl)
 
 pub run::equal-equal_row-requires : goal.run::equal-equal_row-requires
-run::equal-equal_row-requires t c = (omega (arith, c.decreases), (rw c.child-values.ensures.same (step_requires c.requires.parts c.requires.layout c.loop-k.invariant.0 c.loop-k-test.true refl refl), c.leaves_of-leaves.ensures))
+run::equal-equal_row-requires t c = (omega (arith, c.decreases), (rw c.child-values.ensures.same (step_requires c.requires.parts c.requires.layout c.runs.invariant.1.0 c.runs-test.true refl refl), c.leaves_of-leaves.ensures))
 
 pub run::equal-at-x-requires : goal.run::equal-at-x-requires
-run::equal-at-x-requires t c = end_nth c.ends-left.ensures (omega (arith, run_small c.requires.parts.left c.requires.layout c.loop-k-test.true (c.loop-k.invariant.0.left c.loop-k-test.true)))
+run::equal-at-x-requires t c = end_nth c.ends-left.ensures (omega (arith, run_small c.requires.parts.left c.requires.layout c.runs-test.true (c.runs.invariant.1.0.left c.runs-test.true)))
 
 pub run::equal-at-y-requires : goal.run::equal-at-y-requires
-run::equal-at-y-requires t c = end_nth c.ends-right.ensures (omega (arith, run_small c.requires.parts.right (layout_right c.requires.parts c.requires.layout) c.loop-k-test.true (c.loop-k.invariant.0.right c.loop-k-test.true)))
+run::equal-at-y-requires t c = end_nth c.ends-right.ensures (omega (arith, run_small c.requires.parts.right (layout_right c.requires.parts c.requires.layout) c.runs-test.true (c.runs.invariant.1.0.right c.runs-test.true)))
 
 pub union::dense-loop-k-init : goal.union::dense-loop-k-init
 union::dense-loop-k-init t c = rows_none _ _ _ _ _

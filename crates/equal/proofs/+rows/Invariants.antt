@@ -1,9 +1,11 @@
 -- The measures and the invariants of the cycle.
+use mathlib.Core.Path.{◌≡◌}
 use Prim.Native.Nat.{◌-◌, suc}
 use Rattle.image.specs.Row.{dictionary_row, row_at, list_view_row, run_row, sparse_row, dense_row}
 use Rattle.image.specs.Record.{first_child, child_count}
 use Rattle.equal.proofs.Rows.{RowsLeft}
 use Rattle.equal.proofs.Dictionaries.{KeptPairs}
+use mathlib.Core.Bool.{true}
 use Rattle.equal.proofs.Runs.{Stepping}
 use Rattle.equal.proofs.Structs.{ColumnsLeft}
 use Prim.Native.Nat.{◌*◌, ◌+◌}
@@ -66,11 +68,11 @@ decreases-equal_valid-loop-k l = l.n - l.k
 abbrev pub invariant-list_view::equal-loop-k : goal.invariant-list_view::equal-loop-k
 invariant-list_view::equal-loop-k l = RowsLeft (list_view_row (row_at l.depth l.pair.left.image.now) l.pair.left.image.now l.pair.left.number) (list_view_row (row_at l.depth l.pair.right.image.now) l.pair.right.image.now l.pair.right.number) l.rows.left l.rows.right l.rows.count l.k
 
-abbrev pub invariant-run::equal-loop-k : goal.invariant-run::equal-loop-k
-invariant-run::equal-loop-k l = Stepping l.pair.left.image.now l.pair.right.image.now l.pair.left.number l.pair.right.number l.s l.t l.n l.k l.i l.j × RowsLeft (run_row (row_at l.depth l.pair.left.image.now) l.pair.left.image.now l.pair.left.number) (run_row (row_at l.depth l.pair.right.image.now) l.pair.right.image.now l.pair.right.number) l.s l.t l.n l.k
+abbrev pub invariant-run::equal-runs : goal.invariant-run::equal-runs
+invariant-run::equal-runs l = (l.equal ≡ true) × (Stepping l.pair.left.image.now l.pair.right.image.now l.pair.left.number l.pair.right.number l.s l.t l.n l.k l.i l.j × RowsLeft (run_row (row_at l.depth l.pair.left.image.now) l.pair.left.image.now l.pair.left.number) (run_row (row_at l.depth l.pair.right.image.now) l.pair.right.image.now l.pair.right.number) l.s l.t l.n l.k)
 
-abbrev pub decreases-run::equal-loop-k : goal.decreases-run::equal-loop-k
-decreases-run::equal-loop-k l = l.n - l.k
+abbrev pub decreases-run::equal-runs : goal.decreases-run::equal-runs
+decreases-run::equal-runs l = l.n - l.k
 
 abbrev pub invariant-structure::equal-loop-c : goal.invariant-structure::equal-loop-c
 invariant-structure::equal-loop-c l = ColumnsLeft (row_at l.depth l.pair.left.image.now) (row_at l.depth l.pair.right.image.now) l.rows.left l.rows.right l.rows.count (first_child l.pair.left.image.now l.pair.left.number) (first_child l.pair.right.image.now l.pair.right.number) (child_count l.pair.left.image.now l.pair.left.number) l.c
