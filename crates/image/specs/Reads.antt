@@ -2,8 +2,8 @@
 use Rattle.std.specs.Prelude.{◌≡◌, Bool, true, false, ◌||◌, Option, None, Some, List, ℕ, ◌+◌, ◌*◌, ◌<◌, ◌≤◌, ◌^◌, eqb, length, get_or}
 use Rattle.image.specs.declared.bytes.Numbers.{Numbers}
 use Rattle.image.specs.declared.element.Bitmap.{Bitmap}
-use Rattle.image.specs.Record.{has_bitmap, bitmap_place, first_bit, first_child, offset_of, buffer_place}
-use Rattle.image.specs.Element.{child_end, child_with_id, run_end_width}
+use Rattle.image.specs.Record.{has_bitmap, bitmap_place, first_bit, first_child, length_of, offset_of, buffer_place}
+use Rattle.image.specs.Element.{valid, child_end, child_with_id, run_end_width}
 
 -- the result is the number x, which fits so many bits
 pub record Read (x bits r : ℕ) : Type 0 where
@@ -57,3 +57,8 @@ pub record EndsOf (s : List ℕ) (k : ℕ) (r : Numbers) : Type 0 where
   pub some : 1 ≤ r.width
   pub narrow : r.width ≤ 8
   pub near : r.place < 2 ^ 40
+
+-- p says of the rows of node k whether they pass a test: no null row does, and whatever may be answered of another is what p says
+pub record TellsKept (s : List ℕ) (k : ℕ) (answers : ℕ → Bool → Type 0) (p : ℕ → Bool) : Type 0 where
+  pub null : (i : ℕ) → valid s k i ≡ false → p i ≡ false
+  pub kept : (i : ℕ) (b : Bool) → i < length_of s k → valid s k i ≡ true → answers i b → b ≡ p i

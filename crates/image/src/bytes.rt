@@ -10,7 +10,7 @@ pub fn byte(s: &[u8], i: usize) -> u8
     if i < s.len() { s[i] } else { 0 }
 }
 
-// Numbers of two, four and eight bytes are written out: made in a loop over their bytes, they are read byte by byte where a
+// Kept: numbers of two, four and eight bytes are written out, and not by a loop or the library's `from_le_bytes`: made in a loop over their bytes, they are read byte by byte where a
 // loop over rows takes many rows at once.
 fn two(s: &[u8], i: usize) -> usize
     requires { i + 2 ≤ length s.now }
@@ -131,6 +131,7 @@ impl Numbers<'_> {
 
     // The same where the width is 1, 2, 4 or 8 and the number lies inside: no test but those of the width, which a loop
     // makes once.
+    // Kept: a match on a number, as in `number`: each arm names a width that is known where it is compiled.
     pub fn inside(self, j: usize) -> usize
         requires { Packed (length self.bytes.now) self.place self.width (j + 1) }
         ensures { Read (number_at self.entry.width self.entry.bytes.now (self.entry.place + j * self.entry.width)) (8 * self.entry.width) result }

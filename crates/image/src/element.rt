@@ -1,8 +1,10 @@
 // What stands at a row of a node: its bitmap bit, an element of its first buffer, the union's child that a type id names,
 // and the ends of runs.
-ghost use Rattle.std.specs.Prelude.{◌≡◌, ◌<◌, ◌≤◌, ◌^◌};
+ghost use Rattle.std.specs.Prelude.{◌≡◌, Bool, true, ℕ, ◌+◌, ◌*◌, ◌<◌, ◌≤◌, ◌^◌};
+ghost use Rattle.image.specs.Ranges.{any};
 ghost use Rattle.image.specs.Of.{◌of◌};
-ghost use Rattle.image.specs.Reads.{Read, BitmapOf, ChildrenById, NamedChild, EndsOf};
+ghost use Rattle.image.specs.Reads.{Read, BitmapOf, ChildrenById, NamedChild, EndsOf, TellsKept};
+ghost use Rattle.image.specs.Record.{length_of, offset_of, buffer_place};
 ghost use Rattle.image.specs.Element.{valid, element_width, element_at};
 
 use crate::bytes::{Numbers, bit};
@@ -16,6 +18,7 @@ pub const VIEW_SIZE: usize = 16;
 pub const INLINE_LENGTH: usize = 12;
 
 // The bitmap of a node that has one, for a loop that asks for many rows: where it starts, and the bit of row 0.
+// Kept: without the bytes, which `Bits` of `values` has: a loop has the node beside it, whose image they are in.
 #[derive(Clone, Copy)]
 pub struct Bitmap {
     pub place: usize,
@@ -88,16 +91,49 @@ impl<'a> Node<'a> {
         None
     }
 
+    // Where the element of row 0 starts in the first buffer, whose elements have so many bytes.
+    pub fn first_place(self, width: usize) -> usize
+        requires { width < 2 ^ 32 }
+        ensures value { result ≡ (buffer_place of self.entry) 0 + (offset_of of self.entry) * width }
+        ensures near { result < 2 ^ 32 * (width + 1) }
+    {
+        self.buffer_place(0) + self.offset() * width
+    }
+
+    // The numbers of a width in the first buffer, from the element of row 0 on.
+    pub fn row_numbers(self, width: usize) -> Numbers<'a>
+        requires { width < 2 ^ 32 }
+        ensures bytes { result.bytes ≡ self.entry.image }
+        ensures place { result.place ≡ (buffer_place of self.entry) 0 + (offset_of of self.entry) * width }
+        ensures near { result.place < 2 ^ 32 * (width + 1) }
+        ensures width { result.width ≡ width }
+    {
+        Numbers {
+            bytes: self.image,
+            place: self.first_place(width),
+            width: width,
+        }
+    }
+
     // The ends of a run node's runs: how wide they are, and where the first of them starts.
     pub fn ends(self) -> Numbers<'a>
         ensures { (EndsOf of self.entry) result }
     {
         let ends = self.child(0);
-        let width = TypeCode::integer_width(ends.code() as u32);
-        Numbers {
-            bytes: self.image,
-            place: ends.buffer_place(0) + ends.offset() * width,
-            width: width,
+        ends.row_numbers(TypeCode::integer_width(ends.code() as u32))
+    }
+
+    // A row that is not null passes the test.
+    pub fn any_kept<F: Fn(usize) -> bool>(self, test: F) -> bool
+        requires { (i : ℕ) → i < length_of of self → (valid of self) i ≡ true → F.pre test i }
+        ensures { (p : ℕ → Bool) → (TellsKept of self.entry) (F.post test) p → result ≡ any p 0 (length_of of self.entry) }
+    {
+        let bitmap = self.bitmap();
+        for i in 0..self.length() {
+            if self.is_kept(bitmap, i) && test(i) {
+                return true;
+            }
         }
+        false
     }
 }

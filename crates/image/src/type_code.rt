@@ -278,40 +278,28 @@ impl TypeCode {
     pub fn p1_fits(code: u8, p1: u32) -> bool
         ensures { result ≡ p1_fits code p1 }
     {
-        if p1 < TypeCode::p1_low(code) {
-            return false;
-        }
-        p1 <= TypeCode::p1_high(code)
+        let (low, high) = TypeCode::p1_range(code);
+        low <= p1 && p1 <= high
     }
 
-    // The lowest p1 of a code.
-    fn p1_low(code: u8) -> u32
-        ensures { result ≡ (entry_of code).low }
+    // The lowest and the highest p1 of a code.
+    fn p1_range(code: u8) -> (u32, u32)
+        ensures low { result.0 ≡ (entry_of code).low }
+        ensures high { result.1 ≡ (entry_of code).high }
     {
         match code {
-            TypeCode::DECIMAL32..=TypeCode::DECIMAL256 => 1,
-            TypeCode::TIME64 => 2,
-            TypeCode::DICTIONARY => TypeCode::INT8 as u32,
-            _ => 0,
-        }
-    }
-
-    // The highest p1 of a code.
-    fn p1_high(code: u8) -> u32
-        ensures { result ≡ (entry_of code).high }
-    {
-        match code {
-            TypeCode::DECIMAL32 => 9,
-            TypeCode::DECIMAL64 => 18,
-            TypeCode::DECIMAL128 => 38,
-            TypeCode::DECIMAL256 => 76,
-            TypeCode::TIME32 => 1,
-            TypeCode::TIME64..=TypeCode::DURATION => 3,
-            TypeCode::FIXED_SIZE_BINARY => TypeCode::LARGEST_SIZE,
-            TypeCode::FIXED_SIZE_LIST => TypeCode::LARGEST_SIZE,
-            TypeCode::DICTIONARY => TypeCode::UINT64 as u32,
-            TypeCode::MAP => 1,
-            _ => 0,
+            TypeCode::DECIMAL32 => (1, 9),
+            TypeCode::DECIMAL64 => (1, 18),
+            TypeCode::DECIMAL128 => (1, 38),
+            TypeCode::DECIMAL256 => (1, 76),
+            TypeCode::TIME32 => (0, 1),
+            TypeCode::TIME64 => (2, 3),
+            TypeCode::TIMESTAMP..=TypeCode::DURATION => (0, 3),
+            TypeCode::FIXED_SIZE_BINARY => (0, TypeCode::LARGEST_SIZE),
+            TypeCode::FIXED_SIZE_LIST => (0, TypeCode::LARGEST_SIZE),
+            TypeCode::DICTIONARY => (TypeCode::INT8 as u32, TypeCode::UINT64 as u32),
+            TypeCode::MAP => (0, 1),
+            _ => (0, 0),
         }
     }
 
