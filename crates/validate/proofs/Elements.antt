@@ -1,6 +1,6 @@
 -- Elements of a buffer that lie inside the image, as a loop reads them.
 -- A number past a start stands as many widths behind it; fewer numbers lie inside too.
-use mathlib.Core.Path.{◌≡◌, sym, ap, ◌∙◌}
+use mathlib.Core.Path.{◌≡◌, refl, sym, ap, ◌∙◌}
 use mathlib.Core.List.{List}
 use Prim.Native.Nat.{ℕ, ◌+◌, ◌*◌, ◌<◌}
 use native.Mathlib.Nat.{add_assoc, add-mul}
@@ -29,3 +29,8 @@ pub rows_inside : (s : List ℕ) (k b : ℕ) {v w place o rows : ℕ} → Holds 
     → Packed (length s) (place + o * v) v rows
 unfolding elements_of
 rows_inside s k b {rows = rows} h e p q r = rw (e, p, q) (packed_from (offset_of s k) rows (omega arith) h)
+
+-- the same of the numbers of its rows
+pub row_inside : (node : Node) (v : Numbers) (i : ℕ) {w u : ℕ} → Holds node.image.now node.number 0 w (elements_of node.image.now node.number) → u ≡ w → v.bytes ≡ node.image
+    → v.place ≡ buffer_place node.image.now node.number 0 + offset_of node.image.now node.number * u → v.width ≡ u → i < length_of node.image.now node.number → Packed (length v.bytes.now) v.place v.width (i + 1)
+row_inside node v i h ew eb ep ev lt = rw (eb, ep, ev) (packed_fewer (i + 1) (omega arith) (rows_inside _ _ 0 h ew refl refl refl))

@@ -2,18 +2,20 @@
 -- By induction over the width; two readings that overlap cover all bytes between their ends.
 use mathlib.Core.Path.{◌≡◌, refl, sym, ◌∙◌}
 use mathlib.Core.Bool.{Bool, true, false, not, ◌||◌}
-use mathlib.Core.List.{List}
+use mathlib.Core.List.{List, [], ◌∷◌}
 use Prim.Native.Nat.{ℕ, zero, suc, ◌+◌, ◌*◌, ◌-◌, ◌≤◌, ◌<◌}
 use native.Mathlib.Omega.{arith}
 use native.Mathlib.Nat.{add-zero, zero-add}
 use lib.Dec.{eqb}
-use lib.ListN.{length, take, drop}
+use lib.ListN.{length, take, drop, get_or}
+use Rattle.std.specs.List.{list_any}
 use borrow.Author.Tests.{ne_eqb}
 use Rattle.std.proofs.lemmas.List.{length-drop, length-take-le, get_or-take, get_or-drop}
 use Rattle.image.specs.Ranges.{any}
 use Rattle.image.specs.Bytes.{byte_at, number_at}
 use Rattle.image.specs.Element.{view_length}
 use Rattle.image.specs.Faults.{nonzero, padding_nonzero}
+use Rattle.validate.specs.Views.{is_nonzero}
 use Rattle.image.proofs.Loops.{rest_none, any_jump, jump_found}
 use Rattle.image.proofs.Ranges.{any_false, any_none}
 
@@ -56,6 +58,18 @@ any_alike p q i j zero f = refl
 any_alike p q i j (suc n) f =
     let here : p i ≡ q j = rw (add-zero, add-zero) at (f 0 (omega arith)) in
     rw (here, any_alike p q (suc i) (suc j) n (λ k lt. let a : suc i + k ≡ i + suc k = omega arith in let b : suc j + k ≡ j + suc k = omega arith in rw (a, b) (f (suc k) (omega arith))))
+
+-- a test of each byte of a list is one of the numbers of their places
+any_list : (f : ℕ → Bool) (p : ℕ → Bool) (i : ℕ) (xs : List ℕ) → ((k : ℕ) → k < length xs → f (get_or xs k 0) ≡ p (i + k)) → list_any f xs ≡ any p i (length xs)
+unfolding any
+any_list f p i [] h = refl
+any_list f p i (x ∷ xs) h =
+    let here : f x ≡ p i = rw add-zero at (h 0 (omega arith)) in
+    rw (here, any_list f p (suc i) xs (λ k lt. let a : suc i + k ≡ i + suc k = omega arith in rw a (h (suc k) (omega arith)))) refl
+
+pub bytes_nonzero : (s : List ℕ) → list_any is_nonzero s ≡ any (nonzero s) 0 (length s)
+unfolding nonzero
+bytes_nonzero s = any_list _ _ 0 s (λ k lt. rw zero-add refl)
 
 -- the padding of an inline view, as a slice lends it
 pub padded : (s : List ℕ) (view len : ℕ) → len ≡ view_length s view → len ≤ 12 → view + 16 ≤ length s

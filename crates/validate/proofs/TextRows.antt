@@ -10,7 +10,7 @@ use mathlib.Core.Logic.{◌⊎◌, inl, inr}
 use native.Mathlib.Omega.{arith}
 use lib.Dec.{eqb, ltb}
 use lib.ListN.{length}
-use borrow.Author.Tests.{eqb-true, ne_eqb, lt-ltb, le-ltb, lt-leb}
+use borrow.Author.Tests.{eqb-true, ne_eqb, lt-ltb, le-ltb, lt-leb, not-true}
 use Rattle.image.specs.declared.type_code.Layout.TheVariants.{VariableSize, View}
 use Rattle.image.specs.Ranges.{any}
 use Rattle.image.specs.Bytes.{byte_at, bytes_at, number_at}
@@ -21,7 +21,7 @@ use Rattle.image.specs.Element.{valid, element_width, element_place, element_at,
 use Rattle.image.specs.Faults.{text_row_fault, fault19}
 use Rattle.image.specs.Utf8.{well_formed, has, tail}
 use Rattle.image.proofs.Bools.{and_fails}
-use Rattle.image.proofs.Numbers.{packed_from}
+use Rattle.image.proofs.Numbers.{packed_from, width_most}
 use Rattle.image.proofs.Ranges.{any_none, any_below}
 use Rattle.laws.specs.Accepted.{NoneBelow, OffsetsRise}
 use Rattle.laws.proofs.Accepted.{tables, after_14, after_17, after_18}
@@ -31,11 +31,11 @@ use Rattle.utf8.specs.Ascii.{any_high}
 use Rattle.utf8.specs.Cuts.{Cut}
 use Rattle.utf8.proofs.Plain.{plain_part}
 use Rattle.utf8.proofs.Cutting.{part_formed}
-use Rattle.validate.specs.declared.texts.Texts.{Texts}
+use Rattle.image.specs.declared.bytes.Numbers.{Numbers}
 use Rattle.validate.specs.declared.texts.Span.{Span}
 use Rattle.validate.specs.Numbers.{Holds}
 use Rattle.validate.specs.Views.{ViewsInside}
-use Rattle.validate.specs.Texts.{TextNode, ViewNode, OffsetNode, ViewsRead, TextsRead, TextRow, EachBuffer, plain_buffer, formed_buffer, text_start, splits, Stretch}
+use Rattle.validate.specs.Texts.{TextNode, ViewNode, OffsetNode, ViewsRead, TextsRead, TextRow, EachBuffer, buffer_bytes, plain_buffer, formed_buffer, text_start, splits, Stretch}
 use Rattle.validate.proofs.Elements.{shift}
 use Rattle.validate.proofs.Lower.{text_offsets, views}
 
@@ -153,11 +153,12 @@ buffer_more {P} {j} f here = record { each = λ m low lt. cases m low (eq-or-lt_
 pub buffer_all : {P : ℕ → Type 0} {n j : ℕ} → EachBuffer P j → n ≤ j → EachBuffer P n
 buffer_all f le = record { each = λ m low lt. f.each m low (omega arith) }
 
-pub plain_here : (s : List ℕ) (k j : ℕ) {p n : ℕ} {b : Bool} → p ≡ buffer_place s k j → n ≡ buffer_length s k j → b ≡ any_high (bytes_at s p n) → b ≡ false → plain_buffer s k j
-plain_here s k j ep en eb is = rw (← ep, ← en) (sym eb ∙ is)
+-- a test says of the bytes of buffer j what it says of them as they were read
+pub told_here : (s : List ℕ) (k j : ℕ) {p n : ℕ} {bytes : List ℕ} (q : List ℕ → Bool) → p ≡ buffer_place s k j → n ≡ buffer_length s k j → bytes ≡ bytes_at s p n → q bytes ≡ true → q (buffer_bytes s k j) ≡ true
+told_here s k j q ep en e told = rw (← ep, ← en, ← e) told
 
-pub formed_here : (s : List ℕ) (k j : ℕ) {p n : ℕ} {b : Bool} → p ≡ buffer_place s k j → n ≡ buffer_length s k j → b ≡ well_formed (bytes_at s p n) → b ≡ true → formed_buffer s k j
-formed_here s k j ep en eb is = rw (← ep, ← en) (sym eb ∙ is)
+pub each_plain : (s : List ℕ) (k : ℕ) {n : ℕ} → EachBuffer (λ j. not (any_high (buffer_bytes s k j)) ≡ true) n → EachBuffer (plain_buffer s k) n
+each_plain s k f = record { each = λ j low lt. not-true _ (f.each j low lt) }
 
 -- a buffer of the node lies inside
 pub data_inside : {s : List ℕ} {k j p n : ℕ} → TextNode s k → j < buffer_count s k → p ≡ buffer_place s k j → n ≡ buffer_length s k j → p + n ≤ length s
@@ -170,6 +171,9 @@ module _ {s : List ℕ} {k : ℕ} (t : OffsetNode s k) where
 
   offsets : Holds s k 0 (element_width s k) (elements_of s k + 1)
   offsets = text_offsets t.text.below (omega arith) k t.text.node by_offsets
+
+  pub narrow : element_width s k ≤ 8
+  narrow = width_most _ offsets.width
 
   rising : OffsetsRise s k (buffer_length s k 1)
   rising = (after_17 t.text.below k t.text.node (omega arith)).variable_size by_offsets
@@ -199,37 +203,37 @@ pub rows_start : {s : List ℕ} {k : ℕ} → OffsetNode s k → buffer_place s 
 unfolding elements_of
 rows_start {s} {k} t = omega (arith, (packed_from (offset_of s k) 0 (omega arith) (offsets t)).inside)
 
-module _ {s : List ℕ} {k : ℕ} (t : OffsetNode s k) {at : Texts} (r : TextsRead s k at) where
-  pub offset_inside : (i : ℕ) → i ≤ length_of s k → Packed (length at.offsets.bytes.now) at.offsets.place at.offsets.width (i + 1)
+module _ {s : List ℕ} {k : ℕ} (t : OffsetNode s k) {v : Numbers} {start : ℕ} (r : TextsRead s k v start) where
+  pub offset_inside : (i : ℕ) → i ≤ length_of s k → Packed (length v.bytes.now) v.place v.width (i + 1)
   unfolding elements_of
   offset_inside i le = rw (r.bytes, r.place, r.width) (packed_from (offset_of s k) (i + 1) (omega arith) (offsets t))
 
-  offset_read : (i : ℕ) {x : ℕ} → x ≡ number_at at.offsets.width at.offsets.bytes.now (at.offsets.place + i * at.offsets.width) → x ≡ element_at s k (offset_of s k + i)
+  offset_read : (i : ℕ) {x : ℕ} → x ≡ number_at v.width v.bytes.now (v.place + i * v.width) → x ≡ element_at s k (offset_of s k + i)
   unfolding element_at element_place
   offset_read i e = e ∙ rw (r.bytes, r.place, r.width, shift (buffer_place s k 0) (offset_of s k) i (element_width s k))
 
-  pub start_read : (i : ℕ) {x : ℕ} → x ≡ number_at at.offsets.width at.offsets.bytes.now (at.offsets.place + i * at.offsets.width) → at.start + x ≡ text_start s k i
+  pub start_read : (i : ℕ) {x : ℕ} → x ≡ number_at v.width v.bytes.now (v.place + i * v.width) → start + x ≡ text_start s k i
   start_read i e = rw (r.start, offset_read i e)
 
   -- the bytes from one text's start up to another's
-  module _ {i j x y : ℕ} (le : i ≤ j) (end : j ≤ length_of s k) (ex : x ≡ number_at at.offsets.width at.offsets.bytes.now (at.offsets.place + i * at.offsets.width)) (ey : y ≡ number_at at.offsets.width at.offsets.bytes.now (at.offsets.place + j * at.offsets.width)) where
+  module _ {i j x y : ℕ} (le : i ≤ j) (end : j ≤ length_of s k) (ex : x ≡ number_at v.width v.bytes.now (v.place + i * v.width)) (ey : y ≡ number_at v.width v.bytes.now (v.place + j * v.width)) where
     pub starts_apart : x ≤ y
     starts_apart = omega (arith, start_read i ex, start_read j ey, starts_rise t i j le end)
 
-    pub starts_inside : at.start + y ≤ length s
+    pub starts_inside : start + y ≤ length s
     starts_inside = omega (arith, start_read j ey, start_inside t j end)
 
-  pub offset_text : {i x y : ℕ} → i < length_of s k → x ≡ number_at at.offsets.width at.offsets.bytes.now (at.offsets.place + i * at.offsets.width) → y ≡ number_at at.offsets.width at.offsets.bytes.now (at.offsets.place + (i + 1) * at.offsets.width)
-      → bytes_at s (at.start + x) (at.start + y - (at.start + x)) ≡ text_at s k (offset_of s k + i)
+  pub offset_text : {i x y : ℕ} → i < length_of s k → x ≡ number_at v.width v.bytes.now (v.place + i * v.width) → y ≡ number_at v.width v.bytes.now (v.place + (i + 1) * v.width)
+      → bytes_at s (start + x) (start + y - (start + x)) ≡ text_at s k (offset_of s k + i)
   unfolding text_at
   offset_text {i} {x} {y} lt ex ey =
       let next : offset_of s k + (i + 1) ≡ suc (offset_of s k + i) = omega arith in
       let last : y ≡ element_at s k (suc (offset_of s k + i)) = rw next at (offset_read (i + 1) ey) in
-      let len : at.start + y - (at.start + x) ≡ y - x = omega arith in
+      let len : start + y - (start + x) ≡ y - x = omega arith in
       rw (len, t.no_views, r.start, offset_read i ex, last)
 
-  pub stretch : {n x y : ℕ} → n ≡ length_of s k → x ≡ number_at at.offsets.width at.offsets.bytes.now (at.offsets.place + 0 * at.offsets.width) → y ≡ number_at at.offsets.width at.offsets.bytes.now (at.offsets.place + n * at.offsets.width)
-      → Stretch s k (record { place = at.start + x; len = y - x })
+  pub stretch : {n x y : ℕ} → n ≡ length_of s k → x ≡ number_at v.width v.bytes.now (v.place + 0 * v.width) → y ≡ number_at v.width v.bytes.now (v.place + n * v.width)
+      → Stretch s k (record { place = start + x; len = y - x })
   stretch {n} {x} {y} en ex ey =
       let le : x ≤ y = starts_apart {i = 0} {j = n} (omega arith) (omega arith) ex ey in
       record {
@@ -288,17 +292,15 @@ module _ (s : List ℕ) (k end i : ℕ) {x : ℕ} (e : x ≡ text_start s k i) w
   unfolding splits
   split lt eb = rw (zero-add i, ← e, lt-ltb x end lt) (sym eb)
 
--- rows
-pub row_here : {s : List ℕ} {k i n : ℕ} {v : Bool} → i < n → n ≡ length_of s k → v ≡ valid s k i → v ≡ true → TextRow s k i
-row_here lt en e full = record { row = omega (arith, lt, en); not_null = sym e ∙ full }
+-- a null row has no ill-formed text, and any other where its text is ill-formed
+module _ (s : List ℕ) (k i : ℕ) where
+  pub null_row : valid s k i ≡ false → text_row_fault s k i ≡ false
+  unfolding text_row_fault
+  null_row e = rw e
 
-pub null_row : (s : List ℕ) (k i : ℕ) (v : Bool) → v ≡ valid s k i → v ≡ false → text_row_fault s k (0 + i) ≡ false
-unfolding text_row_fault
-null_row s k i v e null = rw (zero-add, ← e, null)
-
-pub text_row : (s : List ℕ) (k i : ℕ) (v b : Bool) → v ≡ valid s k i → v ≡ true → b ≡ well_formed (text_at s k (offset_of s k + i)) → text_row_fault s k (0 + i) ≡ not b
-unfolding text_row_fault
-text_row s k i v b e full f = rw (zero-add, ← e, full, ← f)
+  pub text_row : {b : Bool} → valid s k i ≡ true → b ≡ not (well_formed (text_at s k (offset_of s k + i))) → b ≡ text_row_fault s k i
+  unfolding text_row_fault
+  text_row full e = rw full e
 
 -- the whole node
 module _ (s : List ℕ) (k : ℕ) {code : ℕ} {b : Bool} (e : code ≡ code_of s k) (f : b ≡ is_text code) where

@@ -1,10 +1,10 @@
 -- Which rows of views break a rule, and where the entries of their node's buffers stand.
 -- A null row breaks none; any other does where its view does. Views and entries stand a fixed number of bytes apart.
-use mathlib.Core.Path.{◌≡◌, sym}
+use mathlib.Core.Path.{◌≡◌}
 use mathlib.Core.Bool.{Bool, true, false}
 use mathlib.Core.List.{List}
 use Prim.Native.Nat.{ℕ, ◌+◌, ◌*◌, ◌<◌, ◌≤◌}
-use native.Mathlib.Nat.{add-zero, zero-add}
+use native.Mathlib.Nat.{add-zero}
 use native.Mathlib.Omega.{arith}
 use lib.ListN.{length}
 use Rattle.image.specs.Bytes.{number_at}
@@ -40,22 +40,22 @@ module _ {s : List ℕ} {k entries count : ℕ} (r : Entries s k entries count) 
       let z : size ≡ buffer_length s k j = rw length_at es in
       omega (arith, r.inside.buffers j (omega (arith, r.number.value)))
 
-pub null_row : (s : List ℕ) (k i : ℕ) (v : Bool) → v ≡ valid s k i → v ≡ false → view_row_fault s k (0 + i) ≡ false
+pub null_row : (s : List ℕ) (k i : ℕ) → valid s k i ≡ false → view_row_fault s k i ≡ false
 unfolding view_row_fault
-null_row s k i v e null = rw (zero-add, ← e, null)
+null_row s k i e = rw e
 
 -- the view of row i, 16 bytes after the one before it
-module _ {s : List ℕ} {k place o entries count : ℕ} (r : Entries s k entries count) (p : Read (buffer_place s k 0) 32 place) (q : Read (offset_of s k) 32 o) (i : ℕ) {view : ℕ} (e : view ≡ place + o * 16 + i * 16) where
+module _ {s : List ℕ} {k place entries count : ℕ} (r : Entries s k entries count) (p : place ≡ buffer_place s k 0 + offset_of s k * 16) (i : ℕ) where
   -- a row that is not null is its view's
-  pub view_row_lem : (v b : Bool) → v ≡ valid s k i → v ≡ true → b ≡ view_fault s k view → view_row_fault s k (0 + i) ≡ b
+  pub view_row_lem : {b : Bool} → valid s k i ≡ true → b ≡ view_fault s k (place + i * 16) → b ≡ view_row_fault s k i
   unfolding view_row_fault element_place
-  view_row_lem v b full is f =
-      let at : buffer_place s k 0 + (offset_of s k + i) * 16 ≡ view = omega (arith, e, p.value, q.value) in
-      rw (zero-add, ← full, is, r.inside.wide, at) (sym f)
+  view_row_lem full e =
+      let at : buffer_place s k 0 + (offset_of s k + i) * 16 ≡ place + i * 16 = omega (arith, p) in
+      rw (full, r.inside.wide, at) e
 
-  pub view_at : i < length_of s k → ViewAt s k view entries count
+  pub view_at : i < length_of s k → ViewAt s k (place + i * 16) entries count
   unfolding elements_of
   view_at lt = record {
     known = r;
-    fits = omega (arith, e, p.value, q.value, r.inside.views);
+    fits = omega (arith, p, r.inside.views);
   }

@@ -1,15 +1,17 @@
 -- What is read once of a node whose rows are text, and what is read of a row.
 use Rattle.std.specs.Prelude.{◌≡◌, Bool, true, false, ◌&&◌, List, ℕ, ◌+◌, ◌*◌, ◌<◌, ◌≤◌, eqb, ltb, length}
+use Rattle.std.specs.Borrow.{Bor}
 use Rattle.image.specs.Bytes.{byte_at, bytes_at}
 use Rattle.image.specs.Record.{node_count, code_of, length_of, offset_of, buffer_count, buffer_place, buffer_length}
 use Rattle.image.specs.TypeCode.{is_text}
-use Rattle.image.specs.Element.{valid, element_width, element_at, text_at}
+use Rattle.image.specs.Element.{valid, element_width, element_at}
 use Rattle.image.specs.Utf8.{has, tail, well_formed}
 use Rattle.laws.specs.Accepted.{NoneBelow}
 use Rattle.utf8.specs.Ascii.{any_high}
-use Rattle.validate.specs.declared.texts.Texts.{Texts}
+use Rattle.image.specs.declared.bytes.Numbers.{Numbers}
 use Rattle.validate.specs.declared.texts.Span.{Span}
 use Rattle.validate.specs.declared.texts.Buffers.{Buffers}
+use Rattle.validate.specs.declared.texts.Buffers.TheVariants.{Formed, Plain}
 
 -- a node of text, of an image that has none of the faults up to 18
 pub record TextNode (s : List ℕ) (k : ℕ) : Type 0 where
@@ -31,42 +33,40 @@ abbrev pub ViewsRead : List ℕ → ℕ → ℕ → Type 0
 ViewsRead s k first = first ≡ buffer_place s k 0 + offset_of s k * 16
 
 -- the offsets from row 0's on, and where the text starts that they count in
-pub record TextsRead (s : List ℕ) (k : ℕ) (r : Texts) : Type 0 where
-  pub bytes : r.offsets.bytes.now ≡ s
-  pub width : r.offsets.width ≡ element_width s k
-  pub place : r.offsets.place ≡ buffer_place s k 0 + offset_of s k * r.offsets.width
-  pub start : r.start ≡ buffer_place s k 1
+pub record TextsRead (s : List ℕ) (k : ℕ) (offsets : Numbers) (from : ℕ) : Type 0 where
+  pub bytes : offsets.bytes.now ≡ s
+  pub width : offsets.width ≡ element_width s k
+  pub place : offsets.place ≡ buffer_place s k 0 + offset_of s k * offsets.width
+  pub start : from ≡ buffer_place s k 1
 
 -- a row that is not null
 pub record TextRow (s : List ℕ) (k i : ℕ) : Type 0 where
   pub row : i < length_of s k
   pub not_null : valid s k i ≡ true
 
--- such a row of a node of views
-pub record ViewRow (s : List ℕ) (k first i : ℕ) : Type 0 where
-  pub node : ViewNode s k
-  pub read : ViewsRead s k first
-  pub row : TextRow s k i
-
--- of each such row what is answered tells whether its text is well-formed
-abbrev pub Judges : List ℕ → ℕ → (ℕ → Bool → Type 0) → Type 0
-Judges s k answers = (i : ℕ) (b : Bool) → TextRow s k i → answers i b → b ≡ well_formed (text_at s k (offset_of s k + i))
-
 -- of the buffers before number n each data buffer, those from number 1 on, is as P says
 pub record EachBuffer (P : ℕ → Type 0) (n : ℕ) : Type 0 where
   pub each : (j : ℕ) → 1 ≤ j → j < n → P j
 
+-- the bytes of buffer j
+abbrev pub buffer_bytes : List ℕ → ℕ → ℕ → List ℕ
+buffer_bytes s k j = bytes_at s (buffer_place s k j) (buffer_length s k j)
+
+-- where a test of bytes answers yes, so does p
+abbrev pub TellsBytes : (Bor (List ℕ) → Bool → Type 0) → (List ℕ → Bool) → Type 0
+TellsBytes answers p = (bytes : Bor (List ℕ)) → answers bytes true → p bytes.now ≡ true
+
 -- buffer j has no byte above 7F; it is well-formed as one text
 abbrev pub plain_buffer : List ℕ → ℕ → ℕ → Type 0
-plain_buffer s k j = any_high (bytes_at s (buffer_place s k j) (buffer_length s k j)) ≡ false
+plain_buffer s k j = any_high (buffer_bytes s k j) ≡ false
 
 abbrev pub formed_buffer : List ℕ → ℕ → ℕ → Type 0
-formed_buffer s k j = well_formed (bytes_at s (buffer_place s k j) (buffer_length s k j)) ≡ true
+formed_buffer s k j = well_formed (buffer_bytes s k j) ≡ true
 
 -- what was found of the data buffers is so
-pub record Found (s : List ℕ) (k : ℕ) (r : Buffers) : Type 0 where
-  pub plain : r.plain ≡ true → EachBuffer (plain_buffer s k) (buffer_count s k)
-  pub formed : r.formed ≡ true → EachBuffer (formed_buffer s k) (buffer_count s k)
+pub record Found (s : List ℕ) (k : ℕ) (found : Buffers) : Type 0 where
+  pub formed : found ≡ Formed → EachBuffer (formed_buffer s k) (buffer_count s k)
+  pub plain : found ≡ Plain → EachBuffer (plain_buffer s k) (buffer_count s k)
 
 -- where the text of row i starts, by its offset
 abbrev pub text_start : List ℕ → ℕ → ℕ → ℕ

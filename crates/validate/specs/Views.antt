@@ -1,5 +1,5 @@
 -- What is read once of a node whose rows are views.
-use Rattle.std.specs.Prelude.{◌≡◌, List, ℕ, ◌+◌, ◌*◌, ◌<◌, ◌≤◌, length}
+use Rattle.std.specs.Prelude.{◌≡◌, Bool, not, eqb, List, ℕ, ◌+◌, ◌*◌, ◌<◌, ◌≤◌, length}
 use Rattle.image.specs.Reads.{Read}
 use Rattle.image.specs.Record.{entry_size, entry_place, first_buffer, buffer_count, elements_of, buffer_place, buffer_length}
 use Rattle.image.specs.Element.{element_width}
@@ -21,3 +21,6 @@ pub record Entries (s : List ℕ) (k entries count : ℕ) : Type 0 where
 pub record ViewAt (s : List ℕ) (k view entries count : ℕ) : Type 0 where
   pub known : Entries s k entries count
   pub fits : view + 16 ≤ length s
+
+abbrev pub is_nonzero : ℕ → Bool
+is_nonzero b = not (eqb b 0)

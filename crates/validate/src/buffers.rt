@@ -18,7 +18,7 @@ fn any_outside(node: Node) -> bool
     ensures { result ≡ any (buffer_outside of node.entry) 0 (buffer_count of node.entry) }
 {
     for j in 0..node.buffer_count() {
-        if is_outside(node, node.buffer_place(j), node.buffer_length(j)) {
+        if is_outside(node.image, node.buffer_place(j), node.buffer_length(j)) {
             return true;
         }
     }
@@ -32,7 +32,7 @@ fn bitmap_outside(node: Node) -> bool
     if !node.has_bitmap() {
         return false;
     }
-    is_outside(node, node.bitmap_place(), node.bitmap_length())
+    is_outside(node.image, node.bitmap_place(), node.bitmap_length())
 }
 
 // A buffer of `len` bytes does not hold whole elements of `width` bytes.

@@ -7,12 +7,12 @@ use image::record::Node;
 
 const LONGEST_NAME: usize = 64;
 
-// A part of the node's image, by its place and length, does not lie inside it.
-pub fn is_outside(node: Node, place: usize, len: usize) -> bool
+// A part of an image, by its place and length, does not lie inside it.
+pub fn is_outside(image: &[u8], place: usize, len: usize) -> bool
     requires { (place < 2 ^ 32) × (len < 2 ^ 32) }
-    ensures { result ≡ outside node.entry.image.now place len }
+    ensures { result ≡ outside image.now place len }
 {
-    node.image.len() < place + len
+    image.len() < place + len
 }
 
 // The node has fault 13.
@@ -26,5 +26,5 @@ pub fn fault_13(node: Node) -> bool
     if len == 0 {
         return false;
     }
-    is_outside(node, node.name_place(), len)
+    is_outside(node.image, node.name_place(), len)
 }

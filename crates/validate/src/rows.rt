@@ -8,11 +8,12 @@ ghost use Rattle.image.specs.Element.{element_width};
 ghost use Rattle.image.specs.Faults.{fault18, dense_row_fault, sparse_row_fault, key_row_fault, view_row_fault, view_fault, nonzero, run_ends_rise, last_end_below};
 ghost use Rattle.laws.specs.Accepted.{NoneBelow};
 ghost use Rattle.validate.specs.Numbers.{KeyLimit, Holds, EndsInside, number_in, reaches};
-ghost use Rattle.validate.specs.Views.{ViewAt, ViewsInside};
+ghost use Rattle.validate.specs.Views.{ViewAt, ViewsInside, is_nonzero};
+ghost use Rattle.std.specs.List.{list_any};
 
 use crate::rise::rise;
 use image::blocks::any_in_blocks;
-use image::bytes::{Numbers, load};
+use image::bytes::load;
 use image::element::{INLINE_LENGTH, VIEW_SIZE};
 use image::record::{ENTRY_SIZE, Node};
 use image::type_code::{Layout, TypeCode};
@@ -80,24 +81,11 @@ fn keys_fault(node: Node) -> bool
 {
     let width = node.element_width();
     let limit = key_limit(node, width);
-    let keys = Numbers {
-        bytes: node.image,
-        place: node.buffer_place(0) + node.offset() * width,
-        width: width,
-    };
-    let rows = node.length();
-    let bitmap = node.bitmap();
-    if bitmap.is_none() {
-        return any_in_blocks(rows, |i| limit <= keys.inside(i));
+    let keys = node.row_numbers(width);
+    if !node.has_bitmap() {
+        return any_in_blocks(node.length(), |i| limit <= keys.inside(i));
     }
-    for i in 0..rows {
-        if node.is_kept(bitmap, i) {
-            if limit <= keys.inside(i) {
-                return true;
-            }
-        }
-    }
-    false
+    node.any_kept(|i| limit <= keys.inside(i))
 }
 
 // One of W to 2 W bytes is not zero: the first W make a number and the last W, which may share some.
@@ -111,6 +99,13 @@ fn ends_nonzero<const W: usize>(bytes: &[u8]) -> bool
     load::<W>(bytes, bytes.len() - W) != 0
 }
 
+// One of the bytes is not zero.
+fn some_nonzero(bytes: &[u8]) -> bool
+    ensures { result ≡ list_any is_nonzero bytes.now }
+{
+    bytes.iter().any(|b| *b != 0)
+}
+
 // One of at most twelve bytes is not zero. They are read eight or four at a time where there are so many.
 fn any_nonzero(bytes: &[u8]) -> bool
     requires { length bytes.now ≤ 12 }
@@ -122,12 +117,7 @@ fn any_nonzero(bytes: &[u8]) -> bool
     if 4 <= bytes.len() {
         return ends_nonzero::<4>(bytes);
     }
-    for k in 0..bytes.len() {
-        if bytes[k] != 0 {
-            return true;
-        }
-    }
-    false
+    some_nonzero(bytes)
 }
 
 // The view at a place breaks a rule; `entries` is where those of the node's buffers start, `count` how many they are.
@@ -156,18 +146,10 @@ fn views_fault(node: Node) -> bool
     requires { ViewsInside of node }
     ensures { result ≡ any (view_row_fault of node.entry) 0 (length_of of node.entry) }
 {
-    let place = node.buffer_place(0) + node.offset() * VIEW_SIZE;
+    let place = node.first_place(VIEW_SIZE);
     let entries = node.node_entry(0);
     let count = node.buffer_count() as usize;
-    let bitmap = node.bitmap();
-    for i in 0..node.length() {
-        if node.is_kept(bitmap, i) {
-            if view_fault(node, place + i * VIEW_SIZE, entries, count) {
-                return true;
-            }
-        }
-    }
-    false
+    node.any_kept(|i| view_fault(node, place + i * VIEW_SIZE, entries, count))
 }
 
 // The run ends, over all rows of their child, are not positive and strictly rising.

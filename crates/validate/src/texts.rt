@@ -1,5 +1,5 @@
 // 19: a text of a row that is not null is ill-formed.
-ghost use Rattle.std.specs.Prelude.{◌≡◌, true, false, ℕ, ◌+◌, ◌<◌, ◌≤◌, length};
+ghost use Rattle.std.specs.Prelude.{◌≡◌, Bool, true, false, List, ℕ, ◌+◌, ◌<◌, ◌≤◌, length};
 ghost use Rattle.image.specs.Of.{◌of◌};
 ghost use Rattle.image.specs.Ranges.{any};
 ghost use Rattle.image.specs.Record.{node_count, length_of, offset_of, buffer_count};
@@ -7,7 +7,7 @@ ghost use Rattle.image.specs.Element.{text_at};
 ghost use Rattle.image.specs.Faults.{fault19, text_row_fault};
 ghost use Rattle.image.specs.Utf8.{well_formed};
 ghost use Rattle.laws.specs.Accepted.{NoneBelow};
-ghost use Rattle.validate.specs.Texts.{TextNode, ViewNode, OffsetNode, ViewsRead, TextsRead, TextRow, ViewRow, Judges, EachBuffer, plain_buffer, formed_buffer, Found, Stretch, splits};
+ghost use Rattle.validate.specs.Texts.{TextNode, ViewNode, OffsetNode, ViewsRead, TextsRead, TextRow, EachBuffer, TellsBytes, buffer_bytes, formed_buffer, Found, Stretch, splits};
 
 use accepted::byte_view::view_bytes;
 use image::bytes::{Numbers, load};
@@ -18,21 +18,36 @@ use utf8::ascii::{has_high, high_among};
 use utf8::parts::is_tail;
 use utf8::{is_utf8, walks_well};
 
-// Texts between offsets, for a loop that asks for many rows: the offsets from row 0's on, and where the text starts that they
-// count in.
+// What was found of the data buffers of views.
 #[derive(Clone, Copy)]
-pub struct Texts<'a> {
-    pub offsets: Numbers<'a>,
-    pub start: usize,
+enum Buffers {
+    // nothing
+    Unknown,
+    // each is well-formed, as one text
+    Formed,
+    // none has a byte above 7F
+    Plain,
 }
 
-// What was found of the data buffers of views: none has a byte above 7F; each is well-formed, as one text.
-// Kept: two flags, since each can be so without the other: what is plain is well-formed too, but that is not looked at where
-// no views share their bytes.
+// A node whose rows are views: where the view of row 0 stands, and what was found of the data buffers.
 #[derive(Clone, Copy)]
-pub struct Buffers {
-    pub plain: bool,
-    pub formed: bool,
+pub struct Views<'a> {
+    node: Node<'a>,
+    first: usize,
+    buffers: Buffers,
+    ghost views: { ViewNode node.image.now node.number },
+    ghost read: { ViewsRead node.image.now node.number first },
+    ghost found: { Found node.image.now node.number buffers },
+}
+
+// A node whose rows are texts between offsets: the offsets from row 0's on, and where the text starts that they count in.
+#[derive(Clone, Copy)]
+pub struct Texts<'a> {
+    node: Node<'a>,
+    offsets: Numbers<'a>,
+    start: usize,
+    ghost texts: { OffsetNode node.image.now node.number },
+    ghost read: { TextsRead node.image.now node.number offsets start },
 }
 
 // Where a text stands.
@@ -40,156 +55,6 @@ pub struct Buffers {
 pub struct Span {
     pub place: usize,
     pub len: usize,
-}
-
-// Where the view of row 0 stands.
-fn first_view(node: Node) -> usize
-    requires { ViewNode of node }
-    ensures { (ViewsRead of node.entry) result }
-{
-    node.buffer_place(0) + node.offset() * VIEW_SIZE
-}
-
-// The texts of a node whose rows are no views.
-fn texts_of<'a>(node: Node<'a>) -> Texts<'a>
-    requires { OffsetNode of node }
-    ensures { (TextsRead of node.entry) result }
-{
-    let width = node.element_width();
-    Texts {
-        offsets: Numbers {
-            bytes: node.image,
-            place: node.buffer_place(0) + node.offset() * width,
-            width: width,
-        },
-        start: node.buffer_place(1),
-    }
-}
-
-// The view of row i is a short one without a byte above 7F, or a long one, where no data buffer has such a byte.
-fn is_plain(node: Node, first: usize, found: Buffers, i: usize) -> bool
-    requires { (ViewRow of node) first i × (Found of node) found }
-    ensures { result ≡ true → well_formed ((text_at of node.entry) ((offset_of of node.entry) + i)) ≡ true }
-{
-    let view = first + i * VIEW_SIZE;
-    if load::<4>(node.image, view) <= INLINE_LENGTH {
-        return !high_among(&node.image[view..view + VIEW_SIZE]);
-    }
-    found.plain
-}
-
-// The text of row i, a view, is cut out of its data buffer where no tail stands: it is well-formed where the buffer is, as
-// one text. A short view's text stands in no buffer.
-fn cut_well(node: Node, first: usize, i: usize) -> bool
-    requires { (ViewRow of node) first i }
-    ensures { result ≡ true → EachBuffer (formed_buffer of node.entry) (buffer_count of node.entry) → well_formed ((text_at of node.entry) ((offset_of of node.entry) + i)) ≡ true }
-{
-    let view = first + i * VIEW_SIZE;
-    let len = load::<4>(node.image, view);
-    if len <= INLINE_LENGTH {
-        return false;
-    }
-    let buffer = (1 + load::<4>(node.image, view + 8)) as u32;
-    let end = node.buffer_place(buffer) + node.buffer_length(buffer);
-    let start = view_bytes(node, view, len);
-    if is_tail(node.image[start]) {
-        return false;
-    }
-    if start + len < end {
-        return !is_tail(node.image[start + len]);
-    }
-    true
-}
-
-// The text of row i, a view that is not null, is well-formed.
-fn view_formed(node: Node, first: usize, found: Buffers, i: usize) -> bool
-    requires { (ViewRow of node) first i × (Found of node) found }
-    ensures { result ≡ well_formed ((text_at of node.entry) ((offset_of of node.entry) + i)) }
-{
-    if is_plain(node, first, found, i) {
-        return true;
-    }
-    if found.formed {
-        if cut_well(node, first, i) {
-            return true;
-        }
-    }
-    let view = first + i * VIEW_SIZE;
-    let len = load::<4>(node.image, view);
-    let start = view_bytes(node, view, len);
-    is_utf8(&node.image[start..start + len])
-}
-
-// The text of row i, from its offset up to the next, is well-formed.
-fn text_formed(node: Node, texts: Texts, i: usize) -> bool
-    requires { (OffsetNode of node) × (TextsRead of node) texts × (i < length_of of node) }
-    ensures { result ≡ well_formed ((text_at of node.entry) ((offset_of of node.entry) + i)) }
-{
-    let from = texts.start + texts.offsets.inside(i);
-    let to = texts.start + texts.offsets.inside(i + 1);
-    is_utf8(&node.image[from..to])
-}
-
-// A row that is not null has an ill-formed text, as a test of each such row tells.
-fn any_ill_formed<F: Fn(usize) -> bool>(node: Node, is_formed: F) -> bool
-    requires { (i : ℕ) → (TextRow of node) i → F.pre is_formed i }
-    ensures { (Judges of node.entry) (F.post is_formed) → result ≡ any (text_row_fault of node.entry) 0 (length_of of node.entry) }
-{
-    let bitmap = node.bitmap();
-    for i in 0..node.length() {
-        if node.is_kept(bitmap, i) {
-            if !is_formed(i) {
-                return true;
-            }
-        }
-    }
-    false
-}
-
-// The texts of all rows, which stand one after the other, as one.
-fn stretch_of(node: Node, texts: Texts) -> Span
-    requires { (OffsetNode of node) × (TextsRead of node) texts }
-    ensures { (Stretch of node.entry) result }
-{
-    let from = texts.offsets.inside(0);
-    let to = texts.offsets.inside(node.length());
-    Span {
-        place: texts.start + from,
-        len: to - from,
-    }
-}
-
-// A row's text starts inside a letter: with a tail, before the end of all texts.
-fn letter_split(node: Node, texts: Texts, end: usize) -> bool
-    requires { (OffsetNode of node) × (TextsRead of node) texts × (end ≤ length node.image.now) }
-    ensures { result ≡ any ((splits of node.entry) end) 0 (length_of of node.entry) }
-{
-    for i in 0..node.length() {
-        let start = texts.start + texts.offsets.inside(i);
-        if start < end {
-            if is_tail(node.image[start]) {
-                return true;
-            }
-        }
-    }
-    false
-}
-
-// The texts of all rows are well-formed, as one look at all of them together tells: there is no byte above 7F, or they are
-// one well-formed text and no row's starts inside a letter. A no tells nothing, since bytes under nulls are among them.
-fn formed_together(node: Node, texts: Texts) -> bool
-    requires { (OffsetNode of node) × (TextsRead of node) texts }
-    ensures { result ≡ true → any (text_row_fault of node.entry) 0 (length_of of node.entry) ≡ false }
-{
-    let all = stretch_of(node, texts);
-    let text = &node.image[all.place..all.place + all.len];
-    if !has_high(text) {
-        return true;
-    }
-    if !walks_well(text) {
-        return false;
-    }
-    !letter_split(node, texts, all.place + all.len)
 }
 
 // The views have more bytes in all than the image, so that many share theirs. It chooses a path and no answer.
@@ -203,30 +68,16 @@ fn bytes_shared(node: Node, first: usize) -> bool
     node.image.len() < sum
 }
 
-// The data buffers of views have no byte above 7F.
-fn buffers_plain(node: Node) -> bool
-    requires { TextNode of node }
-    ensures { result ≡ true → EachBuffer (plain_buffer of node.entry) (buffer_count of node.entry) }
+// Each data buffer of views passes the test.
+fn each_buffer<F: Fn(&[u8]) -> bool>(node: Node, test: F) -> bool
+    requires node { TextNode of node }
+    requires tested { F.IsAlwaysCallable test }
+    ensures { (p : List ℕ → Bool) → TellsBytes (F.post test) p → result ≡ true → EachBuffer (λ j. p ((buffer_bytes of node.entry) j) ≡ true) (buffer_count of node.entry) }
 {
     for j in 1..node.buffer_count() {
         let place = node.buffer_place(j);
         let len = node.buffer_length(j);
-        if has_high(&node.image[place..place + len]) {
-            return false;
-        }
-    }
-    true
-}
-
-// The data buffers of views are well-formed, each as one text.
-fn buffers_formed(node: Node) -> bool
-    requires { TextNode of node }
-    ensures { result ≡ true → EachBuffer (formed_buffer of node.entry) (buffer_count of node.entry) }
-{
-    for j in 1..node.buffer_count() {
-        let place = node.buffer_place(j);
-        let len = node.buffer_length(j);
-        if !is_utf8(&node.image[place..place + len]) {
+        if !test(&node.image[place..place + len]) {
             return false;
         }
     }
@@ -239,16 +90,167 @@ fn buffers_of(node: Node, first: usize) -> Buffers
     requires { (ViewNode of node) × (ViewsRead of node) first }
     ensures { (Found of node.entry) result }
 {
-    let plain = buffers_plain(node);
-    if bytes_shared(node, first) {
-        return Buffers {
-            plain: plain,
-            formed: buffers_formed(node),
-        };
+    if each_buffer(node, |bytes| !has_high(bytes)) {
+        return Buffers::Plain;
     }
-    Buffers {
-        plain: plain,
-        formed: false,
+    if bytes_shared(node, first) && each_buffer(node, |bytes| is_utf8(bytes)) {
+        return Buffers::Formed;
+    }
+    Buffers::Unknown
+}
+
+impl<'a> Views<'a> {
+    // What is read once of a node.
+    fn new(node: Node<'a>) -> Views<'a>
+        requires { ViewNode of node }
+        ensures { result.node ≡ node.entry }
+    {
+        let first = node.first_place(VIEW_SIZE);
+        Views {
+            node: node,
+            first: first,
+            buffers: buffers_of(node, first),
+        }
+    }
+
+    // The view of row i is a short one without a byte above 7F, or a long one, where no data buffer has such a byte.
+    fn is_plain(self, i: usize) -> bool
+        requires { (TextRow of self.node) i }
+        ensures { result ≡ true → well_formed ((text_at of self.entry.node) ((offset_of of self.entry.node) + i)) ≡ true }
+    {
+        let view = self.first + i * VIEW_SIZE;
+        if load::<4>(self.node.image, view) <= INLINE_LENGTH {
+            return !high_among(&self.node.image[view..view + VIEW_SIZE]);
+        }
+        matches!(self.buffers, Buffers::Plain)
+    }
+
+    // The text of row i, a view, is cut out of its data buffer where no tail stands: it is well-formed where the buffer is, as
+    // one text. A short view's text stands in no buffer.
+    fn cut_well(self, i: usize) -> bool
+        requires { (TextRow of self.node) i }
+        ensures { result ≡ true → EachBuffer (formed_buffer of self.entry.node) (buffer_count of self.entry.node) → well_formed ((text_at of self.entry.node) ((offset_of of self.entry.node) + i)) ≡ true }
+    {
+        let node = self.node;
+        let view = self.first + i * VIEW_SIZE;
+        let len = load::<4>(node.image, view);
+        if len <= INLINE_LENGTH {
+            return false;
+        }
+        let buffer = (1 + load::<4>(node.image, view + 8)) as u32;
+        let end = node.buffer_place(buffer) + node.buffer_length(buffer);
+        let start = view_bytes(node, view, len);
+        if is_tail(node.image[start]) {
+            return false;
+        }
+        if start + len < end {
+            return !is_tail(node.image[start + len]);
+        }
+        true
+    }
+
+    // The text of row i, a view that is not null, is well-formed.
+    fn is_formed(self, i: usize) -> bool
+        requires { (TextRow of self.node) i }
+        ensures { result ≡ well_formed ((text_at of self.entry.node) ((offset_of of self.entry.node) + i)) }
+    {
+        if self.is_plain(i) {
+            return true;
+        }
+        if let Buffers::Formed = self.buffers {
+            if self.cut_well(i) {
+                return true;
+            }
+        }
+        let view = self.first + i * VIEW_SIZE;
+        let len = load::<4>(self.node.image, view);
+        let start = view_bytes(self.node, view, len);
+        is_utf8(&self.node.image[start..start + len])
+    }
+
+    // A row that is not null has an ill-formed text.
+    fn any_ill_formed(self) -> bool
+        ensures { result ≡ any (text_row_fault of self.entry.node) 0 (length_of of self.entry.node) }
+    {
+        self.node.any_kept(|row| !self.is_formed(row))
+    }
+}
+
+impl<'a> Texts<'a> {
+    // What is read once of a node.
+    fn new(node: Node<'a>) -> Texts<'a>
+        requires { OffsetNode of node }
+        ensures { result.node ≡ node.entry }
+    {
+        Texts {
+            node: node,
+            offsets: node.row_numbers(node.element_width()),
+            start: node.buffer_place(1),
+        }
+    }
+
+    // The text of row i, from its offset up to the next, is well-formed.
+    fn is_formed(self, i: usize) -> bool
+        requires { i < length_of of self.node }
+        ensures { result ≡ well_formed ((text_at of self.entry.node) ((offset_of of self.entry.node) + i)) }
+    {
+        let from = self.start + self.offsets.inside(i);
+        let to = self.start + self.offsets.inside(i + 1);
+        is_utf8(&self.node.image[from..to])
+    }
+
+    // The texts of all rows, which stand one after the other, as one.
+    fn stretch(self) -> Span
+        ensures { (Stretch of self.entry.node) result }
+    {
+        let from = self.offsets.inside(0);
+        let to = self.offsets.inside(self.node.length());
+        Span {
+            place: self.start + from,
+            len: to - from,
+        }
+    }
+
+    // A row's text starts inside a letter: with a tail, before the end of all texts.
+    fn letter_split(self, end: usize) -> bool
+        requires { end ≤ length self.node.image.now }
+        ensures { result ≡ any ((splits of self.entry.node) end) 0 (length_of of self.entry.node) }
+    {
+        for i in 0..self.node.length() {
+            let start = self.start + self.offsets.inside(i);
+            if start < end {
+                if is_tail(self.node.image[start]) {
+                    return true;
+                }
+            }
+        }
+        false
+    }
+
+    // The texts of all rows are well-formed, as one look at all of them together tells: there is no byte above 7F, or they are
+    // one well-formed text and no row's starts inside a letter. A no tells nothing, since bytes under nulls are among them.
+    fn formed_together(self) -> bool
+        ensures { result ≡ true → any (text_row_fault of self.entry.node) 0 (length_of of self.entry.node) ≡ false }
+    {
+        let all = self.stretch();
+        let text = &self.node.image[all.place..all.place + all.len];
+        if !has_high(text) {
+            return true;
+        }
+        if !walks_well(text) {
+            return false;
+        }
+        !self.letter_split(all.place + all.len)
+    }
+
+    // A row that is not null has an ill-formed text.
+    fn any_ill_formed(self) -> bool
+        ensures { result ≡ any (text_row_fault of self.entry.node) 0 (length_of of self.entry.node) }
+    {
+        if self.formed_together() {
+            return false;
+        }
+        self.node.any_kept(|i| !self.is_formed(i))
     }
 }
 
@@ -262,13 +264,7 @@ pub fn fault_19(node: Node) -> bool
         return false;
     }
     if code == TypeCode::UTF8_VIEW {
-        let first = first_view(node);
-        let found = buffers_of(node, first);
-        return any_ill_formed(node, |i| view_formed(node, first, found, i));
+        return Views::new(node).any_ill_formed();
     }
-    let texts = texts_of(node);
-    if formed_together(node, texts) {
-        return false;
-    }
-    any_ill_formed(node, |i| text_formed(node, texts, i))
+    Texts::new(node).any_ill_formed()
 }

@@ -13,6 +13,8 @@ use image::type_code::TypeCode;
 const LARGEST_ID: usize = 127;
 
 // Of a node, the node that it is a child of, and where that one's children end; the node itself where it is no child.
+// Kept: no Option: the walk goes on from it at the next node in either way, and a node that is no child is its own parent by
+// the definition's search too.
 #[derive(Clone, Copy)]
 pub struct Parent {
     pub node: u32,

@@ -8,22 +8,19 @@ use Rattle.utf8.specs.Ascii.{any_high}
 use Rattle.image.proofs.Slices.{sliced}
 use Rattle.validate.proofs.TextRows.{small_image, plain_together, cut_together}
 use native.Mathlib.Omega.{arith}
-use Rattle.validate.proofs.texts.formed_together.Goals as goal
-
-pub stretch_of-all-requires : goal.stretch_of-all-requires
-stretch_of-all-requires c = c.requires
+use Rattle.validate.proofs.texts.Texts.formed_together.Goals as goal
 
 pub returns-then-not-has_high : goal.returns-then-not-has_high
-returns-then-not-has_high c = λ e. plain_together c.requires.0 c.stretch_of-all.ensures (sym (c.has_high.ensures ∙ ap any_high (sliced _ _ _ c.stretch_of-all.ensures.inside)) ∙ c.if-not-has_high.true)
+returns-then-not-has_high c = λ e. plain_together c.args.self.texts c.stretch-all.ensures (sym (c.has_high.ensures ∙ ap any_high (sliced _ _ _ c.stretch-all.ensures.inside)) ∙ c.if-not-has_high.true)
 
 pub returns-then-not-walks_well : goal.returns-then-not-walks_well
 returns-then-not-walks_well c = λ e. absurd (false≢true e)
 
 pub overflow_add-all : goal.overflow_add-all
-overflow_add-all c = omega (arith, c.stretch_of-all.ensures.inside, small_image c.requires.0.text)
+overflow_add-all c = omega (arith, c.stretch-all.ensures.inside, small_image c.args.self.texts.text)
 
 pub letter_split-requires : goal.letter_split-requires
-letter_split-requires c = (c.requires.0, c.requires.1, omega (arith, c.stretch_of-all.ensures.inside))
+letter_split-requires c = omega (arith, c.stretch-all.ensures.inside)
 
 pub returns : goal.returns
-returns c = λ e. cut_together c.requires.0 c.stretch_of-all.ensures (sym c.letter_split.ensures ∙ not-true _ e) (sym (c.walks_well.ensures ∙ ap well_formed (sliced _ _ _ c.stretch_of-all.ensures.inside)) ∙ c.if-not-walks_well.false)
+returns c = λ e. cut_together c.args.self.texts c.stretch-all.ensures (sym c.letter_split.ensures ∙ not-true _ e) (sym (c.walks_well.ensures ∙ ap well_formed (sliced _ _ _ c.stretch-all.ensures.inside)) ∙ c.if-not-walks_well.false)
