@@ -1,7 +1,7 @@
 -- The run that is kept beside the rows of a node, from the first of them on.
 -- Where the rows are in runs it stays up to the current run's end; else each element is one. Rows beside which the same run
 -- is kept are the same row: a row of runs is that of its run's value, and is never null.
-use mathlib.Core.Path.{◌≡◌, refl, sym, ap, ◌∙◌}
+use mathlib.Core.Path.{◌≡◌, refl, sym, ap, ◌∙◌, subst}
 use mathlib.Core.Bool.{Bool, true, false, true≢false}
 use mathlib.Core.List.{List, replicate}
 use Prim.Native.Nat.{ℕ, zero, suc, ◌+◌, ◌-◌, ◌<◌, ◌≤◌, min}
@@ -24,7 +24,8 @@ use Rattle.image.specs.Reads.{EndsOf}
 use Rattle.accepted.specs.declared.column.Column.{Column}
 use Rattle.accepted.specs.declared.column.KeptRun.{KeptRun}
 use Rattle.accepted.specs.Parts.{Side, RunPart}
-use Rattle.accepted.specs.Runs.{next_run, in_runs, kept_run, ColumnRead, Kept, Behind, Stays, RememberedOf, Remembered, remembering_by, remembering}
+use Rattle.accepted.specs.Columns.{in_runs, EndsRead, ColumnRead}
+use Rattle.accepted.specs.Runs.{next_run, kept_run, Kept, Behind, Stays, RememberedOf, Remembered, remembering_by, remembering}
 use Rattle.accepted.proofs.Nodes.{side_small}
 use Rattle.accepted.proofs.RunEnds.{runs_cover, runs_few}
 use Rattle.accepted.proofs.RunSteps.{run_stays, run_next}
@@ -56,33 +57,43 @@ row_runs {s} {k} r e h lt = record { image = r.image; node = r.node; runs = runs
 pub node_few : {s : List ℕ} {k i n : ℕ} → Side s k i n → k < 256
 node_few r = omega (arith, r.node, r.image.tables.few_nodes)
 
+-- what was read of the ends, where the rows are in runs and where they are not
+pub ends_alone : {s : List ℕ} {k : ℕ} → in_runs s k ≡ false → EndsRead s k None
+ends_alone isnt = record { alone = λ _. isnt; runs = λ v e. cc }
+
+abbrev ends_or : Numbers → Option Numbers → Numbers
+ends_or v None = v
+ends_or v (Some w) = w
+
+pub ends_there : {s : List ℕ} {k : ℕ} {v : Numbers} → in_runs s k ≡ true → EndsOf s k v → EndsRead s k (Some v)
+ends_there {s} {k} {v} is f = record { alone = λ e. cc; runs = λ w e. (is, subst (EndsOf s k) (ap (ends_or v) e) f) }
+
 -- where the ends were read the rows are in runs, and where there are none they are not
-pub read_alone : {s : List ℕ} {k : ℕ} {c : Column} → ColumnRead s k c → c.ends ≡ None → in_runs s k ≡ false
-read_alone read e = rw e at read.ends
+module _ {s : List ℕ} {k first : ℕ} {o : Option Numbers} (read : ColumnRead s k first o) where
+  pub read_told : {b : Bool} → is_some o ≡ b → in_runs s k ≡ b
+  read_told {b} told = cases o refl ∙ told
+    where
+      cases : (ends : Option Numbers) → o ≡ ends → in_runs s k ≡ is_some o
+      cases None e = rw e (read.ends.alone e)
+      cases (Some v) e = rw e (read.ends.runs v e).0
 
-pub read_told : {s : List ℕ} {k : ℕ} {c : Column} {b : Bool} → ColumnRead s k c → is_some c.ends ≡ b → in_runs s k ≡ b
-read_told {s} {k} {c} {b} read told = cases c.ends refl ∙ told
-  where
-    cases : (ends : Option Numbers) → c.ends ≡ ends → in_runs s k ≡ is_some c.ends
-    cases None e = rw e (read_alone read e)
-    cases (Some v) e = rw e (rw e at read.ends).0
+  pub read_runs : {v : Numbers} → o ≡ Some v → (in_runs s k ≡ true) × EndsOf s k v
+  read_runs e = read.ends.runs _ e
 
-pub read_runs : {s : List ℕ} {k : ℕ} {c : Column} {v : Numbers} → ColumnRead s k c → c.ends ≡ Some v → (in_runs s k ≡ true) × EndsOf s k v
-read_runs read e = rw e at read.ends
-
-module _ {s : List ℕ} {k i : ℕ} {c : Column} where
   -- the first of the rows that are asked
-  module _ (r : Side s k i 1) (read : ColumnRead s k c) where
-    pub first_small : c.offset + i < 1073741824
+  module _ {i : ℕ} (r : Side s k i 1) where
+    pub first_small : first + i < 1073741824
     first_small = omega (arith, side_small s k i 1 r, read.offset.value)
 
+    pub first_part : in_runs s k ≡ true → RunPart s k (first + i)
+    first_part e =
+        let at : offset_of s k + i + 0 ≡ first + i = omega (arith, read.offset.value) in
+        rw at at (row_runs r e 0 (omega arith))
+
+module _ {s : List ℕ} {k i : ℕ} {c : Column} where
+  module _ (r : Side s k i 1) (read : ColumnRead s k c.offset c.ends) where
     pub first_alone : in_runs s k ≡ false → Kept s k c i (c.offset + i)
     first_alone none = record { column = read; same = sym (kept_alone s k (c.offset + i) none) }
-
-    pub first_part : in_runs s k ≡ true → RunPart s k (c.offset + i)
-    first_part e =
-        let at : offset_of s k + i + 0 ≡ c.offset + i = omega (arith, read.offset.value) in
-        rw at at (row_runs r e 0 (omega arith))
 
     pub first_kept : {run : ℕ} → in_runs s k ≡ true → run ≡ run_at s k (c.offset + i) → Kept s k c i run
     first_kept e same = record { column = read; same = same ∙ sym (kept_run_lem s k (c.offset + i) e) }
@@ -90,7 +101,7 @@ module _ {s : List ℕ} {k i : ℕ} {c : Column} where
     pub first_remembered : {runs : List (Option KeptRun)} {kept : KeptRun} → Remembered s runs → in_runs s k ≡ true → get_or runs k None ≡ Some kept → kept.element ≡ c.offset + i → Kept s k c i kept.run
     first_remembered t e there at =
         let told : RememberedOf s k (Some _) = rw there at (t.of k (node_few r)) in
-        first_kept e (told (rw (sym at) at (first_part e)) ∙ ap (run_at s k) at)
+        first_kept e (told (rw (sym at) at (first_part read r e)) ∙ ap (run_at s k) at)
 
   -- the rows from row i on
   module _ {n run : ℕ} (r : Side s k i n) (some : 0 < n) (at : Kept s k c i run) where

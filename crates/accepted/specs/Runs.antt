@@ -1,10 +1,9 @@
 -- The run that is kept beside an element, for rows that are asked one after another.
-use Rattle.std.specs.Prelude.{◌≡◌, Bool, true, false, cond, Option, None, Some, List, ℕ, ◌+◌, ◌≤◌, ◌<◌, eqb, ltb, length, get_or, set}
-use Rattle.image.specs.Record.{code_of, offset_of}
+use Rattle.std.specs.Prelude.{◌≡◌, true, false, cond, Option, None, Some, List, ℕ, ◌+◌, ◌≤◌, ◌<◌, ltb, length, get_or, set}
 use Rattle.image.specs.Element.{run_at}
-use Rattle.image.specs.Reads.{Read, EndsOf}
 use Rattle.image.specs.declared.bytes.Numbers.{Numbers}
 use Rattle.accepted.specs.Parts.{RunPart}
+use Rattle.accepted.specs.Columns.{in_runs, ColumnRead}
 use Rattle.accepted.specs.declared.column.Column.{Column}
 use Rattle.accepted.specs.declared.column.KeptRun.{KeptRun}
 use Rattle.accepted.specs.declared.column.Stay.{Stay}
@@ -14,32 +13,18 @@ use Rattle.accepted.specs.declared.column.Stay.{Stay}
 unfoldable pub next_run : ℕ → ℕ → ℕ → ℕ
 next_run j run end = cond (ltb (j + 1) end) run (run + 1)
 
--- the rows of node k are in runs
-unfoldable pub in_runs : List ℕ → ℕ → Bool
-in_runs s k = eqb (code_of s k) 43
-
 -- the run that is kept at element j of node k: the one that holds it; where the rows are not in runs, each element is one
 unfoldable pub kept_run : List ℕ → ℕ → ℕ → ℕ
 kept_run s k j = cond (in_runs s k) (run_at s k j) j
 
--- the ends of node k's runs as they were read, where its rows are in runs
-abbrev pub EndsRead : List ℕ → ℕ → Option Numbers → Type 0
-EndsRead s k None = in_runs s k ≡ false
-EndsRead s k (Some ends) = (in_runs s k ≡ true) × EndsOf s k ends
-
--- what is read once of node k
-pub record ColumnRead (s : List ℕ) (k : ℕ) (c : Column) : Type 0 where
-  pub offset : Read (offset_of s k) 32 c.offset
-  pub ends : EndsRead s k c.ends
-
 -- row i of the node, beside which a run is kept
 pub record Kept (s : List ℕ) (k : ℕ) (c : Column) (i run : ℕ) : Type 0 where
-  pub column : ColumnRead s k c
+  pub column : ColumnRead s k c.offset c.ends
   pub same : run ≡ kept_run s k (c.offset + i)
 
 -- row i, which need not be there, beside which a run is kept if it is
 pub record Behind (s : List ℕ) (k : ℕ) (c : Column) (i run : ℕ) : Type 0 where
-  pub column : ColumnRead s k c
+  pub column : ColumnRead s k c.offset c.ends
   pub alone : in_runs s k ≡ false → run ≡ c.offset + i
   pub held : in_runs s k ≡ true → RunPart s k (c.offset + i) → run ≡ run_at s k (c.offset + i)
 

@@ -1,8 +1,7 @@
 // A node whose rows are asked one after another: what is read of it once, and the run that is kept beside the row.
 ghost use Rattle.std.specs.Prelude.{◌≡◌, ◌+◌, ◌<◌, ◌^◌};
 ghost use Rattle.image.specs.Of.{◌of◌};
-ghost use Rattle.accepted.specs.Parts.{Side};
-ghost use Rattle.accepted.specs.Runs.{ColumnRead, Kept, Stays, Remembered, remembering};
+ghost use Rattle.accepted.specs.Columns.{ColumnRead};
 
 use crate::runs::{next_run, run_of};
 use image::bytes::Numbers;
@@ -16,6 +15,7 @@ pub struct Column<'a> {
     pub offset: usize,
     // the ends of the runs, where the rows are in runs
     pub ends: Option<Numbers<'a>>,
+    ghost read: { ColumnRead node.image.now node.number offset ends },
 }
 
 // How long a run is kept: so many rows from a row on, and the run that is kept behind them.
@@ -33,13 +33,16 @@ pub struct KeptRun {
 }
 
 // Of each node the element behind the last that was asked for, and its run.
+// Kept: an array, and no struct that says of which image: each function would then ask that it is the node's.
 pub type KeptRuns = [Option<KeptRun>; MOST_NODES];
 
 impl<'a> Column<'a> {
+    ghost use Rattle.accepted.specs.Parts.{Side};
+    ghost use Rattle.accepted.specs.Runs.{Kept, Stays, Remembered, remembering};
+
     // What is read once of a node.
     pub fn new(node: Node<'a>) -> Column<'a>
-        ensures node { result.node ≡ node.entry }
-        ensures read { (ColumnRead of result.node) result }
+        ensures { result.node ≡ node.entry }
     {
         let offset = node.offset();
         if node.code() != TypeCode::RUN_END_ENCODED {
@@ -60,7 +63,6 @@ impl<'a> Column<'a> {
     // ended at row i; else it is found by bisection.
     pub fn first_run(self, i: usize, runs: &KeptRuns) -> usize
         requires side { (Side of self.node) i 1 }
-        requires column_read { (ColumnRead of self.node) self }
         requires remembered { Remembered self.node.image.now runs.now }
         ensures { (Kept of self.entry.node) self.entry i result }
     {

@@ -5,6 +5,7 @@ ghost use Rattle.image.specs.Utf8.{well_formed};
 use crate::table::next;
 
 // What is left of a text that is being walked, and the state that the walk is in.
+// Kept: a state is a number, since it is an index of the table, whose entries are states.
 #[derive(Clone, Copy)]
 pub(crate) struct Walk<'a> {
     pub left: &'a [u8],
