@@ -112,19 +112,17 @@ fn digit_text(x: u8) -> u8
 }
 
 // The first n bytes of an output, put after the first byte; how many they are.
-fn copy(n: usize, out: &[u8], bytes: &mut [u8]) -> usize
-    requires { (length out.now ≤ 64) × (length bytes.old ≡ 65) }
+fn copy(n: usize, out: &[u8; OUTPUT], bytes: &mut [u8; LONGEST_BYTES]) -> usize
     ensures value { result ≡ length (take n out.now) }
     ensures bytes_after { take (1 + result) bytes.new ≡ take 1 bytes.old ++ take n out.now }
 {
-    let most = n.min(out.len());
+    let most = n.min(OUTPUT);
     bytes[1..1 + most].copy_from_slice(&out[..most]);
     most
 }
 
 // The bytes of a refusal, put at the front of a buffer, and how many they are.
-fn refusal_bytes(refusal: Refusal, bytes: &mut [u8]) -> usize
-    requires { length bytes.old ≡ 65 }
+fn refusal_bytes(refusal: Refusal, bytes: &mut [u8; LONGEST_BYTES]) -> usize
     ensures value { result ≡ length (refusal_bytes refusal) }
     ensures bytes_after { take result bytes.new ≡ refusal_bytes refusal }
 {
@@ -143,8 +141,7 @@ fn refusal_bytes(refusal: Refusal, bytes: &mut [u8]) -> usize
 }
 
 // The bytes of a reply, put at the front of a buffer, and how many they are.
-fn answer_bytes(reply: Reply, out: &[u8], bytes: &mut [u8]) -> usize
-    requires { (length out.now ≤ 64) × (length bytes.old ≡ 65) }
+fn answer_bytes(reply: Reply, out: &[u8; OUTPUT], bytes: &mut [u8; LONGEST_BYTES]) -> usize
     ensures value { result ≡ length (answer_bytes reply out.now) }
     ensures bytes_after { take result bytes.new ≡ answer_bytes reply out.now }
 {
@@ -160,8 +157,11 @@ fn answer_bytes(reply: Reply, out: &[u8], bytes: &mut [u8]) -> usize
 }
 
 // The bytes of what a line is answered with, put at the front of a buffer, and how many they are.
-fn reply_bytes(reply: Result<Reply, Refusal>, out: &[u8], bytes: &mut [u8]) -> usize
-    requires { (length out.now ≤ 64) × (length bytes.old ≡ 65) }
+fn reply_bytes(
+    reply: Result<Reply, Refusal>,
+    out: &[u8; OUTPUT],
+    bytes: &mut [u8; LONGEST_BYTES],
+) -> usize
     ensures value { result ≡ length (reply_bytes reply out.now) }
     ensures bytes_after { take result bytes.new ≡ reply_bytes reply out.now }
 {
@@ -172,8 +172,8 @@ fn reply_bytes(reply: Result<Reply, Refusal>, out: &[u8], bytes: &mut [u8]) -> u
 }
 
 // The characters of bytes and a line feed, put at the front of a text, and how many they are.
-fn print(bytes: &[u8], text: &mut [u8]) -> usize
-    requires { (length bytes.now ≤ 65) × (length text.old ≡ 131) }
+fn print(bytes: &[u8], text: &mut [u8; LONGEST_REPLY]) -> usize
+    requires { length bytes.now ≤ 65 }
     ensures value { result ≡ length (line_text bytes.now) }
     ensures text_after { text.new ≡ line_text bytes.now ++ drop result text.old }
 {
