@@ -1,7 +1,7 @@
 // Replies and refusals, and the line of characters that each is printed as.
 ghost use Rattle.std.specs.Prelude.{◌≡◌, ◌++◌, ◌+◌, ◌≤◌, length, take, drop};
-ghost use Rattle.session.specs.declared.reply.Refusal.TheVariants.{NoFrame};
-ghost use Rattle.session.specs.Replies.{compared_reply, ranges_reply, written_reply, refusal_number, refusal_bytes, answer_bytes, reply_bytes, digit_text, line_text, reply_line};
+ghost use Rattle.session.specs.declared.reply.Refusal.TheVariants.{NoFrame, Faulty};
+ghost use Rattle.session.specs.Replies.{range_refusal, written_reply, refusal_number, refusal_bytes, answer_bytes, reply_bytes, digit_text, line_text, reply_line};
 
 use crate::frame::FrameFault;
 use crate::line::LINE_FEED;
@@ -66,30 +66,28 @@ impl From<FrameFault> for Refusal {
     }
 }
 
+impl From<SideFault> for Refusal {
+    ghost from_gives = { λ e r. r ≡ Faulty e.fault };
+
+    fn from(refusal: SideFault) -> Refusal {
+        Refusal::Faulty(refusal.fault)
+    }
+}
+
+impl From<RangeRefusal> for Refusal {
+    ghost from_gives = { λ e r. r ≡ range_refusal e };
+
+    fn from(refusal: RangeRefusal) -> Refusal {
+        match refusal {
+            RangeRefusal::Image(refusal) => Refusal::Faulty(refusal.fault),
+            RangeRefusal::UnequalTypes => Refusal::UnequalTypes,
+            RangeRefusal::OutOfRange(side) => Refusal::OutOfRange(side),
+        }
+    }
+}
+
 // A reply has at most so many bytes, of which an output has all but the first.
 const LONGEST_BYTES: usize = 65;
-
-// The reply to a comparison of tables.
-pub fn compared_reply(answer: Result<bool, SideFault>) -> Result<Reply, Refusal>
-    ensures { result ≡ compared_reply answer }
-{
-    match answer {
-        Ok(equal) => Ok(Reply::Answer(equal)),
-        Err(refusal) => Err(Refusal::Faulty(refusal.fault)),
-    }
-}
-
-// The reply to a comparison of ranges of rows.
-pub fn ranges_reply(answer: Result<bool, RangeRefusal>) -> Result<Reply, Refusal>
-    ensures { result ≡ ranges_reply answer }
-{
-    match answer {
-        Ok(equal) => Ok(Reply::Answer(equal)),
-        Err(RangeRefusal::Image(refusal)) => Err(Refusal::Faulty(refusal.fault)),
-        Err(RangeRefusal::UnequalTypes) => Err(Refusal::UnequalTypes),
-        Err(RangeRefusal::OutOfRange(side)) => Err(Refusal::OutOfRange(side)),
-    }
-}
 
 // The reply to a write of rows of a side.
 pub fn written_reply(answer: Result<usize, WriteRefusal>, side: Side) -> Result<Reply, Refusal>

@@ -8,7 +8,7 @@ ghost use Rattle.session.specs.Input.{fresh};
 
 use crate::frame::{Frame, FrameFault, parse};
 use crate::line::{LONGEST_FRAME, decode};
-use crate::reply::{Refusal, Reply, compared_reply, ranges_reply};
+use crate::reply::{Refusal, Reply};
 use crate::sizes::OUTPUT;
 use crate::store::Store;
 use api::{compare, compare_range};
@@ -50,7 +50,7 @@ impl Stores {
         if !self.both_closed() {
             return Err(Refusal::Open);
         }
-        compared_reply(compare(self.left.image(), self.right.image()))
+        Ok(Reply::Answer(compare(self.left.image(), self.right.image())?))
     }
 
     // The comparison of ranges of both sides.
@@ -60,7 +60,8 @@ impl Stores {
         if !self.both_closed() {
             return Err(Refusal::Open);
         }
-        ranges_reply(compare_range(self.left.image(), self.right.image(), i, j, n))
+        let equal = compare_range(self.left.image(), self.right.image(), i, j, n)?;
+        Ok(Reply::Answer(equal))
     }
 }
 
