@@ -107,10 +107,8 @@ impl Session {
     pub fn step(&mut self, line: &[u8]) -> Result<Reply, Refusal>
         ensures { after_of result self.new ≡ after_line_of line.now self.old }
     {
-        let mut frame = [0u8; LONGEST_FRAME];
-        let Some(n) = decode(line, &mut frame) else {
-            return Err(Refusal::NoFrame(FrameFault::NotHexadecimal));
-        };
-        self.obey(&frame[..n])
+        let mut buffer = [0u8; LONGEST_FRAME];
+        let frame = decode(line, &mut buffer).ok_or(FrameFault::NotHexadecimal)?;
+        self.obey(frame)
     }
 }
