@@ -3,7 +3,7 @@ ghost use Rattle.std.specs.Prelude.{◌≡◌, Ok};
 ghost use Rattle.std.specs.Borrow.{sem};
 ghost use Rattle.session.specs.declared.reply.Reply.TheVariants.{Done};
 ghost use Rattle.session.specs.Steps.{closed_both, compares_reply, range_reply};
-ghost use Rattle.session.specs.Stores.{opened, state_of, store_at, LendsStore, after_of, after_frame_of, after_line_of};
+ghost use Rattle.session.specs.Stores.{state_of, store_at, LendsStore, after_of, after_frame_of, after_line_of};
 ghost use Rattle.session.specs.Input.{fresh};
 
 use crate::frame::{Frame, FrameFault, parse};
