@@ -10,7 +10,7 @@ use borrow.Author.Tests.{eqb-true, ltb-true, ltb-false, lt-ltb, le-ltb}
 use Rattle.image.specs.declared.answer.Side.TheVariants.{Left, Right}
 use Rattle.image.specs.declared.answer.Fault.{Fault}
 use Rattle.image.specs.Faults.{Checked, check_image}
-use Rattle.std.proofs.Common.{Ok, Err}
+use Rattle.std.proofs.Common.{Result, Ok, Err}
 use Rattle.image.specs.Record.{max_depth, length_of}
 use Rattle.image.specs.Row.{row_at}
 use Rattle.image.specs.Types.{types_agree}
@@ -90,6 +90,15 @@ module _ (s t : List ℕ) (i j n : ℕ) where
 pub within : (s : List ℕ) (i n : ℕ) → exceeds s i n ≡ false → i + n ≤ length_of s 0
 unfolding exceeds
 within s i n e = ltb-false _ _ e
+
+-- Rows that are given only where a test passes: there they are those rows, and else the refusal is the test's.
+pub rows_given : {A E : Type 0} (x : Result (Unit {0}) E) (rows : A) {r : A} → (x >>= λ _. Ok rows) ≡ Ok r → (x ≡ Ok tt) × (r ≡ rows)
+rows_given (Ok _) rows e = (refl, cc)
+rows_given (Err f) rows e = (cc, cc)
+
+pub rows_refused : {A E : Type 0} (x : Result (Unit {0}) E) (rows : A) {f : E} → (x >>= λ _. Ok rows) ≡ Err f → x ≡ Err f
+rows_refused (Ok _) rows e = cc
+rows_refused (Err g) rows e = cc
 
 -- the rows that are compared
 pub range_sides : (s t : List ℕ) (i j n : ℕ) → paired_of s t ≡ Ok tt → bounds_of s t i j n ≡ Ok tt → Sides s t 0 0 i j n max_depth

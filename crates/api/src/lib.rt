@@ -6,7 +6,8 @@
 ghost use Rattle.std.specs.Prelude.{◌≡◌, Ok};
 ghost use Rattle.image.specs.Equality.{tables_equal};
 ghost use Rattle.image.specs.Faults.{check_image};
-ghost use Rattle.answers.specs.Answers.{compare_answer, paired_of, bounds_of, compare_range_answer, difference_answer, digits_answer, map_names_answer, write_answer, write_output, build_answer, build_output, exceeds, side_checked};
+ghost use Rattle.answers.specs.Answers.{compare_answer, paired_of, compare_range_answer, difference_answer, digits_answer, map_names_answer, write_answer, write_output, build_answer, build_output, exceeds, side_checked};
+ghost use Rattle.api.specs.Bounds.{rows_within};
 
 use accepted::column::KeptRuns;
 use answers::{BuildRefusal, DigitsRefusal, RangeRefusal, SideFault, WriteRefusal};
@@ -114,15 +115,15 @@ fn out_of_range(image: &[u8], start: usize, count: usize) -> bool
     rows - start < count
 }
 
-// Whether `count` rows of each of two tables from their starts on lie within.
-fn bounds_of(
+// `count` rows of each of two tables from their starts on, where they lie within.
+fn rows_within(
     left: &[u8],
     right: &[u8],
     left_start: usize,
     right_start: usize,
     count: usize,
-) -> Result<(), RangeRefusal>
-    ensures { result ≡ bounds_of left.now right.now left_start right_start count }
+) -> Result<Rows, RangeRefusal>
+    ensures { result ≡ rows_within left.now right.now left_start right_start count }
 {
     if out_of_range(left, left_start, count) {
         return Err(RangeRefusal::OutOfRange(Side::Left));
@@ -130,7 +131,11 @@ fn bounds_of(
     if out_of_range(right, right_start, count) {
         return Err(RangeRefusal::OutOfRange(Side::Right));
     }
-    Ok(())
+    Ok(Rows {
+        left: left_start,
+        right: right_start,
+        count: count,
+    })
 }
 
 // Whether `count` rows of two tables from their starts on are equal.
@@ -144,12 +149,7 @@ pub fn compare_range(
     ensures { result ≡ compare_range_answer left.now right.now left_start right_start count }
 {
     paired(left, right)?;
-    bounds_of(left, right, left_start, right_start, count)?;
-    let rows = Rows {
-        left: left_start,
-        right: right_start,
-        count: count,
-    };
+    let rows = rows_within(left, right, left_start, right_start, count)?;
     Ok(rows_equal(left, right, rows))
 }
 
@@ -164,14 +164,8 @@ pub fn first_difference(
     ensures { result ≡ difference_answer left.now right.now left_start right_start count }
 {
     paired(left, right)?;
-    bounds_of(left, right, left_start, right_start, count)?;
-    let rows = Rows {
-        left: left_start,
-        right: right_start,
-        count: count,
-    };
-    let row = difference::first_difference(left, right, rows);
-    Ok((row < count).then_some(row))
+    let rows = rows_within(left, right, left_start, right_start, count)?;
+    Ok(difference::first_difference(left, right, rows))
 }
 
 // Whether `count` rows of two tables of decimal numbers from their starts on agree, once so many digits are dropped.
@@ -189,12 +183,7 @@ pub fn compare_digits(
     if not_digits(left, digits) {
         return Err(DigitsRefusal::NotDigits);
     }
-    bounds_of(left, right, left_start, right_start, count)?;
-    let rows = Rows {
-        left: left_start,
-        right: right_start,
-        count: count,
-    };
+    let rows = rows_within(left, right, left_start, right_start, count)?;
     Ok(digits_equal(left, right, rows, digits))
 }
 

@@ -1,10 +1,14 @@
 -- The search for the first unequal row: rows known to be equal, a row known to be unequal, and the space between them.
 -- The first pair that fails lies from low on and before high where the first low pass and the first high do not.
-use mathlib.Core.Path.{◌≡◌, refl, sym, ◌∙◌}
+use mathlib.Core.Path.{◌≡◌, refl, sym, ap, ◌∙◌}
 use mathlib.Core.Bool.{Bool, true, false, ◌&&◌}
 use mathlib.Core.List.{List}
 use Prim.Native.Nat.{ℕ, ◌+◌, ◌-◌, ◌<◌, ◌≤◌, min, max}
 use native.Mathlib.Omega.{arith}
+use lib.Dec.{ltb}
+use borrow.Author.Tests.{lt-ltb, le-ltb}
+use Rattle.std.proofs.Common.{Option, Some, None}
+use Rattle.std.specs.Bool.{then_some}
 use Rattle.image.specs.Record.{max_depth}
 use Rattle.image.specs.Row.{row_at, table_rows}
 use Rattle.image.specs.Equality.{rows_differ, ranges_equal, first_difference}
@@ -75,9 +79,15 @@ module _ (a b : List ℕ) (i j n : ℕ) where
       let fails : all (same_rows a b) i j n ≡ false = all_rows_lem a b i j n ∙ e in
       between_first (same_rows a b) i j n (omega (arith, unequal_some (same_rows a b) i j n fails)) (omega arith) fails
 
+  -- the first unequal row, if there is one
+  abbrev row_answer : Option ℕ
+  row_answer = then_some (ltb (first_difference a b i j n) n) (first_difference a b i j n)
+
   -- all rows are equal
-  pub rows_nowhere : (k : ℕ) → n ≤ k → Passed (same_rows a b) i j n k → n ≡ first_difference a b i j n
-  rows_nowhere k le kept = unequal_end (same_rows a b) i j n k kept le ∙ first_row a b i j n
+  pub rows_nowhere : (k : ℕ) → n ≤ k → Passed (same_rows a b) i j n k → None ≡ row_answer
+  rows_nowhere k le kept =
+      let past : n ≡ first_difference a b i j n = unequal_end (same_rows a b) i j n k kept le ∙ first_row a b i j n in
+      rw (le-ltb (first_difference a b i j n) n (omega (arith, past)))
 
   -- m rows after k that are equal are not, and r is the first of them that is not
   module _ {k m r : ℕ} (le : m ≤ n - k) (kept : Passed (same_rows a b) i j n k) (fails : all (same_rows a b) (i + k) (j + k) m ≡ false) (e : r ≡ first_difference a b (i + k) (j + k) m) where
@@ -87,8 +97,10 @@ module _ (a b : List ℕ) (i j n : ℕ) where
     pub row_inside : r < m
     row_inside = rw is_first (unequal_some (same_rows a b) (i + k) (j + k) m fails)
 
-    pub row_found : k + r ≡ first_difference a b i j n
-    row_found = unequal_among (same_rows a b) i j n k kept m le is_first row_inside ∙ first_row a b i j n
+    pub row_found : Some (k + r) ≡ row_answer
+    row_found =
+        let found : k + r ≡ first_difference a b i j n = unequal_among (same_rows a b) i j n k kept m le is_first row_inside ∙ first_row a b i j n in
+        rw (lt-ltb (first_difference a b i j n) n (omega (arith, found, le, row_inside))) (ap Some found)
 
 -- rows inside a range
 pub sides_inside : {a b : List ℕ} {k l i j n d : ℕ} → Sides a b k l i j n d → (x m : ℕ) → x + m ≤ n → Sides a b k l (i + x) (j + x) m d

@@ -1,7 +1,8 @@
 // The first unequal row of two ranges: blocks of rows that grow, and a bisection of the block that is unequal.
 #![tactic(auto)]
 
-ghost use Rattle.std.specs.Prelude.{◌≡◌, false, ◌<◌, min, max};
+ghost use Rattle.std.specs.Prelude.{◌≡◌, false, ◌<◌, min, max, ltb};
+ghost use Rattle.std.specs.Bool.{then_some};
 ghost use Rattle.image.specs.Record.{max_depth};
 ghost use Rattle.image.specs.Equality.{ranges_equal, first_difference};
 ghost use Rattle.values.specs.Parts.{Sides};
@@ -43,10 +44,10 @@ fn block(k: usize, left: usize) -> usize
     left.min(k.max(1))
 }
 
-// The first unequal row, or the count where all are equal.
-pub fn first_difference(a: &[u8], b: &[u8], rows: Rows) -> usize
+// The first unequal row, if there is one.
+pub fn first_difference(a: &[u8], b: &[u8], rows: Rows) -> Option<usize>
     requires { Sides a.now b.now 0 0 rows.left rows.right rows.count max_depth }
-    ensures { result ≡ first_difference a.now b.now rows.left rows.right rows.count }
+    ensures { result ≡ then_some (ltb (first_difference a.now b.now rows.left rows.right rows.count) rows.count) (first_difference a.now b.now rows.left rows.right rows.count) }
 {
     let n = rows.count;
     let mut k: usize = 0;
@@ -54,9 +55,9 @@ pub fn first_difference(a: &[u8], b: &[u8], rows: Rows) -> usize
     while k < n {
         let part = rows.part(k, block(k, n - k));
         if !rows_equal(a, b, part) {
-            return k + first_unequal_row(a, b, part);
+            return Some(k + first_unequal_row(a, b, part));
         }
         k += part.count;
     }
-    n
+    None
 }

@@ -10,9 +10,10 @@ use lib.ListN.{length, get_or, take, drop, set, length-append, length-set, lengt
 use lib.Seq.{drop-cons, take-suc-set, length-take-le, append_snoc}
 use lib.Dec.{eqb, ltb}
 use borrow.Author.Tests.{ltb-true, ltb-false, lt-ltb, le-ltb, eq-eqb, ne_eqb}
-use Rattle.std.proofs.Common.{Option, Some, None}
+use Rattle.std.proofs.Common.{Option, Some, None, Ok, Err, Bor}
+use Rattle.std.specs.Option.{ok_or, option_copied}
 use Rattle.std.specs.Bool.{then_some}
-use Rattle.session.specs.Lines.{digit_of, digit_value, between, Found, bad, good, preceded, scan, not_too_long, bytes_of, frame_length, rest, NextByte}
+use Rattle.session.specs.Lines.{digit_of, digit_value, between, Found, bad, good, preceded, scan, not_too_long, bytes_of, frame_in, rest, NextByte}
 
 same_arms : {A : Type 0} (b : Bool) (x : A) → cond b x x ≡ x
 same_arms true x = refl
@@ -215,29 +216,31 @@ module _ (line frame : List ℕ) (at n : ℕ) (d : Decoded line frame at n) wher
   pub decoded_nothing : length line ≤ at → n ≡ 0 → bytes_of line ≡ []
   decoded_nothing end none = sym (decoded_done end).1 ∙ rw none refl
 
-  pub decoded_bytes : length line ≤ at → (n ≡ 0 → ⊥) → (Some n ≡ frame_length line) × (take (length (bytes_of line)) frame ≡ bytes_of line)
+  pub decoded_bytes : length line ≤ at → (n ≡ 0 → ⊥) → Some (take n frame) ≡ frame_in line
   decoded_bytes end some =
       let both = decoded_done end in
       let more : 0 < length (bytes_of line) = omega (arith, some, both.0) in
-      (rw (lt-ltb 0 (length (bytes_of line)) more) (ap Some both.0), ap (λ (m : ℕ). take m frame) (sym both.0) ∙ both.1)
+      rw (lt-ltb 0 (length (bytes_of line)) more) (ap Some both.1)
 
 -- a line without bytes
-pub none_decoded : (line frame : List ℕ) → bytes_of line ≡ [] → (◌≡◌ {A = Option ℕ} None (frame_length line)) × (take (length (bytes_of line)) frame ≡ bytes_of line)
-none_decoded line frame e = rw e (refl, refl)
+pub none_decoded : (line : List ℕ) → bytes_of line ≡ [] → None ≡ frame_in line
+none_decoded line e = rw e refl
 
-pub nothing_decoded : (line : List ℕ) → frame_length line ≡ None → bytes_of line ≡ []
-nothing_decoded line = cases (bytes_of line)
+-- What a decoder found is the line's bytes, and a line that it refuses has none.
+pub frame_found : {E : Type 0} (line : List ℕ) (found : Option (Bor (List ℕ))) (why : E) {frame : Bor (List ℕ)} → option_copied found ≡ frame_in line → ok_or found why ≡ Ok frame → frame.now ≡ bytes_of line
+frame_found line None why e is = cc
+frame_found line (Some f) why {frame} e is =
+    let same : f ≡ frame = cc in
+    rw (← same) (cases (ltb 0 (length (bytes_of line))) (bytes_of line) e)
   where
-    no_some : (n : ℕ) → ◌≡◌ {A = Option ℕ} (Some n) None → ⊥
-    no_some n e = cc
+    cases : (b : Bool) (xs : List ℕ) → Some f.now ≡ then_some b xs → f.now ≡ xs
+    cases true xs h = cc
+    cases false xs h = absurd (false≢true cc)
 
-    cases : (xs : List ℕ) → then_some (ltb 0 (length xs)) (length xs) ≡ None → xs ≡ []
-    cases [] e = refl
-    cases (x ∷ xs) e = let more : 0 < length (x ∷ xs) = omega arith in absurd (no_some (length (x ∷ xs)) (rw (lt-ltb 0 (length (x ∷ xs)) more) at e))
-
-pub something_decoded : (line : List ℕ) (n : ℕ) → frame_length line ≡ Some n → n ≡ length (bytes_of line)
-something_decoded line n = cases (ltb 0 (length (bytes_of line))) (length (bytes_of line))
+pub no_frame : {E : Type 0} (line : List ℕ) (found : Option (Bor (List ℕ))) {why e : E} → option_copied found ≡ frame_in line → ok_or found why ≡ Err e → (e ≡ why) × (bytes_of line ≡ [])
+no_frame line None e is = (cc, cases (bytes_of line) e)
   where
-    cases : (b : Bool) (m : ℕ) → then_some b m ≡ Some n → n ≡ m
-    cases true m e = let same : m ≡ n = cc in sym same
-    cases false m e = absurd (false≢true cc)
+    cases : (xs : List ℕ) → None ≡ then_some (ltb 0 (length xs)) xs → xs ≡ []
+    cases [] h = refl
+    cases (x ∷ xs) h = let more : 0 < length (x ∷ xs) = omega arith in let some : ◌≡◌ {A = Option (List ℕ)} None (Some (x ∷ xs)) = rw (lt-ltb 0 (length (x ∷ xs)) more) at h in cc
+no_frame line (Some f) e is = (cc, cc)

@@ -6,18 +6,18 @@ use mathlib.Core.Bool.{true, false}
 use mathlib.Core.List.{List, [], ◌++◌}
 use Prim.Native.Nat.{ℕ, ◌+◌, ◌≤◌, ◌<◌}
 use native.Mathlib.Omega.{arith}
-use lib.ListN.{length, drop, length-append, length-take}
+use lib.ListN.{length, drop, length-take}
 use lib.Seq.{take-append_seam}
 use borrow.Author.Tests.{lt-ltb}
 use Rattle.session.specs.declared.turn.Progress.{Progress}
 use Rattle.session.specs.declared.turn.Taken.{Taken}
 use Rattle.session.specs.declared.feed.Line.{Line}
-use Rattle.session.specs.Feeds.{before_feed, has_feed, kept_of, kept_with, kept_in}
+use Rattle.session.specs.Feeds.{before_feed, has_feed, kept_of, kept_with}
 use Rattle.session.specs.Replies.{Replied, reply_line}
-use Rattle.session.specs.Stores.{after_of, after_line_of}
-use Rattle.session.specs.Turns.{Reader, reader, Outcome, outcome, Turn, line_at, answered, turn_of, end_of, held_in, Told, Turned}
+use Rattle.session.specs.Stores.{kept_in, after_of, after_line_of}
+use Rattle.session.specs.Turns.{Reader, reader, outcome, Turn, line_at, answered, turn_of, end_of, held_in, Told, Turned}
 use Rattle.session.proofs.Feeds.{before_all}
-use Rattle.session.proofs.Turns.{turn_forward}
+use Rattle.session.proofs.Turns.{turn_forward, turn_within}
 
 -- a line that is stepped and rendered, after which none is kept
 pub told_line : (p : Progress) (line : List ℕ) (after : Progress) (r : Replied) (k : ℕ) (text₀ text₁ : List ℕ) → after_of r after.session ≡ after_line_of line p.session → after.line.len ≡ 0 →
@@ -84,9 +84,9 @@ module _ (chunk : List ℕ) (p : Progress) (text₀ : List ℕ) (line : Line) wh
         chars = chars ∙ a.chars;
       })
 
--- For a caller: what is printed stands within the text, what is consumed within the chunk, and a turn goes on.
-pub told_within : (t : Outcome) (r : Reader) (k : ℕ) (text₀ text₁ : List ℕ) → Told t r k text₀ text₁ → k ≤ length text₁
-told_within t r k text₀ text₁ told = rw told.text (rw length-append (omega (arith, told.printed)))
+-- For a caller: what is consumed stands within the chunk, and a turn goes on.
+pub turned_within : (chunk : List ℕ) (p : Progress) (text₀ : List ℕ) (t : Taken) (after : Progress) (text₁ : List ℕ) → Turned (turn_of chunk (held_in p)) p text₀ t after text₁ → t.consumed ≤ length chunk
+turned_within chunk p text₀ t after text₁ turned = omega (arith, turned.consumed, turn_within chunk (held_in p))
 
 pub turned_forward : (chunk : List ℕ) (p : Progress) (text₀ : List ℕ) (t : Taken) (after : Progress) (text₁ : List ℕ) → Turned (turn_of chunk (held_in p)) p text₀ t after text₁ → 0 < length chunk → 0 < t.consumed
 turned_forward chunk p text₀ t after text₁ turned more = omega (arith, turned.consumed, turn_forward chunk (held_in p) more)

@@ -15,7 +15,7 @@ use Rattle.session.specs.Steps.{After, after_line}
 use Rattle.session.specs.Sessions.{next, after_lines, replies}
 use Rattle.session.specs.Input.{lines_of, fresh, printed_from, printed}
 use Rattle.session.specs.Turns.{Reader, reader_at, Turn, outcome, answered, turn_of, end_of, turns_of, run_of}
-use Rattle.session.proofs.Feeds.{empty_none, before_none, none_both, before_all, around, lines_more, lines_last}
+use Rattle.session.proofs.Feeds.{empty_none, before_none, none_both, before_all, feed_inside, around, lines_more, lines_last}
 use Rattle.session.proofs.Fronts.{front_over}
 use Rattle.session.proofs.KeptEnough.{kept_answers}
 
@@ -105,6 +105,15 @@ turn_forward chunk r more = cases (has_feed chunk) refl
   where
     cases : (b : Bool) → has_feed chunk ≡ b → 0 < length (before_feed chunk) + cond b 1 0
     cases true e = omega arith
+    cases false e = rw (before_all chunk e) (omega arith)
+
+-- and no more than there are
+pub turn_within : (chunk : List ℕ) (r : Reader) → (turn_of chunk r).consumed ≤ length chunk
+unfolding turn_of
+turn_within chunk r = cases (has_feed chunk) refl
+  where
+    cases : (b : Bool) → has_feed chunk ≡ b → length (before_feed chunk) + cond b 1 0 ≤ length chunk
+    cases true e = omega (arith, feed_inside chunk e)
     cases false e = rw (before_all chunk e) (omega arith)
 
 no_more : (cs : List ℕ) → length cs ≤ 0 → cs ≡ []

@@ -1,7 +1,6 @@
 -- Feeding: the characters of a chunk, up to a line feed, are taken to those of a line that are kept already.
 use Rattle.std.specs.Prelude.{Bool, true, false, cond, List, [], ◌∷◌, ◌++◌, ℕ, length, take, eqb, Option}
 use Rattle.std.specs.Bool.{then_some}
-use Rattle.session.specs.declared.feed.Line.{Line}
 
 -- the characters before the first line feed
 unfoldable pub before_feed : List ℕ → List ℕ
@@ -24,7 +23,3 @@ kept_with kept more = take 195 (kept ++ more)
 -- what is kept of a line after a chunk's characters
 unfoldable pub kept_of : List ℕ → List ℕ → List ℕ
 kept_of kept chunk = kept_with kept (before_feed chunk)
-
--- what is kept stands at a line's front
-abbrev pub kept_in : Line → List ℕ
-kept_in line = take line.len line.chars

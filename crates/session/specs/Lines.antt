@@ -43,9 +43,9 @@ not_too_long (good xs) = cond (ltb 65 (length xs)) [] xs
 unfoldable pub bytes_of : List ℕ → List ℕ
 bytes_of line = not_too_long (scan line begin)
 
--- how many they are; none where there are none
-abbrev pub frame_length : List ℕ → Option ℕ
-frame_length line = then_some (ltb 0 (length (bytes_of line))) (length (bytes_of line))
+-- the frame that they are; none where there are none
+abbrev pub frame_in : List ℕ → Option (List ℕ)
+frame_in line = then_some (ltb 0 (length (bytes_of line))) (bytes_of line)
 
 -- what is found where the next byte has to begin, if there is one more
 unfoldable pub rest : List ℕ → Found

@@ -25,12 +25,16 @@ abbrev pub compared_reply : Result Bool SideFault → Replied
 compared_reply (Ok equal) = Ok (Answer equal)
 compared_reply (Err e) = Err (Faulty e.fault)
 
+-- why a comparison of ranges is refused, as a line's refusal
+abbrev pub range_refusal : RangeRefusal → Refusal
+range_refusal (RangeImage e) = Faulty e.fault
+range_refusal RangeUnequal = UnequalTypes
+range_refusal (RangeOut side) = OutOfRange side
+
 -- the reply to what a comparison of ranges answers
 abbrev pub ranges_reply : Result Bool RangeRefusal → Replied
 ranges_reply (Ok equal) = Ok (Answer equal)
-ranges_reply (Err (RangeImage e)) = Err (Faulty e.fault)
-ranges_reply (Err RangeUnequal) = Err UnequalTypes
-ranges_reply (Err (RangeOut side)) = Err (OutOfRange side)
+ranges_reply (Err e) = Err (range_refusal e)
 
 -- the reply to what a write of a side's rows answers
 abbrev pub written_reply : Result ℕ WriteRefusal → Side → Replied

@@ -1,8 +1,9 @@
 -- What a session holds, in the words of the steps: a side, both sides, and everything that a line may change.
-use Rattle.std.specs.Prelude.{false, List, ℕ, replicate}
+use Rattle.std.specs.Prelude.{List, ℕ, take}
 use Rattle.std.specs.Borrow.{Lends, MutBor, Fml}
 use Rattle.image.specs.declared.answer.Side.{Side}
 use Rattle.image.specs.declared.answer.Side.TheVariants.{Left, Right}
+use Rattle.session.specs.declared.feed.Line.{Line}
 use Rattle.session.specs.declared.store.Store.{Store}
 use Rattle.session.specs.declared.step.Stores.{Stores}
 use Rattle.session.specs.declared.step.Session.{Session}
@@ -11,15 +12,15 @@ use Rattle.session.specs.contracts.step.Stores.{the_row}
 use Rattle.session.specs.Replies.{Replied}
 use Rattle.session.specs.Steps.{SideState, State, side_state, replied, After, after, after_frame, after_line}
 
--- a store that is empty and open
-abbrev pub opened : Store
-opened = record { bytes = replicate 24576 0; used = 0; closed = false }
-
 abbrev pub side_of_store : Store → SideState
 side_of_store s = side_state s.used s.closed
 
 abbrev pub state_of : Stores → State
 state_of s = record { left = side_of_store s.left; right = side_of_store s.right }
+
+-- of a line what is kept, at its front
+abbrev pub kept_in : Line → List ℕ
+kept_in line = take line.len line.chars
 
 -- the store of a side, and the stores with another there
 abbrev pub store_at : Side → Stores → Store

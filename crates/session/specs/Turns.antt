@@ -2,10 +2,10 @@
 use Rattle.std.specs.Prelude.{cond, List, [], ◌∷◌, ◌++◌, ◌≡◌, ℕ, zero, suc, ◌+◌, length, drop, ltb}
 use Rattle.session.specs.declared.turn.Progress.{Progress}
 use Rattle.session.specs.declared.turn.Taken.{Taken}
-use Rattle.session.specs.Feeds.{before_feed, has_feed, kept_of, kept_in}
+use Rattle.session.specs.Feeds.{before_feed, has_feed, kept_of}
 use Rattle.session.specs.Replies.{reply_line}
 use Rattle.session.specs.Steps.{State, After, after_line}
-use Rattle.session.specs.Stores.{state_of}
+use Rattle.session.specs.Stores.{state_of, kept_in}
 
 -- What is held between two turns: of a line that has begun its first characters, 195 at most, and the session. Nothing is
 -- kept exactly where no line has begun.

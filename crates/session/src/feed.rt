@@ -1,6 +1,6 @@
 // Lines out of the chunks that the input arrives in.
-ghost use Rattle.std.specs.Prelude.{◌≡◌, ◌++◌, length, drop, replicate};
-ghost use Rattle.session.specs.Feeds.{feed_at, kept_in, kept_with};
+ghost use Rattle.std.specs.Prelude.{◌≡◌, ◌≤◌};
+ghost use Rattle.session.specs.Feeds.{feed_at};
 
 use crate::line::LINE_FEED;
 use crate::sizes::KEPT;
@@ -19,9 +19,14 @@ pub struct Line {
     // how many of them are kept; none where no line has begun
     // Kept: 0 stands for nothing else: a line has begun exactly where a character is kept.
     pub len: usize,
+    ghost within: { len ≤ 195 },
 }
 
 impl Line {
+    ghost use Rattle.std.specs.Prelude.{◌++◌, length, drop, replicate};
+    ghost use Rattle.session.specs.Feeds.{kept_with};
+    ghost use Rattle.session.specs.Stores.{kept_in};
+
     // No line has begun.
     pub fn new() -> Line
         ensures chars { result.chars ≡ replicate 195 0 }
@@ -37,7 +42,7 @@ impl Line {
     pub fn kept(&self) -> &[u8]
         ensures { result.now ≡ kept_in self.now }
     {
-        &self.chars[..self.len.min(KEPT)]
+        &self.chars[..self.len]
     }
 
     // More characters of the line, kept as long as there is room.
@@ -45,7 +50,7 @@ impl Line {
         ensures len { self.new.len ≡ length (kept_with (kept_in self.old) more.now) }
         ensures chars { self.new.chars ≡ kept_with (kept_in self.old) more.now ++ drop (length (kept_with (kept_in self.old) more.now)) self.old.chars }
     {
-        let at = self.len.min(KEPT);
+        let at = self.len;
         let n = more.len().min(KEPT - at);
         self.chars[at..at + n].copy_from_slice(&more[..n]);
         self.len = at + n;

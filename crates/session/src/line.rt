@@ -1,6 +1,7 @@
 // Lines of lower-case hexadecimal.
-ghost use Rattle.std.specs.Prelude.{◌≡◌, ◌≤◌, length, take};
-ghost use Rattle.session.specs.Lines.{digit_value, bytes_of, frame_length, NextByte};
+ghost use Rattle.std.specs.Prelude.{◌≡◌, ◌≤◌, length};
+ghost use Rattle.std.specs.Option.{option_copied};
+ghost use Rattle.session.specs.Lines.{digit_value, frame_in, NextByte};
 
 // A frame has at most so many bytes.
 pub const LONGEST_FRAME: usize = 65;
@@ -37,13 +38,11 @@ fn after_byte(line: &[u8], at: usize) -> usize
     at
 }
 
-// The bytes that a line stands for, put into the frame, and how many they are: None where the line is not 1 to 65 bytes
-// of hexadecimal.
-pub fn decode(line: &[u8], frame: &mut [u8; LONGEST_FRAME]) -> Option<usize>
-    ensures value { result ≡ frame_length line.now }
-    ensures frame_after { take (length (bytes_of line.now)) frame.new ≡ bytes_of line.now }
+// The bytes that a line stands for, at the front of the buffer: None where the line is not 1 to 65 bytes of hexadecimal.
+pub fn decode<'a>(line: &[u8], buffer: &'a mut [u8; LONGEST_FRAME]) -> Option<&'a [u8]>
+    ensures { option_copied result ≡ frame_in line.now }
 {
-    let bytes: &mut [u8] = frame;
+    let bytes: &mut [u8] = buffer;
     let mut at: usize = 0;
     let mut n: usize = 0;
     // Kept: a loop over places, since a byte has two characters and at times a space before the next.
@@ -63,5 +62,5 @@ pub fn decode(line: &[u8], frame: &mut [u8; LONGEST_FRAME]) -> Option<usize>
     if n == 0 {
         return None;
     }
-    Some(n)
+    Some(&bytes[..n])
 }

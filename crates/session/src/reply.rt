@@ -1,7 +1,7 @@
 // Replies and refusals, and the line of characters that each is printed as.
 ghost use Rattle.std.specs.Prelude.{◌≡◌, ◌++◌, ◌+◌, ◌≤◌, length, take, drop};
-ghost use Rattle.session.specs.declared.reply.Refusal.TheVariants.{NoFrame};
-ghost use Rattle.session.specs.Replies.{compared_reply, ranges_reply, written_reply, refusal_number, refusal_bytes, answer_bytes, reply_bytes, digit_text, line_text, reply_line};
+ghost use Rattle.session.specs.declared.reply.Refusal.TheVariants.{NoFrame, Faulty};
+ghost use Rattle.session.specs.Replies.{range_refusal, written_reply, refusal_number, refusal_bytes, answer_bytes, reply_bytes, digit_text, line_text, reply_line};
 
 use crate::frame::FrameFault;
 use crate::line::LINE_FEED;
@@ -66,30 +66,28 @@ impl From<FrameFault> for Refusal {
     }
 }
 
+impl From<SideFault> for Refusal {
+    ghost from_gives = { λ e r. r ≡ Faulty e.fault };
+
+    fn from(refusal: SideFault) -> Refusal {
+        Refusal::Faulty(refusal.fault)
+    }
+}
+
+impl From<RangeRefusal> for Refusal {
+    ghost from_gives = { λ e r. r ≡ range_refusal e };
+
+    fn from(refusal: RangeRefusal) -> Refusal {
+        match refusal {
+            RangeRefusal::Image(refusal) => Refusal::Faulty(refusal.fault),
+            RangeRefusal::UnequalTypes => Refusal::UnequalTypes,
+            RangeRefusal::OutOfRange(side) => Refusal::OutOfRange(side),
+        }
+    }
+}
+
 // A reply has at most so many bytes, of which an output has all but the first.
 const LONGEST_BYTES: usize = 65;
-
-// The reply to a comparison of tables.
-pub fn compared_reply(answer: Result<bool, SideFault>) -> Result<Reply, Refusal>
-    ensures { result ≡ compared_reply answer }
-{
-    match answer {
-        Ok(equal) => Ok(Reply::Answer(equal)),
-        Err(refusal) => Err(Refusal::Faulty(refusal.fault)),
-    }
-}
-
-// The reply to a comparison of ranges of rows.
-pub fn ranges_reply(answer: Result<bool, RangeRefusal>) -> Result<Reply, Refusal>
-    ensures { result ≡ ranges_reply answer }
-{
-    match answer {
-        Ok(equal) => Ok(Reply::Answer(equal)),
-        Err(RangeRefusal::Image(refusal)) => Err(Refusal::Faulty(refusal.fault)),
-        Err(RangeRefusal::UnequalTypes) => Err(Refusal::UnequalTypes),
-        Err(RangeRefusal::OutOfRange(side)) => Err(Refusal::OutOfRange(side)),
-    }
-}
 
 // The reply to a write of rows of a side.
 pub fn written_reply(answer: Result<usize, WriteRefusal>, side: Side) -> Result<Reply, Refusal>
@@ -112,19 +110,17 @@ fn digit_text(x: u8) -> u8
 }
 
 // The first n bytes of an output, put after the first byte; how many they are.
-fn copy(n: usize, out: &[u8], bytes: &mut [u8]) -> usize
-    requires { (length out.now ≤ 64) × (length bytes.old ≡ 65) }
+fn copy(n: usize, out: &[u8; OUTPUT], bytes: &mut [u8; LONGEST_BYTES]) -> usize
     ensures value { result ≡ length (take n out.now) }
     ensures bytes_after { take (1 + result) bytes.new ≡ take 1 bytes.old ++ take n out.now }
 {
-    let most = n.min(out.len());
+    let most = n.min(OUTPUT);
     bytes[1..1 + most].copy_from_slice(&out[..most]);
     most
 }
 
 // The bytes of a refusal, put at the front of a buffer, and how many they are.
-fn refusal_bytes(refusal: Refusal, bytes: &mut [u8]) -> usize
-    requires { length bytes.old ≡ 65 }
+fn refusal_bytes(refusal: Refusal, bytes: &mut [u8; LONGEST_BYTES]) -> usize
     ensures value { result ≡ length (refusal_bytes refusal) }
     ensures bytes_after { take result bytes.new ≡ refusal_bytes refusal }
 {
@@ -143,8 +139,7 @@ fn refusal_bytes(refusal: Refusal, bytes: &mut [u8]) -> usize
 }
 
 // The bytes of a reply, put at the front of a buffer, and how many they are.
-fn answer_bytes(reply: Reply, out: &[u8], bytes: &mut [u8]) -> usize
-    requires { (length out.now ≤ 64) × (length bytes.old ≡ 65) }
+fn answer_bytes(reply: Reply, out: &[u8; OUTPUT], bytes: &mut [u8; LONGEST_BYTES]) -> usize
     ensures value { result ≡ length (answer_bytes reply out.now) }
     ensures bytes_after { take result bytes.new ≡ answer_bytes reply out.now }
 {
@@ -160,8 +155,11 @@ fn answer_bytes(reply: Reply, out: &[u8], bytes: &mut [u8]) -> usize
 }
 
 // The bytes of what a line is answered with, put at the front of a buffer, and how many they are.
-fn reply_bytes(reply: Result<Reply, Refusal>, out: &[u8], bytes: &mut [u8]) -> usize
-    requires { (length out.now ≤ 64) × (length bytes.old ≡ 65) }
+fn reply_bytes(
+    reply: Result<Reply, Refusal>,
+    out: &[u8; OUTPUT],
+    bytes: &mut [u8; LONGEST_BYTES],
+) -> usize
     ensures value { result ≡ length (reply_bytes reply out.now) }
     ensures bytes_after { take result bytes.new ≡ reply_bytes reply out.now }
 {
@@ -172,8 +170,8 @@ fn reply_bytes(reply: Result<Reply, Refusal>, out: &[u8], bytes: &mut [u8]) -> u
 }
 
 // The characters of bytes and a line feed, put at the front of a text, and how many they are.
-fn print(bytes: &[u8], text: &mut [u8]) -> usize
-    requires { (length bytes.now ≤ 65) × (length text.old ≡ 131) }
+fn print(bytes: &[u8], text: &mut [u8; LONGEST_REPLY]) -> usize
+    requires { length bytes.now ≤ 65 }
     ensures value { result ≡ length (line_text bytes.now) }
     ensures text_after { text.new ≡ line_text bytes.now ++ drop result text.old }
 {

@@ -3,12 +3,12 @@ ghost use Rattle.std.specs.Prelude.{◌≡◌, Ok};
 ghost use Rattle.std.specs.Borrow.{sem};
 ghost use Rattle.session.specs.declared.reply.Reply.TheVariants.{Done};
 ghost use Rattle.session.specs.Steps.{closed_both, compares_reply, range_reply};
-ghost use Rattle.session.specs.Stores.{opened, state_of, store_at, LendsStore, after_of, after_frame_of, after_line_of};
+ghost use Rattle.session.specs.Stores.{state_of, store_at, LendsStore, after_of, after_frame_of, after_line_of};
 ghost use Rattle.session.specs.Input.{fresh};
 
 use crate::frame::{Frame, FrameFault, parse};
 use crate::line::{LONGEST_FRAME, decode};
-use crate::reply::{Refusal, Reply, compared_reply, ranges_reply};
+use crate::reply::{Refusal, Reply};
 use crate::sizes::OUTPUT;
 use crate::store::Store;
 use api::{compare, compare_range};
@@ -50,7 +50,7 @@ impl Stores {
         if !self.both_closed() {
             return Err(Refusal::Open);
         }
-        compared_reply(compare(self.left.image(), self.right.image()))
+        Ok(Reply::Answer(compare(self.left.image(), self.right.image())?))
     }
 
     // The comparison of ranges of both sides.
@@ -60,7 +60,8 @@ impl Stores {
         if !self.both_closed() {
             return Err(Refusal::Open);
         }
-        ranges_reply(compare_range(self.left.image(), self.right.image(), i, j, n))
+        let equal = compare_range(self.left.image(), self.right.image(), i, j, n)?;
+        Ok(Reply::Answer(equal))
     }
 }
 
@@ -106,10 +107,8 @@ impl Session {
     pub fn step(&mut self, line: &[u8]) -> Result<Reply, Refusal>
         ensures { after_of result self.new ≡ after_line_of line.now self.old }
     {
-        let mut frame = [0u8; LONGEST_FRAME];
-        let Some(n) = decode(line, &mut frame) else {
-            return Err(Refusal::NoFrame(FrameFault::NotHexadecimal));
-        };
-        self.obey(&frame[..n])
+        let mut buffer = [0u8; LONGEST_FRAME];
+        let frame = decode(line, &mut buffer).ok_or(FrameFault::NotHexadecimal)?;
+        self.obey(frame)
     }
 }

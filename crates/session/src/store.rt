@@ -1,7 +1,5 @@
 // One side's store.
-ghost use Rattle.std.specs.Prelude.{◌≡◌};
-ghost use Rattle.session.specs.Steps.{side_stepped, emptied, image_of, piece_side, piece_store, close_side, write_reply, write_out};
-ghost use Rattle.session.specs.Stores.{opened, side_of_store};
+ghost use Rattle.std.specs.Prelude.{◌≤◌};
 
 use crate::reply::{Refusal, Reply, written_reply};
 use crate::sizes::STORE;
@@ -15,12 +13,18 @@ pub struct Store {
     used: usize,
     // Kept: open or closed, a store has the same fields; an enum would say them twice.
     pub closed: bool,
+    ghost within: { used ≤ 24576 },
 }
 
 impl Store {
+    ghost use Rattle.std.specs.Prelude.{◌≡◌, replicate};
+    ghost use Rattle.session.specs.Steps.{side_stepped, emptied, image_of, piece_side, piece_store, close_side, write_reply, write_out};
+    ghost use Rattle.session.specs.Stores.{side_of_store};
+
     // A store that is empty and open.
     pub fn new() -> Store
-        ensures { result ≡ opened }
+        ensures side { side_of_store result ≡ emptied }
+        ensures bytes { result.bytes ≡ replicate 24576 0 }
     {
         Store {
             bytes: [0; STORE],
@@ -33,7 +37,7 @@ impl Store {
     pub fn image(&self) -> &[u8]
         ensures { result.now ≡ image_of (side_of_store self.now) self.now.bytes }
     {
-        &self.bytes[..self.used.min(STORE)]
+        &self.bytes[..self.used]
     }
 
     // A piece: refused where the side is closed, or where the piece does not fit into the store.

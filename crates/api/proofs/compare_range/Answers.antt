@@ -4,7 +4,7 @@ use mathlib.Core.Path.{sym, ◌∙◌}
 use Rattle.std.proofs.lemmas.Result.{err_from_is_err_and}
 use Rattle.answers.specs.Answers.{compare_range_answer}
 use Rattle.equal.proofs.Types.{table_answer}
-use Rattle.api.proofs.Answers.{range_sides}
+use Rattle.api.proofs.Answers.{range_sides, rows_given, rows_refused}
 use Rattle.api.proofs.compare_range.Goals as goal
 
 pub returns-in_err-paired : goal.returns-in_err-paired
@@ -13,15 +13,20 @@ returns-in_err-paired c =
     let p = err_from_is_err_and c.from_residual.result c.from_residual.ensures.1 in
     rw (p.1, p.2, ← c.paired.ensures, c.in_err-paired.was)
 
-pub returns-in_err-bounds_of : goal.returns-in_err-bounds_of
+pub returns-in_err-rows : goal.returns-in_err-rows
 unfolding compare_range_answer
-returns-in_err-bounds_of c =
-    let p = err_from_is_err_and c.from_residual-in_err-bounds_of.result c.from_residual-in_err-bounds_of.ensures.1 in
-    rw (p.1, p.2, ← c.paired.ensures, c.in_ok-paired.was, ← c.bounds_of.ensures, c.in_err-bounds_of.was)
+returns-in_err-rows c =
+    let p = err_from_is_err_and c.from_residual-in_err-rows.result c.from_residual-in_err-rows.ensures.1 in
+    rw (p.1, p.2, ← c.paired.ensures, c.in_ok-paired.was, rows_refused _ _ (sym c.rows_within.ensures ∙ c.in_err-rows.was))
 
 pub rows_equal-requires : goal.rows_equal-requires
-rows_equal-requires c = range_sides _ _ _ _ _ (sym c.paired.ensures ∙ c.in_ok-paired.was) (sym c.bounds_of.ensures ∙ c.in_ok-bounds_of.was)
+rows_equal-requires c =
+    let both = rows_given _ _ (sym c.rows_within.ensures ∙ c.in_ok-rows.was) in
+    rw both.1 (range_sides _ _ _ _ _ (sym c.paired.ensures ∙ c.in_ok-paired.was) both.0)
 
 pub returns : goal.returns
 unfolding compare_range_answer
-returns c = rw (← c.paired.ensures, c.in_ok-paired.was, ← c.bounds_of.ensures, c.in_ok-bounds_of.was, ← table_answer _ _ _ _ _, ← c.rows_equal.ensures)
+returns c =
+    let both = rows_given _ _ (sym c.rows_within.ensures ∙ c.in_ok-rows.was) in
+    let same = rw both.1 at c.rows_equal.ensures in
+    rw (← c.paired.ensures, c.in_ok-paired.was, both.0, ← table_answer _ _ _ _ _, ← same)

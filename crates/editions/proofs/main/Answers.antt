@@ -1,25 +1,13 @@
 -- Every place of the program is reached with what its calls over the whole input so far lead to, and with the sizes that its
 -- calls need.
-use Rattle.std.proofs.Common.{Bool, true, false, ◌≡◌, ◌+◌, ◌-◌, ◌<◌, ◌≤◌, ℕ, List, [], length, take, drop, rules, tests, arith}
-use mathlib.Core.Bool.{cond}
-use mathlib.Core.Path.{refl, sym, subst}
+use Rattle.std.proofs.Common.{◌≡◌, ◌-◌, ◌<◌, ◌≤◌, ℕ, List, [], length, take, drop, rules, tests, arith}
+use mathlib.Core.Path.{sym, subst}
 use lib.ListN.{length-take, length-drop, drop_of_length-le}
 use lib.Seq.{take_all}
-use Rattle.session.specs.Feeds.{before_feed, has_feed}
-use Rattle.session.specs.Turns.{Reader, turn_of, held_in}
-use Rattle.session.proofs.Feeds.{before_all, feed_inside}
+use Rattle.session.specs.Turns.{held_in}
 use Rattle.session.proofs.Reading.{Read, read_start, read_chunk, read_turn, read_on}
-use Rattle.session.proofs.Takes.{turned_forward}
+use Rattle.session.proofs.Takes.{turned_within, turned_forward}
 use Rattle.editions.proofs.main.Goals as goal
-
--- a turn consumes no more than there is
-turn_within : (chunk : List ℕ) (r : Reader) → (turn_of chunk r).consumed ≤ length chunk
-unfolding turn_of
-turn_within chunk r = cases (has_feed chunk) refl
-  where
-    cases : (b : Bool) → has_feed chunk ≡ b → length (before_feed chunk) + cond b 1 0 ≤ length chunk
-    cases true e = omega (arith, feed_inside chunk e)
-    cases false e = rw (before_all chunk e) (omega arith)
 
 -- what a turn leaves of a chunk
 rest_whole : (n : ℕ) (left : List ℕ) → take (length left - n) (drop n left) ≡ drop n left
@@ -32,10 +20,10 @@ pub loop-left-init : goal.loop-left-init
 loop-left-init c = read_chunk _ _ c.loop.invariant
 
 pub slice_bounds-left-count : goal.slice_bounds-left-count
-slice_bounds-left-count c = omega (arith, c.turn-taken.ensures.consumed, turn_within c.loop-left.left.now (held_in c.loop-left.progress))
+slice_bounds-left-count c = turned_within _ _ _ _ _ _ c.turn-taken.ensures
 
 pub slice_bounds-left-start : goal.slice_bounds-left-start
-slice_bounds-left-start c = omega (arith, c.turn-taken.ensures.consumed, turn_within c.loop-left.left.now (held_in c.loop-left.progress))
+slice_bounds-left-start c = turned_within _ _ _ _ _ _ c.turn-taken.ensures
 
 pub loop-left-smaller : goal.loop-left-smaller
 loop-left-smaller c =

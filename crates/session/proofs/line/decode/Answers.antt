@@ -10,24 +10,21 @@ pub loop-at-init : goal.loop-at-init
 loop-at-init c = decoded_none _ _ (search rules)
 
 pub returns-then-line-at-lt2 : goal.returns-then-line-at-lt2
-returns-then-line-at-lt2 c = let both = none_decoded _ _ (decoded_bad _ _ _ _ c.loop-at.invariant (rest_short _ _ c.loop-at-test.true c.if-line-at-lt2.true)) in record { value = both.0; frame_after = both.1 }
+returns-then-line-at-lt2 c = none_decoded _ (decoded_bad _ _ _ _ c.loop-at.invariant (rest_short _ _ c.loop-at-test.true c.if-line-at-lt2.true))
 
 pub returns-in_err-high : goal.returns-in_err-high
 returns-in_err-high c =
-    let both = none_decoded _ c.loop-at.bytes (decoded_bad _ _ _ _ c.loop-at.invariant (rest_high _ _ c.loop-at-test.true _ refl (no_digit _ (sym c.digit.ensures ∙ c.in_err-high.was)))) in
-    record { value = c.from_residual.ensures ∙ both.0; frame_after = both.1 }
+    rw c.from_residual.ensures (none_decoded _ (decoded_bad _ _ _ _ c.loop-at.invariant (rest_high _ _ c.loop-at-test.true _ refl (no_digit _ (sym c.digit.ensures ∙ c.in_err-high.was)))))
 
 pub returns-in_err-low : goal.returns-in_err-low
 returns-in_err-low c =
-    let both = none_decoded _ c.loop-at.bytes (decoded_bad _ _ _ _ c.loop-at.invariant (rest_low c.args.line.now c.loop-at.at c.if-line-at-lt2.false _ refl (no_digit _ (sym c.digit-in-loop-at.ensures ∙ c.in_err-low.was)))) in
-    record { value = c.from_residual-in_err-low.ensures ∙ both.0; frame_after = both.1 }
+    rw c.from_residual-in_err-low.ensures (none_decoded _ (decoded_bad _ _ _ _ c.loop-at.invariant (rest_low c.args.line.now c.loop-at.at c.if-line-at-lt2.false _ refl (no_digit _ (sym c.digit-in-loop-at.ensures ∙ c.in_err-low.was)))))
 
 pub returns-then-n-eq-LONGEST_FRAME : goal.returns-then-n-eq-LONGEST_FRAME
 returns-then-n-eq-LONGEST_FRAME c =
     let high = digit_found _ _ (sym c.digit.ensures ∙ c.in_ok-high.was) in
     let low = digit_found _ _ (sym c.digit-in-loop-at.ensures ∙ c.in_ok-low.was) in
-    let both = none_decoded _ c.loop-at.bytes (decoded_full _ _ _ _ c.loop-at.invariant _ _ (record { more = c.if-line-at-lt2.false; first = high.0; second = low.0; high_small = high.1; low_small = low.1 }) c.if-n-eq-LONGEST_FRAME.true) in
-    record { value = both.0; frame_after = both.1 }
+    none_decoded _ (decoded_full _ _ _ _ c.loop-at.invariant _ _ (record { more = c.if-line-at-lt2.false; first = high.0; second = low.0; high_small = high.1; low_small = low.1 }) c.if-n-eq-LONGEST_FRAME.true)
 
 pub overflow_mul-bytes : goal.overflow_mul-bytes
 overflow_mul-bytes c = record { fits = omega (arith, (digit_found _ _ (sym c.digit.ensures ∙ c.in_ok-high.was)).1) }
@@ -52,8 +49,7 @@ loop-at-preserved c =
 
 pub returns-then-n-eq0 : goal.returns-then-n-eq0
 returns-then-n-eq0 c =
-    let both = none_decoded _ c.loop-at.bytes (decoded_nothing _ _ _ _ c.loop-at.invariant c.loop-at-test.false c.if-n-eq0.true) in
-    record { value = both.0; frame_after = both.1 }
+    none_decoded _ (decoded_nothing _ _ _ _ c.loop-at.invariant c.loop-at-test.false c.if-n-eq0.true)
 
 pub returns : goal.returns
-returns c = let both = decoded_bytes _ _ _ _ c.loop-at.invariant c.loop-at-test.false c.if-n-eq0.false in record { value = both.0; frame_after = both.1 }
+returns c = decoded_bytes _ _ _ _ c.loop-at.invariant c.loop-at-test.false c.if-n-eq0.false

@@ -1,9 +1,8 @@
 -- The characters of bytes and a line feed stand at the front of the text.
 -- The loop keeps that the text begins with the characters of the bytes so far.
 use Rattle.session.proofs.Texts.{Printed, printed_none, printed_more, printed_done}
-use mathlib.Core.Path.{◌≡◌, ◌∙◌}
-use Prim.Native.Nat.{◌*◌}
-use lib.ListN.{length, length-set}
+use mathlib.Core.Path.{◌≡◌}
+use lib.ListN.{length}
 use native.Mathlib.Omega.{arith}
 use Rattle.session.proofs.reply.print.Goals as goal
 
@@ -11,23 +10,20 @@ pub loop-k-init : goal.loop-k-init
 loop-k-init c = printed_none _ _
 
 pub bounds-text-k : goal.bounds-text-k
-bounds-text-k c = omega (arith, c.loop-k.invariant.sized, c.requires.0, c.requires.1)
+bounds-text-k c = omega (arith, c.requires)
 
 pub bounds-text-k-in-loop-k : goal.bounds-text-k-in-loop-k
-bounds-text-k-in-loop-k c = simp length-set (omega (arith, c.loop-k.invariant.sized, c.requires.0, c.requires.1))
+bounds-text-k-in-loop-k c = omega (arith, c.requires)
 
 pub loop-k-preserved : goal.loop-k-preserved
-loop-k-preserved c = printed_more _ _ _ _ c.loop-k.invariant _ _ c.loop-k-test.true (omega (arith, c.requires.0, c.requires.1)) c.digit_text.ensures c.digit_text-in-loop-k.ensures
+loop-k-preserved c = printed_more _ _ _ _ c.loop-k.invariant _ _ c.loop-k-test.true (omega (arith, c.requires)) c.digit_text.ensures c.digit_text-in-loop-k.ensures
 
 pub bounds-text-n : goal.bounds-text-n
-bounds-text-n c = omega (arith, c.loop-k.invariant.sized, c.requires.0, c.requires.1)
-
-pub shape_of-text : goal.shape_of-text
-shape_of-text c = length-set c.loop-k.text (2 * length c.args.bytes.now) 10 ∙ c.loop-k.invariant.sized
+bounds-text-n c = omega (arith, c.requires)
 
 pub returns : goal.returns
 returns c =
     let all : c.loop-k.k ≡ length c.args.bytes.now = omega (arith, c.loop-k.invariant.within, c.loop-k-test.false) in
     let done : Printed c.args.bytes.now c.args.text.now c.loop-k.text (length c.args.bytes.now) = rw all at c.loop-k.invariant in
-    let both = printed_done _ _ _ _ done (omega arith) (omega (arith, c.requires.0, c.requires.1)) in
+    let both = printed_done _ _ _ _ done (omega arith) (omega (arith, c.requires)) in
     record { value = both.0; text_after = both.1 }

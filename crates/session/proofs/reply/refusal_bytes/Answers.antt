@@ -13,11 +13,11 @@ returns-in-Faulty c =
     rw (← c.number.ensures, c.in-Faulty.is)
     (record {
       value = refl;
-      bytes_after = number_then c.number.result c.in-Faulty.fault.node c.args.bytes.now _ (omega (arith, c.requires)) (c.copy_from_slice.ensures.after ∙ c.to_le_bytes.ensures);
+      bytes_after = number_then c.number.result c.in-Faulty.fault.node c.args.bytes.now _ (omega arith) (c.copy_from_slice.ensures.after ∙ c.to_le_bytes.ensures);
     })
 
 pub returns-in-OutOfRange : goal.returns-in-OutOfRange
-returns-in-OutOfRange c = rw (← c.number.ensures, c.in-OutOfRange.is, ← c.side_number.ensures) (record { value = refl; bytes_after = puts c.args.bytes.now (c.number.result ∷ c.side_number.result ∷ []) (omega (arith, c.requires)) })
+returns-in-OutOfRange c = rw (← c.number.ensures, c.in-OutOfRange.is, ← c.side_number.ensures) (record { value = refl; bytes_after = puts c.args.bytes.now (c.number.result ∷ c.side_number.result ∷ []) (omega arith) })
 
 pub returns-in_default : goal.returns-in_default
-returns-in_default c = rw (← c.number.ensures, alone c.args.refusal c.in_default.not-Faulty c.in_default.not-OutOfRange) (record { value = refl; bytes_after = puts c.args.bytes.now (c.number.result ∷ []) (omega (arith, c.requires)) })
+returns-in_default c = rw (← c.number.ensures, alone c.args.refusal c.in_default.not-Faulty c.in_default.not-OutOfRange) (record { value = refl; bytes_after = puts c.args.bytes.now (c.number.result ∷ []) (omega arith) })

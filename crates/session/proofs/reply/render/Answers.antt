@@ -9,13 +9,13 @@ use borrow.Author.Rules.{rules}
 use Rattle.session.proofs.reply.render.Goals as goal
 
 pub slice_bounds-bytes-end : goal.slice_bounds-bytes-end
-slice_bounds-bytes-end c = omega (arith, c.reply_bytes-n.ensures.value, reply_few c.args.reply c.args.out.now (search rules), c.reply_bytes-n.auto.bytes)
+slice_bounds-bytes-end c = omega (arith, c.reply_bytes-n.ensures.value, reply_few c.args.reply c.args.out.now (search rules))
 
 pub slice_bounds-print-end : goal.slice_bounds-print-end
 slice_bounds-print-end c = c.reply_bytes-n.ensures.value ∙ ap length (sym c.reply_bytes-n.ensures.bytes_after)
 
 pub print-requires : goal.print-requires
-print-requires c = (rw c.reply_bytes-n.ensures.bytes_after (reply_few c.args.reply c.args.out.now (search rules)), search rules)
+print-requires c = rw c.reply_bytes-n.ensures.bytes_after (reply_few c.args.reply c.args.out.now (search rules))
 
 pub returns : goal.returns
 unfolding reply_line

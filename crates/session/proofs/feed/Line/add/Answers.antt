@@ -10,10 +10,11 @@ use Rattle.session.proofs.feed.Line.add.Goals as goal
 
 pub returns : goal.returns
 returns c =
-    let sized : length c.args.self.now.chars ≡ 195 = search rules in
-    let held : c.min-at.result ≡ length (take c.args.self.now.len c.args.self.now.chars) = omega (arith, c.min-at.ensures, sized, length-take c.args.self.now.len c.args.self.now.chars) in
-    let fits : c.min-n.result ≡ length (take (195 - c.min-at.result) c.args.more.now) = omega (arith, c.min-n.ensures, length-take (195 - c.min-at.result) c.args.more.now) in
+    let line = c.args.self.now in
+    let n = c.min-n.result in
+    let sized : length line.chars ≡ 195 = search rules in
+    let fits : n ≡ length (take (195 - line.len) c.args.more.now) = omega (arith, c.min-n.ensures, length-take (195 - line.len) c.args.more.now) in
     record {
-      len = added_length c.args.self.now.len c.args.self.now.chars c.args.more.now c.min-at.result c.min-n.result sized held fits;
-      chars = added c.args.self.now.len c.args.self.now.chars c.args.more.now c.min-at.result c.min-n.result sized held fits _ _ (c.min-at.result + c.min-n.result - c.min-at.result) (omega arith) refl c.copy_from_slice.ensures.after;
+      len = added_length line.len line.chars c.args.more.now n sized line.within fits;
+      chars = added line.len line.chars c.args.more.now n sized line.within fits _ _ (line.len + n - line.len) (omega arith) refl c.copy_from_slice.ensures.after;
     }

@@ -4,4 +4,4 @@ use mathlib.Core.Path.{refl}
 use Rattle.session.proofs.step.Session.new.Goals as goal
 
 pub returns : goal.returns
-returns c = rw (c.new.ensures, c.new-2.ensures) refl
+returns c = rw (c.new.ensures.side, c.new.ensures.bytes, c.new-2.ensures.side, c.new-2.ensures.bytes) refl

@@ -29,6 +29,6 @@ returns-in-Some c =
     let found = feed_found c.args.chunk.now c.in-Some.end (sym c.line_feed.ensures ∙ c.in-Some.is) in
     let more : take c.in-Some.end c.args.chunk.now ≡ before_feed c.args.chunk.now = ap (λ (n : ℕ). take n c.args.chunk.now) found.1 ∙ before_front c.args.chunk.now in
     rw found.1
-    (turn_ended c.args.chunk.now c.args.self.now c.args.text.now _ c.answer-printed.new.self c.answer-printed.result c.answer-printed.new.text found.0
+    (turn_ended c.args.chunk.now c.args.self.now c.args.text.now c.add-in-Some.new.self c.answer-printed.new.self c.answer-printed.result c.answer-printed.new.text found.0
     (record { len = rw more at c.add-in-Some.ensures.len; chars = rw more at c.add-in-Some.ensures.chars })
     c.answer-printed.ensures.told c.answer-printed.ensures.chars c.answer-printed.ensures.len)

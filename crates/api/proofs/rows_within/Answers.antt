@@ -1,7 +1,7 @@
--- The answer is the first range that exceeds its table, or that both lie within.
+-- The answer is the first range that exceeds its table, or the rows of both.
 -- By rewriting with what the callees give.
 use Rattle.answers.specs.Answers.{bounds_of}
-use Rattle.api.proofs.bounds_of.Goals as goal
+use Rattle.api.proofs.rows_within.Goals as goal
 
 pub returns-then-out_of_range : goal.returns-then-out_of_range
 unfolding bounds_of
