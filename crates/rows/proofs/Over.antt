@@ -2,7 +2,7 @@
 -- A piece that is put first leaves the rest for the place after it; nothing is left in the end.
 use mathlib.Core.Path.{◌≡◌, refl, sym, ap, ◌∙◌}
 use mathlib.Core.List.{List, [], ◌∷◌, ◌++◌, append_assoc}
-use Prim.Native.Nat.{ℕ, suc, ◌+◌, ◌-◌, ◌/◌, ◌%◌, ◌≤◌, ◌<◌}
+use Prim.Native.Nat.{ℕ, zero, suc, ◌+◌, ◌-◌, ◌/◌, ◌%◌, ◌≤◌, ◌<◌}
 use native.Mathlib.Omega.{arith}
 use lib.ListN.{length, take, drop, set, length-append, length-drop, take-append-drop, get_or-append}
 use lib.Seq.{paste, length-take-le, take_at, drop_at, drop-drop, take-append_seam, get_or-take, set_split}
@@ -181,6 +181,15 @@ module _ {w x : ℕ} {out₀ : List ℕ} {at : ℕ} {out : List ℕ} {rest k : �
   number_done le =
       let e : w - k ≡ 0 = omega arith in
       put_done (rw e at t.put)
+
+-- The bytes of an image are pieces of one byte.
+abbrev one_byte_lem : List ℕ → ℕ → List ℕ
+one_byte_lem s j = byte_at s j ∷ []
+
+pub bytes_joined : (s : List ℕ) (place n : ℕ) → bytes_at s place n ≡ pieces (one_byte_lem s) place n
+unfolding pieces bytes_at
+bytes_joined s place zero = refl
+bytes_joined s place (suc n) = ap (λ (b : List ℕ). byte_at s place ∷ b) (bytes_joined s (suc place) n)
 
 -- Bytes that the library copies over a part of a buffer.
 pub part_over : (out : List ℕ) (at : ℕ) (bytes : List ℕ) {part : List ℕ} → part ≡ bytes → put_mid at (at + length bytes - at) out part ≡ over out at bytes

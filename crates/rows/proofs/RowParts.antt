@@ -8,8 +8,8 @@ use native.Mathlib.Omega.{arith}
 use lib.ListN.{length, length-append}
 use borrow.Author.Tests.{not-true, not-false}
 use Rattle.image.specs.Ranges.{pieces}
-use Rattle.image.specs.Bytes.{bit_at, number_bytes, bytes_at}
-use Rattle.image.specs.Record.{code_of, offset_of, has_bitmap, bitmap_place, first_bit}
+use Rattle.image.specs.Bytes.{number_bytes, bytes_at}
+use Rattle.image.specs.Record.{code_of, offset_of}
 use Rattle.image.specs.TypeCode.{layout_of}
 use Rattle.image.specs.Element.{valid}
 use Rattle.image.specs.Reads.{Read}
@@ -35,15 +35,6 @@ pub bit_null : (depth : ℕ) (s : List ℕ) (k i : ℕ) {b : Bool} → (depth �
 unfolding is_null
 bit_null zero s k i deep e = absurd (deep refl)
 bit_null (suc depth) s k i deep e = ap not e
-
--- the row's bit, by whether there is a bitmap
-pub no_bitmap : (s : List ℕ) (k i : ℕ) → has_bitmap s k ≡ false → true ≡ valid s k i
-unfolding valid
-no_bitmap s k i e = rw e
-
-pub by_bitmap : (s : List ℕ) (k i : ℕ) {p f : ℕ} {b : Bool} → has_bitmap s k ≡ true → Read (bitmap_place s k) 32 p → Read (first_bit s k) 32 f → b ≡ bit_at s p (f + i) → b ≡ valid s k i
-unfolding valid
-by_bitmap s k i e ep ef eb = rw (e, ← ep.value, ← ef.value) eb
 
 -- a null is one byte
 pub row_null : (depth : ℕ) (s : List ℕ) (k i : ℕ) → is_null depth s k i ≡ true → row_bytes (row_at depth s k i) ≡ 0 ∷ []

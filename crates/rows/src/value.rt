@@ -205,10 +205,7 @@ pub fn is_null(node: Node, i: usize, depth: usize) -> bool
     if depth == 0 {
         return true;
     }
-    if !node.has_bitmap() {
-        return false;
-    }
-    !bit(node.image, node.bitmap_place(), node.first_bit() + i)
+    !node.is_kept(node.bitmap(), i)
 }
 
 // The value at element j of a node, beside which a run is kept.
