@@ -2,6 +2,7 @@
 -- Its bit is set, and its bytes stand behind those of the rows before.
 use mathlib.Core.Path.{refl, ◌∙◌}
 use native.Mathlib.Omega.{arith}
+use Rattle.fill.proofs.Parts.{state_sized}
 use Rattle.fill.proofs.Events.{node_small, bit_requires, count_requires, value_near, value_inside, fixed_filled}
 use Rattle.fill.proofs.put.Filling.put_fixed.Goals as goal
 
@@ -24,4 +25,4 @@ pub count_row-requires : goal.count_row-requires
 count_row-requires c = count_requires c.requires.getting c.spot_of-spot.ensures
 
 pub returns-clause-filled : goal.returns-clause-filled
-returns-clause-filled c = fixed_filled c.requires.getting c.spot_of-spot.ensures c.requires.layout c.requires.width (omega (arith, c.well_formed), omega (arith, c.well_formed)) _ refl c.set_bit.ensures (c.count_row.ensures.out_after ∙ c.put.ensures) (c.count_row.ensures.rows_after, c.count_row.ensures.spans_after)
+returns-clause-filled c = fixed_filled c.requires.getting c.spot_of-spot.ensures c.requires.layout c.requires.width (state_sized c.args.self.now (omega (arith, c.well_formed))) _ refl c.set_bit.ensures (c.count_row.ensures.out_after ∙ c.put.ensures) (c.count_row.ensures.rows_after, c.count_row.ensures.spans_after)

@@ -2,6 +2,7 @@
 -- Its bit is set, its end stands behind the offsets, and its bytes behind those of the rows before.
 use mathlib.Core.Path.{refl, ◌∙◌}
 use native.Mathlib.Omega.{arith}
+use Rattle.fill.proofs.Parts.{state_sized}
 use Rattle.fill.proofs.Events.{node_small, bit_requires, count_requires, text_near, text_end_requires, text_inside, text_filled}
 use Rattle.fill.proofs.put.Filling.put_text.Goals as goal
 
@@ -27,4 +28,4 @@ pub count_row-requires : goal.count_row-requires
 count_row-requires c = count_requires c.requires.getting c.spot_of-spot.ensures
 
 pub returns-clause-filled : goal.returns-clause-filled
-returns-clause-filled c = text_filled c.requires.getting c.spot_of-spot.ensures c.requires.layout (omega (arith, c.well_formed), omega (arith, c.well_formed)) _ refl c.set_bit.ensures c.put_end.ensures (c.count_row.ensures.out_after ∙ c.put.ensures) (c.count_row.ensures.rows_after, c.count_row.ensures.spans_after)
+returns-clause-filled c = text_filled c.requires.getting c.spot_of-spot.ensures c.requires.layout (state_sized c.args.self.now (omega (arith, c.well_formed))) _ refl c.set_bit.ensures c.put_end.ensures (c.count_row.ensures.out_after ∙ c.put.ensures) (c.count_row.ensures.rows_after, c.count_row.ensures.spans_after)

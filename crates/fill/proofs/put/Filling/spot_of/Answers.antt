@@ -1,10 +1,13 @@
 -- `spot_of` reads where the next row of a node goes.
--- Each number is read where it stands.
-use mathlib.Core.Path.{◌≡◌, ap}
-use Prim.Native.Nat.{ℕ, ◌+◌, ◌*◌}
-use lib.ListN.{get_or}
-use native.Mathlib.Omega.{arith}
+-- Each number is read where it stands; what a node has got is an entry of one table.
+use native.Mathlib.Nat.{add-zero}
+use Rattle.std.proofs.Math.ListN.{get_or-map}
+use Rattle.fill.specs.declared.put.Tally.{Tally}
 use Rattle.fill.proofs.put.Filling.spot_of.Goals as goal
 
 pub returns : goal.returns
-returns c = (let k : ℕ = c.args.node.number in let e : 3 * k ≡ 3 * k + 0 = omega arith in ap (λ (q : ℕ). record { bitmap = get_or c.args.self.now.places.now q 0; first = get_or c.args.self.now.places.now (3 * k + 1) 0; second = get_or c.args.self.now.places.now (3 * k + 2) 0; row = get_or c.args.self.now.rows k 0; span = get_or c.args.self.now.spans k 0 }) e)
+returns c =
+    let none : Tally = record { rows = 0; span = 0 } in
+    let rows = get_or-map (λ (t : Tally). t.rows) c.args.self.now.tallies c.args.node.number none in
+    let spans = get_or-map (λ (t : Tally). t.span) c.args.self.now.tallies c.args.node.number none in
+    rw (add-zero, rows, spans)
