@@ -4,8 +4,8 @@
 -- The loop keeps that the rows from row k on, in the room that is left, leave what all rows leave, the run that is kept, and
 -- the runs that are remembered.
 use mathlib.Core.Path.{sym, ◌∙◌}
-use Rattle.rows.proofs.RowParts.{row_null, side_few, row_part, value_of_lem, side_row}
-use Rattle.rows.proofs.Rooms.{measuring_start, measuring_more, measuring_short, measuring_done, null_left, value_short, value_left}
+use Rattle.rows.proofs.RowParts.{row_null, side_few, row_part, value_of_lem, below, side_row}
+use Rattle.rows.proofs.Rooms.{measuring_start, measuring_more, measuring_short, measuring_done, null_left, value_short, leaf_left, nested_left}
 use native.Mathlib.Omega.{arith}
 use Rattle.accepted.proofs.Columns.{node_few, remembered_now}
 use Rattle.rows.proofs.Stretches.{first_row, rows_from, row_kept, none_measured, measured_start, row_short, row_took, others_short, measured_more, measured_done}
@@ -32,8 +32,11 @@ measure_row-overflow_add-v-2 t c = omega (arith, (value_of_lem _ c.requires.side
 pub measure_row-returns-in_err-left : goal.measure_row-returns-in_err-left
 measure_row-returns-in_err-left t c = record { value = c.from_residual.ensures ∙ value_short (value_of_lem _ c.requires.side c.is_null.ensures c.if-is_null.false c.requires.kept.column.offset c.value_at-v.ensures) c.args.room c.in_err-left.ensures; remembered_after = c.requires.remembered }
 
+pub measure_row-returns-in_default-clause-value : goal.measure_row-returns-in_default-clause-value
+measure_row-returns-in_default-clause-value t c = leaf_left (value_of_lem _ c.requires.side c.is_null.ensures c.if-is_null.false c.requires.kept.column.offset c.value_at-v.ensures) c.args.room c.in_ok-left.ensures c.in_default.is
+
 pub measure_row-loop-c-init : goal.measure_row-loop-c-init
-measure_row-loop-c-init t c = ((value_of_lem _ c.requires.side c.is_null.ensures c.if-is_null.false c.requires.kept.column.offset c.value_at-v.ensures), (measuring_start _ _ _, c.requires.remembered))
+measure_row-loop-c-init t c = (below (value_of_lem _ c.requires.side c.is_null.ensures c.if-is_null.false c.requires.kept.column.offset c.value_at-v.ensures) c.in-Some.is, (measuring_start _ _ _, c.requires.remembered))
 
 pub measure_row-overflow_sub-depth : goal.measure_row-overflow_sub-depth
 measure_row-overflow_sub-depth t c = omega (arith, c.loop-c.invariant.0.deep)
@@ -42,13 +45,13 @@ pub measure_row-measure_rows-requires : goal.measure_row-measure_rows-requires
 measure_row-measure_rows-requires t c = (omega (arith, c.decreases, c.loop-c.invariant.0.deep), (c.loop-c.invariant.0.placed.parts c.loop-c.c c.loop-c-test.true, c.loop-c.invariant.1.1))
 
 pub measure_row-returns-in_err-left-2 : goal.measure_row-returns-in_err-left-2
-measure_row-returns-in_err-left-2 t c = record { value = c.from_residual-in_err-left-2.ensures ∙ measuring_short c.loop-c.invariant.1.0 c.loop-c-test.true (sym c.in_err-left-2.was ∙ c.measure_rows.ensures.value) ∙ value_left c.loop-c.invariant.0 c.args.room c.in_ok-left.ensures; remembered_after = c.measure_rows.ensures.remembered_after }
+measure_row-returns-in_err-left-2 t c = record { value = c.from_residual-in_err-left-2.ensures ∙ measuring_short c.loop-c.invariant.1.0 c.loop-c-test.true (sym c.in_err-left-2.was ∙ c.measure_rows.ensures.value) ∙ nested_left (value_of_lem _ c.requires.side c.is_null.ensures c.if-is_null.false c.requires.kept.column.offset c.value_at-v.ensures) c.args.room c.in_ok-left.ensures c.in-Some.is; remembered_after = c.measure_rows.ensures.remembered_after }
 
 pub measure_row-loop-c-preserved : goal.measure_row-loop-c-preserved
 measure_row-loop-c-preserved t c = (c.loop-c.invariant.0, (measuring_more c.loop-c.invariant.1.0 c.loop-c-test.true (sym c.in_ok-left-2.was ∙ c.measure_rows.ensures.value), c.measure_rows.ensures.remembered_after))
 
 pub measure_row-returns : goal.measure_row-returns
-measure_row-returns t c = record { value = measuring_done c.loop-c.invariant.1.0 c.loop-c-test.false ∙ value_left c.loop-c.invariant.0 c.args.room c.in_ok-left.ensures; remembered_after = c.loop-c.invariant.1.1 }
+measure_row-returns t c = record { value = measuring_done c.loop-c.invariant.1.0 c.loop-c-test.false ∙ nested_left (value_of_lem _ c.requires.side c.is_null.ensures c.if-is_null.false c.requires.kept.column.offset c.value_at-v.ensures) c.args.room c.in_ok-left.ensures c.in-Some.is; remembered_after = c.loop-c.invariant.1.1 }
 
 pub measure_rows-returns-then-n-eq0 : goal.measure_rows-returns-then-n-eq0
 measure_rows-returns-then-n-eq0 t c = record { value = none_measured _ _ _ _ _ c.if-n-eq0.true _; remembered_after = c.requires.remembered }

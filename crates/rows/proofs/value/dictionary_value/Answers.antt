@@ -8,4 +8,4 @@ pub offset_at-requires : goal.offset_at-requires
 offset_at-requires c = ((part_node c.requires.part).widths.keys c.requires.layout, omega (arith, part_small c.requires.part))
 
 pub returns : goal.returns
-returns c = rw (c.nested.ensures, c.offset_at.ensures, c.first_child.ensures.value)
+returns c = rw (c.nested.ensures, c.rows_from.ensures, c.offset_at.ensures, c.first_child.ensures.value)

@@ -8,4 +8,4 @@ pub overflow_mul-j : goal.overflow_mul-j
 overflow_mul-j c = omega (arith, rw (← c.p1-count.ensures.value) at (fixed_list_fits c.requires.part c.requires.layout))
 
 pub returns : goal.returns
-returns c = rw (c.nested.ensures, c.p1-count.ensures.value, c.first_child.ensures.value)
+returns c = rw (c.nested.ensures, c.rows_from.ensures, c.p1-count.ensures.value, c.first_child.ensures.value)

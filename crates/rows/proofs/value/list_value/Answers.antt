@@ -19,4 +19,4 @@ pub overflow_sub-count : goal.overflow_sub-count
 overflow_sub-count c = omega (arith, list_rises c.requires.part c.requires.layout, rw add-one at c.offset_at.ensures)
 
 pub returns : goal.returns
-returns c = rw (c.nested.ensures, c.offset_at-from.ensures, c.offset_at.ensures, c.first_child.ensures.value, add-one)
+returns c = rw (c.list.ensures, c.rows_from.ensures, c.offset_at-from.ensures, c.offset_at.ensures, c.first_child.ensures.value, add-one)

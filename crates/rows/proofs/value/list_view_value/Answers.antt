@@ -17,4 +17,4 @@ at-count-requires c = record {
 pub returns : goal.returns
 returns c =
     let count = rw (c.numbers.ensures.bytes, c.numbers.ensures.width) at c.at-count.ensures in
-    rw (c.nested.ensures, c.offset_at-from.ensures, size_read _ _ _ c.element_width.ensures c.numbers.ensures.place count, c.first_child.ensures.value)
+    rw (c.list.ensures, c.rows_from.ensures, c.offset_at-from.ensures, size_read _ _ _ c.element_width.ensures c.numbers.ensures.place count, c.first_child.ensures.value)

@@ -6,4 +6,4 @@ pub overflow_add-first_child : goal.overflow_add-first_child
 overflow_add-first_child c = omega (arith, c.first_child.ensures.small)
 
 pub returns : goal.returns
-returns c = rw (c.nested.ensures, c.first_child.ensures.value)
+returns c = rw (c.nested.ensures, c.rows_from.ensures, c.first_child.ensures.value)

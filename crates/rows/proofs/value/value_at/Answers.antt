@@ -27,10 +27,10 @@ pub fixed_list_value-requires : goal.fixed_list_value-requires
 fixed_list_value-requires c = record { part = c.requires.part; layout = layout_is c.code.ensures c.layout-layout.ensures (sym c.in-FixedList.is) }
 
 pub dense_value-requires : goal.dense_value-requires
-dense_value-requires c = record { part = c.requires.part; layout = layout_is c.code.ensures c.layout-layout.ensures (sym c.in-DenseUnion.is) }
+dense_value-requires c = c.requires.part
 
 pub sparse_value-requires : goal.sparse_value-requires
-sparse_value-requires c = record { part = c.requires.part; layout = layout_is c.code.ensures c.layout-layout.ensures (sym c.in-SparseUnion.is) }
+sparse_value-requires c = c.requires.part
 
 pub dictionary_value-requires : goal.dictionary_value-requires
 dictionary_value-requires c = record { part = c.requires.part; layout = layout_is c.code.ensures c.layout-layout.ensures (sym c.in-Dictionary.is) }

@@ -3,9 +3,9 @@
 -- `write_rows` puts row after row, those of one run by putting the bytes of the first again.
 -- The loop keeps that the rows before row k are put, the run that is kept there, and the runs that are remembered.
 use mathlib.Core.Path.{refl, sym, ◌∙◌}
-use Rattle.rows.proofs.RowParts.{row_null, side_few, row_part, value_of_lem, side_row}
+use Rattle.rows.proofs.RowParts.{row_null, side_few, row_part, value_of_lem, below, side_row}
 use Rattle.rows.proofs.Stretches.{first_row, rows_from, row_kept, none_written, writing_start, row_fits, others_fit, writing_more, writing_done}
-use Rattle.rows.proofs.Over.{put_last, pieces_from, pieces_fit, pieces_more, pieces_place, pieces_done, null_fits, null_put, value_fits, value_put}
+use Rattle.rows.proofs.Over.{put_last, pieces_from, pieces_fit, pieces_more, pieces_place, pieces_done, null_fits, null_put, value_fits, leaf_put, nested_put}
 use native.Mathlib.Omega.{arith}
 use Rattle.accepted.proofs.Columns.{node_few, remembered_now}
 use Rattle.rows.proofs.write.+write_row_write_rows.Goals as goal
@@ -26,10 +26,13 @@ pub write_row-value_at-v-requires : goal.write_row-value_at-v-requires
 write_row-value_at-v-requires t c = record { part = row_part _ c.requires.side c.is_null.ensures c.if-is_null.false c.requires.kept.column.offset; run_value = c.requires.kept.same }
 
 pub write_row-put_own-requires : goal.write_row-put_own-requires
-write_row-put_own-requires t c = record { size_in_bounds = (value_of_lem _ c.requires.side c.is_null.ensures c.if-is_null.false c.requires.kept.column.offset c.value_at-v.ensures).placed.inside; fits = value_fits (value_of_lem _ c.requires.side c.is_null.ensures c.if-is_null.false c.requires.kept.column.offset c.value_at-v.ensures) c.requires.fits }
+write_row-put_own-requires t c = value_fits (value_of_lem _ c.requires.side c.is_null.ensures c.if-is_null.false c.requires.kept.column.offset c.value_at-v.ensures) c.requires.fits
+
+pub write_row-returns-in_default-clause-put : goal.write_row-returns-in_default-clause-put
+write_row-returns-in_default-clause-put t c = let both = leaf_put (value_of_lem _ c.requires.side c.is_null.ensures c.if-is_null.false c.requires.kept.column.offset c.value_at-v.ensures) c.requires.fits c.put_own.ensures.bytes c.put_own.ensures.at c.in_default.is in record { lent = c.put_own.ensures.lent; long = c.put_own.ensures.long; at = both.0; bytes = both.1 }
 
 pub write_row-loop-c-init : goal.write_row-loop-c-init
-write_row-loop-c-init t c = (c.put_own.ensures.lent, ((value_of_lem _ c.requires.side c.is_null.ensures c.if-is_null.false c.requires.kept.column.offset c.value_at-v.ensures), (pieces_from (value_put (value_of_lem _ c.requires.side c.is_null.ensures c.if-is_null.false c.requires.kept.column.offset c.value_at-v.ensures) c.requires.fits c.put_own.ensures.bytes c.put_own.ensures.at), c.requires.remembered)))
+write_row-loop-c-init t c = (c.put_own.ensures.lent, (below (value_of_lem _ c.requires.side c.is_null.ensures c.if-is_null.false c.requires.kept.column.offset c.value_at-v.ensures) c.in-Some.is, (pieces_from (nested_put (value_of_lem _ c.requires.side c.is_null.ensures c.if-is_null.false c.requires.kept.column.offset c.value_at-v.ensures) c.requires.fits c.put_own.ensures.bytes c.put_own.ensures.at c.in-Some.is), c.requires.remembered)))
 
 pub write_row-overflow_sub-depth : goal.write_row-overflow_sub-depth
 write_row-overflow_sub-depth t c = omega (arith, c.loop-c.invariant.1.0.deep)
@@ -41,7 +44,7 @@ pub write_row-loop-c-preserved : goal.write_row-loop-c-preserved
 write_row-loop-c-preserved t c = (c.write_rows.ensures.put.lent ∙ c.loop-c.invariant.0, (c.loop-c.invariant.1.0, (pieces_more c.loop-c.invariant.1.1.0 c.loop-c-test.true c.write_rows.ensures.put.bytes c.write_rows.ensures.put.at, c.write_rows.ensures.remembered_after)))
 
 pub write_row-returns : goal.write_row-returns
-write_row-returns t c = let both = put_last (value_put c.loop-c.invariant.1.0 c.requires.fits c.put_own.ensures.bytes c.put_own.ensures.at) (pieces_done c.loop-c.invariant.1.1.0 c.loop-c-test.false) (pieces_place c.loop-c.invariant.1.1.0 c.loop-c-test.false) in record { put = record { lent = c.loop-c.invariant.0; long = c.loop-c.invariant.1.1.0.put.long ∙ c.put_own.ensures.long; at = both.0; bytes = both.1 }; remembered_after = c.loop-c.invariant.1.1.1 }
+write_row-returns t c = let both = put_last (nested_put (value_of_lem _ c.requires.side c.is_null.ensures c.if-is_null.false c.requires.kept.column.offset c.value_at-v.ensures) c.requires.fits c.put_own.ensures.bytes c.put_own.ensures.at c.in-Some.is) (pieces_done c.loop-c.invariant.1.1.0 c.loop-c-test.false) (pieces_place c.loop-c.invariant.1.1.0 c.loop-c-test.false) in record { put = record { lent = c.loop-c.invariant.0; long = c.loop-c.invariant.1.1.0.put.long ∙ c.put_own.ensures.long; at = both.0; bytes = both.1 }; remembered_after = c.loop-c.invariant.1.1.1 }
 
 pub write_rows-returns-then-n-eq0 : goal.write_rows-returns-then-n-eq0
 write_rows-returns-then-n-eq0 t c = let both = none_written _ _ _ _ _ c.if-n-eq0.true c.requires.fits in record { put = record { lent = refl; long = refl; at = both.0; bytes = both.1 }; remembered_after = c.requires.remembered }
