@@ -1,12 +1,8 @@
 -- `union_value` gives the id and the row of the child that it names.
 -- The id that is read is the row's.
-use native.Mathlib.Omega.{arith}
-use Rattle.accepted.proofs.Nodes.{id_read, part_small}
+use Rattle.accepted.proofs.Nodes.{id_read}
 use Rattle.rows.proofs.ValuePlaces.{union_known, union_unknown}
 use Rattle.rows.proofs.value.union_value.Goals as goal
-
-pub overflow_add-buffer_place : goal.overflow_add-buffer_place
-overflow_add-buffer_place c = omega (arith, part_small c.requires, c.buffer_place.ensures.small)
 
 pub returns-in-Some : goal.returns-in-Some
 returns-in-Some c =

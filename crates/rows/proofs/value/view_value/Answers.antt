@@ -1,26 +1,12 @@
 -- `view_value` gives the view's length and bytes.
 -- The view of a row that is not null shows bytes of the image.
-use native.Mathlib.Omega.{arith}
 use Rattle.image.specs.Element.{view_length}
 use Rattle.image.proofs.Slices.{sliced}
-use Rattle.accepted.proofs.Nodes.{part_small}
 use Rattle.accepted.proofs.Views.{viewed, view_place_lem}
 use Rattle.rows.proofs.value.view_value.Goals as goal
 
-pub overflow_mul-view : goal.overflow_mul-view
-overflow_mul-view c = omega (arith, part_small c.requires.part)
-
-pub overflow_add-view : goal.overflow_add-view
-overflow_add-view c = omega (arith, part_small c.requires.part, c.buffer_place.ensures.small)
-
 pub view_bytes-place-requires : goal.view_bytes-place-requires
 view_bytes-place-requires c = viewed c.requires.part c.requires.layout c.buffer_place.ensures.value c.le-size.ensures.value
-
-pub overflow_add-place : goal.overflow_add-place
-overflow_add-place c = omega (arith, c.view_bytes-place.ensures.inside, c.requires.part.image.tables.size)
-
-pub slice_bounds-text-end : goal.slice_bounds-text-end
-slice_bounds-text-end c = omega (arith, c.view_bytes-place.ensures.inside)
 
 pub returns : goal.returns
 unfolding view_length
