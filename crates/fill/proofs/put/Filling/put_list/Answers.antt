@@ -3,14 +3,11 @@
 use mathlib.Core.Path.{◌∙◌}
 use native.Mathlib.Omega.{arith}
 use Rattle.fill.proofs.Parts.{state_sized}
-use Rattle.fill.proofs.Events.{node_small, bit_requires, count_requires, list_near, list_end_requires, list_filled}
+use Rattle.fill.proofs.Events.{node_small, bit_requires, count_requires, list_end_requires, list_filled}
 use Rattle.fill.proofs.put.Filling.put_list.Goals as goal
 
 pub spot_of-spot-requires : goal.spot_of-spot-requires
 spot_of-spot-requires c = node_small c.requires.getting
-
-pub overflow_add-end : goal.overflow_add-end
-overflow_add-end c = omega (arith, list_near c.requires.getting c.spot_of-spot.ensures c.requires.layout)
 
 pub set_bit-requires : goal.set_bit-requires
 set_bit-requires c = let both = bit_requires c.requires.getting c.spot_of-spot.ensures (rw c.requires.layout) in record { j_in_bounds = both.0; j_bound = both.1 }
