@@ -64,8 +64,8 @@ abbrev pub row_of : Layout → (ℕ → ℕ → Row) → Content → Row
 row_of Null sub v = fixed (front_bytes v)
 row_of Boolean sub v = fixed (front_bytes v)
 row_of FixedWidth sub v = fixed (front_bytes v)
-row_of VariableSize sub v = sized (v.bytes)
-row_of View sub v = sized (v.bytes)
+row_of VariableSize sub v = sized v.bytes
+row_of View sub v = sized v.bytes
 row_of Lists sub v = counted (child_rows sub v)
 row_of ListView sub v = counted (child_rows sub v)
 row_of FixedList sub v = joined (child_rows sub v)
