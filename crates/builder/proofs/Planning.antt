@@ -4,11 +4,12 @@ use mathlib.Core.Path.{◌≡◌, refl, sym, ◌∙◌}
 use mathlib.Core.Bool.{Bool, true, false, cond, ◌||◌}
 use mathlib.Core.List.{List}
 use mathlib.Core.Logic.{◌⊎◌, inl, inr}
-use Prim.Native.Nat.{ℕ, suc, ◌+◌, ◌*◌, ◌-◌, ◌/◌, ◌≤◌, ◌<◌}
+use Prim.Native.Nat.{ℕ, zero, suc, ◌+◌, ◌*◌, ◌-◌, ◌/◌, ◌≤◌, ◌<◌}
 use native.Mathlib.Nat.{eq-or-lt_of_le, add-zero}
 use native.Mathlib.Omega.{arith}
-use lib.ListN.{length, get_or, set}
-use lib.Seq.{get_or-set_same, get_or-set_other}
+use lib.ListN.{length, get_or, take, drop, set}
+use lib.Seq.{get_or-set_same, get_or-set_other, drop-cons}
+use Rattle.std.specs.List.{list_any}
 use lib.Dec.{ltb}
 use borrow.Author.Tests.{lt-ltb, le-ltb, ltb-false}
 use Rattle.image.specs.Ranges.{any, sum_to}
@@ -42,6 +43,12 @@ pub names_done : {s : List ℕ} {end k n : ℕ} → Names s end k → Tables s �
 names_done {s} {end} {k} t tables e le ge =
     let same : k ≡ node_count s = omega arith in
     record { value = rw (← same) t.start; small = omega (arith, t.near, tables.few_nodes) }
+
+-- a test of numbers of a list, from one on
+pub any_listed : (p : ℕ → Bool) (xs : List ℕ) (i n : ℕ) → i + n ≤ length xs → list_any p (take n (drop i xs)) ≡ any (λ k. p (get_or xs k 0)) i n
+unfolding any
+any_listed p xs i zero le = refl
+any_listed p xs i (suc n) le = rw (drop-cons xs i 0 (omega arith), any_listed p xs (suc i) n (omega arith))
 
 -- no node has too many rows
 pub few_rows : (s lengths : List ℕ) → any (too_many lengths) 0 (node_count s) ≡ false → (q : ℕ) → q < 3 * node_count s → get_or lengths (q / 3) 0 ≤ most_elements

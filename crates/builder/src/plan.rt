@@ -1,5 +1,6 @@
 // How long the nodes of a built image are, how many bytes each of its parts takes, and where each part stands.
-ghost use Rattle.std.specs.Prelude.{◌≡◌, ◌+◌, ◌*◌, ◌/◌, ◌<◌, ◌≤◌, get_or, Ok};
+ghost use Rattle.std.specs.Prelude.{◌≡◌, ◌+◌, ◌*◌, ◌/◌, ◌<◌, ◌≤◌, get_or, ltb, Ok};
+ghost use Rattle.std.specs.List.{list_any};
 ghost use Rattle.image.specs.Ranges.{any};
 ghost use Rattle.image.specs.Reads.{Read};
 ghost use Rattle.image.specs.Record.{longest_image, most_elements, node_count};
@@ -15,6 +16,9 @@ use image::type_code::{Layout, TypeCode};
 
 // What a built image is put by: how many rows each node has, how far its offsets go on in all (its span), and where each part
 // stands, with the image's end behind them.
+// Kept: `spans` is lent to `parse::is_rows` as one slice, so lengths and spans are no table of a struct.
+// Kept: an accepted image and places that rise are asked for by each function, and no ghost field says so: the image is the
+// caller's, and a plan is made before `give_places` gives it places.
 #[derive(Drop)]
 pub struct Plan {
     pub lengths: [usize; MOST_NODES],
@@ -78,6 +82,13 @@ fn names_end(image: &[u8]) -> usize
     end
 }
 
+// One of the lengths is more than a node may have.
+fn any_above(lengths: &[usize]) -> bool
+    ensures { result ≡ list_any (ltb most_elements) lengths.now }
+{
+    lengths.iter().any(|rows| *rows > MOST_ELEMENTS)
+}
+
 impl Plan {
     // How many rows each child of a node has: as many as a Struct, or as a list's offsets go on.
     fn child_rows(&self, node: Node) -> usize
@@ -109,6 +120,7 @@ impl Plan {
     }
 
     // The bytes of part q of all: of node q / 3 its bitmap, its first or its second buffer.
+    // Kept: parts are numbered through, three for each node, as their places are one table; so a number says which part it is.
     fn part_size(&self, image: &[u8], q: usize) -> usize
         requires accepted { AcceptedImage image.now × (q < 3 * node_count image.now) }
         requires q_bound { get_or self.now.lengths (q / 3) 0 ≤ most_elements }
@@ -132,12 +144,7 @@ impl Plan {
         requires { node_count image.now ≤ 256 }
         ensures { result ≡ any (too_many self.now.lengths) 0 (node_count image.now) }
     {
-        for k in 0..node_count(image) as usize {
-            if self.lengths[k] > MOST_ELEMENTS {
-                return true;
-            }
-        }
-        false
+        any_above(&self.lengths[..node_count(image) as usize])
     }
 
     // Gives each part its place, and answers how long the image is; None where it is too long for the buffer, or for an image.

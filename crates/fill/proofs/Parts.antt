@@ -8,6 +8,7 @@ use Prim.Native.Nat.{ℕ, zero, suc, ◌+◌, ◌*◌, ◌≤◌, ◌<◌, ◌^�
 use native.Mathlib.Nat.{add-mul}
 use native.Mathlib.Omega.{arith}
 use lib.ListN.{length, get_or, set, length-append}
+use Rattle.std.proofs.lemmas.List.{length-map}
 use lib.Seq.{get_or-set_same, get_or-set_other}
 use lib.Dec.{eqb}
 use borrow.Author.Tests.{eqb-true, eq-eqb}
@@ -27,7 +28,8 @@ use Rattle.built.specs.Walk.{own, total}
 use Rattle.built.proofs.Columns.{count_join}
 use Rattle.built.proofs.Bits.{each_length}
 use Rattle.built.proofs.Walk.{then_none}
-use Rattle.fill.specs.Filling.{State, filling, part_len, part_bytes, padded, Holds, Ready, Filled}
+use Rattle.fill.specs.declared.put.Filling.{Filling}
+use Rattle.fill.specs.Filling.{State, filling, state, part_len, part_bytes, padded, Holds, Ready, Filled}
 use Rattle.fill.proofs.Bytes.{lt_or_ge, over_behind, over_elsewhere, over_within}
 use Rattle.fill.proofs.BitsSet.{bits_more, number_more, bytes_more}
 use Rattle.fill.proofs.Steps.{total_then}
@@ -98,6 +100,10 @@ count_more rs r = count_join rs (one r)
 pub total_more : (rs : Rows) (r : Row) → total (rows_then rs (one r)) ≡ total rs + span r
 unfolding total
 total_more rs r = total_then rs (one r) ∙ omega arith
+
+-- a number for each node, as the table of a filling has an entry for each
+pub state_sized : (x : Filling) → length x.tallies ≡ 256 → (length (state x).rows ≡ 256) × (length (state x).spans ≡ 256)
+state_sized x e = (length-map x.tallies (λ t. t.rows) ∙ e, length-map x.tallies (λ t. t.span) ∙ e)
 
 module _ {s places : List ℕ} {f : State} (ready : Ready s places f) (sized : (length f.rows ≡ 256) × (length f.spans ≡ 256)) (k : ℕ) (node : k < node_count s) (r : Row) (shaped : Shaped s k r)
     (o₀ : ℕ) (x₀ : List ℕ) (first : Grows s places f k r 0 o₀ x₀) (o₁ : ℕ) (x₁ : List ℕ) (second : Grows s places f k r 1 o₁ x₁) (o₂ : ℕ) (x₂ : List ℕ) (third : Grows s places f k r 2 o₂ x₂) where

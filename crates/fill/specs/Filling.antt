@@ -1,5 +1,5 @@
 -- What is known while the parts of an image are filled, row by row: each part holds what the rows so far make, and zeros behind.
-use Rattle.std.specs.Prelude.{◌≡◌, Bool, true, false, List, [], ◌++◌, ◌⊎◌, ℕ, suc, ◌+◌, ◌*◌, ◌-◌, ◌≤◌, ◌<◌, ◌^◌, length, get_or, replicate, Ok}
+use Rattle.std.specs.Prelude.{◌≡◌, Bool, true, false, List, [], ◌++◌, map, ◌⊎◌, ℕ, suc, ◌+◌, ◌*◌, ◌-◌, ◌≤◌, ◌<◌, ◌^◌, length, get_or, replicate, Ok}
 use Rattle.image.specs.declared.type_code.Layout.{Layout}
 use Rattle.image.specs.declared.type_code.Layout.TheVariants.{Null, Boolean, FixedWidth, VariableSize, View, List as Lists, ListView, FixedList, Struct, DenseUnion, SparseUnion, Dictionary, Runs}
 use Rattle.image.specs.Bytes.{byte_at, bytes_at}
@@ -25,7 +25,7 @@ abbrev pub filling : List ℕ → List ℕ → List ℕ → State
 filling out rows spans = record { out = out; rows = rows; spans = spans }
 
 abbrev pub state : Filling → State
-state x = filling x.out.now x.rows x.spans
+state x = filling x.out.now (map (λ t. t.rows) x.tallies) (map (λ t. t.span) x.tallies)
 
 -- what a filling was made of is what it has: the places, and the buffer that is lent to it
 pub record SameLent (x y : Filling) : Type 0 where

@@ -22,12 +22,18 @@ const PARTS: usize = 3;
 // How many places an image has at most: one for each part of a node, and its end.
 pub const MOST_PLACES: usize = PARTS * MOST_NODES + 1;
 
-// What an image is filled by: where its parts stand, how many rows each node has got, how far its offsets are, and the buffer.
+// What a node has got so far: how many rows, and how far its offsets are.
+#[derive(Clone, Copy)]
+struct Tally {
+    rows: usize,
+    span: usize,
+}
+
+// What an image is filled by: where its parts stand, what each node has got, and the buffer.
 #[derive(Drop)]
 pub(crate) struct Filling<'a> {
     places: &'a [usize; MOST_PLACES],
-    rows: [usize; MOST_NODES],
-    spans: [usize; MOST_NODES],
+    tallies: [Tally; MOST_NODES],
     out: &'a mut [u8],
 }
 
@@ -87,27 +93,26 @@ impl<'a> Filling<'a> {
     // No node has rows yet.
     pub(crate) fn new(places: &'a [usize; MOST_PLACES], out: &'a mut [u8]) -> Filling<'a>
         ensures lent { (result.places.now ≡ places.now) × (result.out.ghost_name ≡ out.entry.ghost_name) × (result.out.now ≡ out.old) }
-        ensures none_yet { (result.rows ≡ replicate 256 0) × (result.spans ≡ replicate 256 0) }
+        ensures none_yet { ((state result).rows ≡ replicate 256 0) × ((state result).spans ≡ replicate 256 0) }
     {
         Filling {
             places,
-            rows: [0; MOST_NODES],
-            spans: [0; MOST_NODES],
+            tallies: [Tally { rows: 0, span: 0 }; MOST_NODES],
             out,
         }
     }
 
     fn spot_of(&self, node: Node) -> Spot
         requires { node.number < 256 }
-        ensures { result ≡ spot_of self.now.places.now self.now.rows self.now.spans node.entry.number }
+        ensures { result ≡ spot_of self.now.places.now (state self.now).rows (state self.now).spans node.entry.number }
     {
         let k = node.number as usize;
         Spot {
             bitmap: self.places[PARTS * k],
             first: self.places[PARTS * k + 1],
             second: self.places[PARTS * k + 2],
-            row: self.rows[k],
-            span: self.spans[k],
+            row: self.tallies[k].rows,
+            span: self.tallies[k].span,
         }
     }
 
@@ -116,12 +121,13 @@ impl<'a> Filling<'a> {
         requires { (row < 2 ^ 40) × (node.number < 256) }
         ensures same { SameLent self.old self.new }
         ensures out_after { self.new.out.now ≡ self.old.out.now }
-        ensures rows_after { self.new.rows ≡ set self.old.rows node.entry.number (row + 1) }
-        ensures spans_after { self.new.spans ≡ set self.old.spans node.entry.number span }
+        ensures rows_after { (state self.new).rows ≡ set (state self.old).rows node.entry.number (row + 1) }
+        ensures spans_after { (state self.new).spans ≡ set (state self.old).spans node.entry.number span }
     {
-        let k = node.number as usize;
-        self.rows[k] = row + 1;
-        self.spans[k] = span;
+        self.tallies[node.number as usize] = Tally {
+            rows: row + 1,
+            span,
+        };
     }
 
     // The row under a null: no bit and no value is set, and a text or list is empty.

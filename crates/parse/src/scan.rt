@@ -20,6 +20,8 @@ const VALUE: u8 = 1;
 
 // A row of a node: its mark, and the value behind it. It is part of the loops that call it, which then hand on in registers
 // what is left of the string.
+// Kept: each scan asks that its node is one of an accepted image, and that the spans have room for what is left of the string. A
+// ghost field could hold this only in a struct of string and table, and such a struct goes through memory at each call.
 #[cycle(rows)]
 #[inline(always)]
 fn scan_row<'a>(node: Node, depth: usize, text: &'a [u8], spans: &mut [usize]) -> Option<&'a [u8]>

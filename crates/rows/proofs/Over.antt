@@ -2,7 +2,7 @@
 -- A piece that is put first leaves the rest for the place after it; nothing is left in the end.
 use mathlib.Core.Path.{◌≡◌, refl, sym, ap, ◌∙◌}
 use mathlib.Core.List.{List, [], ◌∷◌, ◌++◌, append_assoc}
-use Prim.Native.Nat.{ℕ, suc, ◌+◌, ◌-◌, ◌/◌, ◌%◌, ◌≤◌, ◌<◌}
+use Prim.Native.Nat.{ℕ, zero, suc, ◌+◌, ◌-◌, ◌/◌, ◌%◌, ◌≤◌, ◌<◌}
 use native.Mathlib.Omega.{arith}
 use lib.ListN.{length, take, drop, set, length-append, length-drop, take-append-drop, get_or-append}
 use lib.Seq.{paste, length-take-le, take_at, drop_at, drop-drop, take-append_seam, get_or-take, set_split}
@@ -13,12 +13,13 @@ use Rattle.image.specs.Row.{row_at}
 use Rattle.image.specs.RowBytes.{row_bytes}
 use Rattle.image.proofs.Slices.{bytes_taken}
 use Rattle.laws.proofs.Lengths.{number_length, bytes_length}
-use Rattle.rows.specs.declared.value.Value.{Value}
+use Rattle.std.specs.Prelude.{Some, None}
+use Rattle.rows.specs.declared.value.ChildRows.{ChildRows}
 use Rattle.rows.specs.declared.output.Output.{Output}
 use Rattle.rows.specs.Output.{over, Fits, Put}
-use Rattle.rows.specs.Value.{front_bytes, own_bytes}
+use Rattle.rows.specs.Value.{Content, front_bytes, own_bytes}
 use Rattle.rows.proofs.Joined.{joined_start, joined_next, joined_end, number_next}
-use Rattle.rows.proofs.RowParts.{RowValue, children_bytes, own_length}
+use Rattle.rows.proofs.RowParts.{RowValue, nested_bytes, children_bytes, own_length}
 
 -- nothing, one byte
 pub over_none : (out : List ℕ) (at : ℕ) → over out at [] ≡ out
@@ -182,6 +183,15 @@ module _ {w x : ℕ} {out₀ : List ℕ} {at : ℕ} {out : List ℕ} {rest k : �
       let e : w - k ≡ 0 = omega arith in
       put_done (rw e at t.put)
 
+-- The bytes of an image are pieces of one byte.
+abbrev one_byte_lem : List ℕ → ℕ → List ℕ
+one_byte_lem s j = byte_at s j ∷ []
+
+pub bytes_joined : (s : List ℕ) (place n : ℕ) → bytes_at s place n ≡ pieces (one_byte_lem s) place n
+unfolding pieces bytes_at
+bytes_joined s place zero = refl
+bytes_joined s place (suc n) = ap (λ (b : List ℕ). byte_at s place ∷ b) (bytes_joined s (suc place) n)
+
 -- Bytes that the library copies over a part of a buffer.
 pub part_over : (out : List ℕ) (at : ℕ) (bytes : List ℕ) {part : List ℕ} → part ≡ bytes → put_mid at (at + length bytes - at) out part ≡ over out at bytes
 unfolding over
@@ -213,30 +223,40 @@ module _ {out bytes : List ℕ} {at : ℕ} (fits : Fits out at bytes) (e : bytes
 pub pieces_from : {p : ℕ → List ℕ} {i n : ℕ} {out₀ whole out : List ℕ} {at next : ℕ} → ToPut out₀ at whole out next (pieces p i n) → PiecesToPut p i n out next out next 0
 pieces_from {p} {i} {n} t = pieces_start p i n (record { within = t.fits })
 
--- What a value has before its child rows: the byte 01, the number in front, the image's bytes.
-module _ (s : List ℕ) (v : Value) {out : List ℕ} {at : ℕ} (fits : Fits out at (own_bytes s v)) where
-  pub own_fits : at + 1 + v.width + v.size ≤ length out
-  own_fits = omega (arith, fits.within, own_length s v)
+-- What a value has before its child rows: the byte 01, the number in front, the bytes.
+module _ (v : Content) {out : List ℕ} {at : ℕ} (fits : Fits out at (own_bytes v)) where
+  pub own_fits : at + 1 + v.width + length v.bytes ≤ length out
+  own_fits = omega (arith, fits.within, own_length v)
 
-  own_start : ToPut out at (own_bytes s v) out at (1 ∷ (number_bytes v.width v.head ++ bytes_at s v.place v.size))
+  own_start : ToPut out at (own_bytes v) out at (1 ∷ (number_bytes v.width v.head ++ v.bytes))
   unfolding own_bytes front_bytes
   own_start = put_start fits
 
-  pub own_put : {number place end : ℕ} {marked headed own : List ℕ} → (number ≡ at + length (number_bytes 1 1)) × (marked ≡ over out at (number_bytes 1 1)) → (place ≡ number + length (number_bytes v.width v.head)) × (headed ≡ over marked number (number_bytes v.width v.head)) → (end ≡ place + length (bytes_at s v.place v.size)) × (own ≡ over headed place (bytes_at s v.place v.size))
-      → (end ≡ at + length (own_bytes s v)) × (own ≡ over out at (own_bytes s v))
+  pub own_put : {number place end : ℕ} {marked headed own : List ℕ} → (number ≡ at + length (number_bytes 1 1)) × (marked ≡ over out at (number_bytes 1 1)) → (place ≡ number + length (number_bytes v.width v.head)) × (headed ≡ over marked number (number_bytes v.width v.head)) → (end ≡ place + length v.bytes) × (own ≡ over headed place v.bytes)
+      → (end ≡ at + length (own_bytes v)) × (own ≡ over out at (own_bytes v))
   unfolding number_bytes
   own_put e f g = put_last (put_more _ _ (put_more (1 ∷ []) _ own_start e.1 e.0) f.1 f.0) g.1 g.0
 
 -- A value: its own bytes, then its child rows.
-module _ {depth : ℕ} {s : List ℕ} {k i : ℕ} {v : Value} (r : RowValue depth s k i v) {out : List ℕ} {at : ℕ} (fits : Fits out at (row_bytes (row_at depth s k i))) where
-  value_start : ToPut out at (row_bytes (row_at depth s k i)) out at (own_bytes s v ++ children_bytes depth s v)
+module _ {depth : ℕ} {s : List ℕ} {k i : ℕ} {v : Content} (r : RowValue depth s k i v) {out : List ℕ} {at : ℕ} (fits : Fits out at (row_bytes (row_at depth s k i))) where
+  value_start : ToPut out at (row_bytes (row_at depth s k i)) out at (own_bytes v ++ children_bytes depth s v.rows)
   value_start = put_as (put_start fits) r.bytes
 
-  pub value_fits : Fits out at (own_bytes s v)
+  pub value_fits : Fits out at (own_bytes v)
   value_fits = put_fits _ _ value_start
 
-  pub value_put : {own : List ℕ} {next : ℕ} → own ≡ over out at (own_bytes s v) → next ≡ at + length (own_bytes s v) → ToPut out at (row_bytes (row_at depth s k i)) own next (children_bytes depth s v)
+  pub value_put : {own : List ℕ} {next : ℕ} → own ≡ over out at (own_bytes v) → next ≡ at + length (own_bytes v) → ToPut out at (row_bytes (row_at depth s k i)) own next (children_bytes depth s v.rows)
   value_put e f = put_more _ _ value_start e f
+
+  -- where it has none, and where it has some
+  module _ {own : List ℕ} {next : ℕ} (e : own ≡ over out at (own_bytes v)) (f : next ≡ at + length (own_bytes v)) where
+    pub leaf_put : v.rows ≡ None → (next ≡ at + length (row_bytes (row_at depth s k i))) × (own ≡ over out at (row_bytes (row_at depth s k i)))
+    leaf_put none =
+        let all : ToPut out at (row_bytes (row_at depth s k i)) own next [] = rw none at (value_put e f) in
+        (put_place all, put_done all)
+
+    pub nested_put : {c : ChildRows} → v.rows ≡ Some c → ToPut out at (row_bytes (row_at depth s k i)) own next (nested_bytes depth s c)
+    nested_put some = rw some at (value_put e f)
 
 -- A number that is put takes as many bytes as its width.
 pub number_at : {x y : Output} (w n : ℕ) → Put x y (number_bytes w n) → (y.at ≡ x.at + w) × (length y.bytes.now ≡ length x.bytes.now)

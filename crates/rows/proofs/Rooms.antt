@@ -14,10 +14,11 @@ use Rattle.std.proofs.Common.{Some, None}
 use Rattle.image.specs.Ranges.{pieces}
 use Rattle.image.specs.Row.{row_at}
 use Rattle.image.specs.RowBytes.{row_bytes}
-use Rattle.rows.specs.declared.value.Value.{Value}
+use Rattle.rows.specs.declared.value.ChildRows.{ChildRows}
+use Rattle.rows.specs.Value.{Content}
 use Rattle.rows.specs.Output.{room_after}
 use Rattle.rows.proofs.Joined.{joined_start, joined_next, joined_end}
-use Rattle.rows.proofs.RowParts.{RowValue, children_bytes, value_length}
+use Rattle.rows.proofs.RowParts.{RowValue, nested_bytes, children_bytes, value_length}
 
 -- bytes that fit, and bytes that do not
 pub fits_left : (room n : ℕ) → n ≤ room → Some (room - n) ≡ room_after room n
@@ -118,12 +119,22 @@ pub null_left : (room : ℕ) {bytes : List ℕ} {left : Option ℕ} → bytes �
 null_left room e told = rw (ap length e) (room_checked room 1 _ told)
 
 -- a value: its own bytes, then its child rows
-module _ {depth : ℕ} {s : List ℕ} {k i : ℕ} {v : Value} (r : RowValue depth s k i v) (room : ℕ) where
-  pub value_short : (1 + v.width + v.size ≤ room → ⊥) → None ≡ room_after room (length (row_bytes (row_at depth s k i)))
+module _ {depth : ℕ} {s : List ℕ} {k i : ℕ} {v : Content} (r : RowValue depth s k i v) (room : ℕ) where
+  pub value_short : (1 + v.width + length v.bytes ≤ room → ⊥) → None ≡ room_after room (length (row_bytes (row_at depth s k i)))
   value_short past = past_short room _ (omega (arith, value_length r))
 
-  pub value_left : {left : ℕ} → (1 + v.width + v.size ≤ room) × (left ≡ room - (1 + v.width + v.size)) → room_after left (length (children_bytes depth s v)) ≡ room_after room (length (row_bytes (row_at depth s k i)))
-  value_left {left} told =
-      let own : ℕ = 1 + v.width + v.size in
-      let e : left + own ≡ room = omega (arith, told) in
-      room_moved left (length (children_bytes depth s v)) own ∙ rw (e, ← value_length r)
+  module _ {left : ℕ} (told : (1 + v.width + length v.bytes ≤ room) × (left ≡ room - (1 + v.width + length v.bytes))) where
+    value_left : room_after left (length (children_bytes depth s v.rows)) ≡ room_after room (length (row_bytes (row_at depth s k i)))
+    value_left =
+        let own : ℕ = 1 + v.width + length v.bytes in
+        let e : left + own ≡ room = omega (arith, told) in
+        room_moved left (length (children_bytes depth s v.rows)) own ∙ rw (e, ← value_length r)
+
+    -- where it has none, and where it has some
+    pub leaf_left : v.rows ≡ None → Some left ≡ room_after room (length (row_bytes (row_at depth s k i)))
+    leaf_left none =
+        let same : left ≡ left - 0 = omega arith in
+        ap Some same ∙ fits_left left 0 (omega arith) ∙ rw none at value_left
+
+    pub nested_left : {c : ChildRows} → v.rows ≡ Some c → room_after left (length (nested_bytes depth s c)) ≡ room_after room (length (row_bytes (row_at depth s k i)))
+    nested_left some = rw some at value_left

@@ -8,23 +8,24 @@ use native.Mathlib.Omega.{arith}
 use lib.ListN.{length, length-append}
 use borrow.Author.Tests.{not-true, not-false}
 use Rattle.image.specs.Ranges.{pieces}
-use Rattle.image.specs.Bytes.{bit_at, number_bytes, bytes_at}
-use Rattle.image.specs.Record.{code_of, offset_of, has_bitmap, bitmap_place, first_bit}
+use Rattle.image.specs.Bytes.{number_bytes}
+use Rattle.image.specs.Record.{code_of, offset_of}
 use Rattle.image.specs.TypeCode.{layout_of}
 use Rattle.image.specs.Element.{valid}
 use Rattle.image.specs.Reads.{Read}
 use Rattle.image.specs.Row.{Row, range, value_at, row_at}
 use Rattle.image.specs.RowBytes.{row_bytes, rows_bytes}
-use Rattle.laws.proofs.Lengths.{number_length, bytes_length}
+use Rattle.laws.proofs.Lengths.{number_length}
 use Rattle.accepted.specs.Parts.{Side, Part}
 use Rattle.accepted.proofs.Nodes.{side_part}
 use Rattle.accepted.proofs.Nodes.{side_small}
-use Rattle.rows.specs.declared.value.Value.{Value}
-use Rattle.rows.specs.Value.{is_null, front_bytes, own_bytes, child_rows}
+use Rattle.std.specs.Prelude.{Option, Some, None}
+use Rattle.rows.specs.declared.value.ChildRows.{ChildRows}
+use Rattle.rows.specs.Value.{Content, is_null, front_bytes, own_bytes, rows_of, child_rows}
 use Rattle.rows.specs.ValueOf.{value_of}
 use Rattle.rows.proofs.Joined.{parts_joined}
 use Rattle.rows.proofs.ValueRows.{value_written}
-use Rattle.rows.proofs.ValuePlaces.{Placed, value_placed}
+use Rattle.rows.proofs.ValuePlaces.{PlacedRows, Placed, value_placed}
 
 -- whether a row is null
 pub ended_null : (depth : ℕ) (s : List ℕ) (k i : ℕ) → depth ≡ 0 → true ≡ is_null depth s k i
@@ -35,15 +36,6 @@ pub bit_null : (depth : ℕ) (s : List ℕ) (k i : ℕ) {b : Bool} → (depth �
 unfolding is_null
 bit_null zero s k i deep e = absurd (deep refl)
 bit_null (suc depth) s k i deep e = ap not e
-
--- the row's bit, by whether there is a bitmap
-pub no_bitmap : (s : List ℕ) (k i : ℕ) → has_bitmap s k ≡ false → true ≡ valid s k i
-unfolding valid
-no_bitmap s k i e = rw e
-
-pub by_bitmap : (s : List ℕ) (k i : ℕ) {p f : ℕ} {b : Bool} → has_bitmap s k ≡ true → Read (bitmap_place s k) 32 p → Read (first_bit s k) 32 f → b ≡ bit_at s p (f + i) → b ≡ valid s k i
-unfolding valid
-by_bitmap s k i e ep ef eb = rw (e, ← ep.value, ← ef.value) eb
 
 -- a null is one byte
 pub row_null : (depth : ℕ) (s : List ℕ) (k i : ℕ) → is_null depth s k i ≡ true → row_bytes (row_at depth s k i) ≡ 0 ∷ []
@@ -64,23 +56,36 @@ unfolding is_null
 not_null zero s k i e = cc
 not_null (suc depth) s k i e = not-false (valid s k i) e
 
--- the rows of child c of a value, of which `sub c i` is row i
-abbrev pub child_bytes : (ℕ → ℕ → Row) → Value → ℕ → List ℕ
+-- the rows of child c of child rows, of which `sub c i` is row i
+abbrev pub child_bytes : (ℕ → ℕ → Row) → ChildRows → ℕ → List ℕ
 child_bytes sub v c = rows_bytes (range (sub c) v.start v.count)
 
--- the bytes of all its child rows, one depth less
-abbrev pub children_bytes : ℕ → List ℕ → Value → List ℕ
-children_bytes depth s v = pieces (child_bytes (row_at (depth - 1) s) v) v.child v.parts
+-- the bytes of all of them, one depth less
+abbrev pub nested_bytes : ℕ → List ℕ → ChildRows → List ℕ
+nested_bytes depth s v = pieces (child_bytes (row_at (depth - 1) s) v) v.child v.parts
+
+abbrev pub children_bytes : ℕ → List ℕ → Option ChildRows → List ℕ
+children_bytes depth s None = []
+children_bytes depth s (Some v) = nested_bytes depth s v
 
 -- A row is not null and is written as the value: its own bytes, then its child rows, one depth less.
-pub record RowValue (depth : ℕ) (s : List ℕ) (k i : ℕ) (v : Value) : Type 0 where
+pub record RowValue (depth : ℕ) (s : List ℕ) (k i : ℕ) (v : Content) : Type 0 where
   pub deep : depth ≡ 0 → ⊥
-  pub bytes : row_bytes (row_at depth s k i) ≡ own_bytes s v ++ children_bytes depth s v
+  pub bytes : row_bytes (row_at depth s k i) ≡ own_bytes v ++ children_bytes depth s v.rows
   pub placed : Placed s v
 
-children_joined : (sub : ℕ → ℕ → Row) (v : Value) → rows_bytes (child_rows sub v) ≡ pieces (child_bytes sub v) v.child v.parts
-unfolding child_rows
-children_joined sub v = parts_joined sub v.child v.parts v.start v.count
+-- Child rows that it has are rows of nodes, and there is a depth for them.
+pub record Below (depth : ℕ) (s : List ℕ) (v : ChildRows) : Type 0 where
+  pub deep : depth ≡ 0 → ⊥
+  pub placed : PlacedRows s v
+
+pub below : {depth : ℕ} {s : List ℕ} {k i : ℕ} {v : Content} {c : ChildRows} → RowValue depth s k i v → v.rows ≡ Some c → Below depth s c
+below r e = record { deep = r.deep; placed = rw e at r.placed.rows }
+
+children_joined : (depth : ℕ) (s : List ℕ) (rows : Option ChildRows) → rows_bytes (rows_of (row_at (depth - 1) s) rows) ≡ children_bytes depth s rows
+unfolding rows_bytes
+children_joined depth s None = refl
+children_joined depth s (Some v) = parts_joined (row_at (depth - 1) s) v.child v.parts v.start v.count
 
 row_value : (depth : ℕ) (s : List ℕ) (k i : ℕ) → is_null depth s k i ≡ false → row_at depth s k i ≡ value_at (layout_of (code_of s k)) (row_at (depth - 1) s) s k (offset_of s k + i)
 unfolding is_null row_at
@@ -102,25 +107,25 @@ module _ (depth : ℕ) {s : List ℕ} {k i : ℕ} (r : Side s k i 1) {b : Bool} 
   pub row_part : Part s k (o + i) 1
   row_part = rw at.value (side_part r (not_null depth s k i (sym eb ∙ is)))
 
-  pub value_of_lem : {v : Value} → v ≡ value_of (layout_of (code_of s k)) s k (o + i) → RowValue depth s k i v
+  pub value_of_lem : {v : Content} → v ≡ value_of (layout_of (code_of s k)) s k (o + i) → RowValue depth s k i v
+  unfolding child_rows
   value_of_lem {v} ev = record {
     deep = not_ended depth s k i (sym eb ∙ is);
     bytes =
         ap row_bytes (row_value depth s k i (sym eb ∙ is))
         ∙ rw (← ev, at.value) at (value_written row_part (row_at (depth - 1) s))
-        ∙ ap (λ (b : List ℕ). own_bytes s v ++ b) (children_joined (row_at (depth - 1) s) v);
+        ∙ ap (λ (b : List ℕ). own_bytes v ++ b) (children_joined depth s v.rows);
     placed = rw ev (value_placed row_part);
   }
 
 -- how many bytes a value takes
-pub own_length : (s : List ℕ) (v : Value) → length (own_bytes s v) ≡ 1 + v.width + v.size
+pub own_length : (v : Content) → length (own_bytes v) ≡ 1 + v.width + length v.bytes
 unfolding own_bytes front_bytes
-own_length s v =
+own_length v =
     let number : List ℕ = number_bytes v.width v.head in
-    let bytes : List ℕ = bytes_at s v.place v.size in
-    omega (arith, length-append number bytes, number_length v.width v.head, bytes_length s v.place v.size)
+    omega (arith, length-append number v.bytes, number_length v.width v.head)
 
-pub value_length : {depth : ℕ} {s : List ℕ} {k i : ℕ} {v : Value} → RowValue depth s k i v → length (row_bytes (row_at depth s k i)) ≡ 1 + v.width + v.size + length (children_bytes depth s v)
+pub value_length : {depth : ℕ} {s : List ℕ} {k i : ℕ} {v : Content} → RowValue depth s k i v → length (row_bytes (row_at depth s k i)) ≡ 1 + v.width + length v.bytes + length (children_bytes depth s v.rows)
 value_length {depth} {s} {k} {i} {v} r =
-    let all : length (row_bytes (row_at depth s k i)) ≡ length (own_bytes s v ++ children_bytes depth s v) = ap length r.bytes in
-    omega (arith, all, length-append (own_bytes s v) (children_bytes depth s v), own_length s v)
+    let all : length (row_bytes (row_at depth s k i)) ≡ length (own_bytes v ++ children_bytes depth s v.rows) = ap length r.bytes in
+    omega (arith, all, length-append (own_bytes v) (children_bytes depth s v.rows), own_length v)

@@ -51,7 +51,6 @@ module _ {s : List ℕ} {k i n : ℕ} (r : Side s k i n) where
   pub row_kept : {c : Column} {run : ℕ} (h : ℕ) → h < n → Behind s k c (i + h) run → Kept s k c (i + h) run
   row_kept h lt at = behind_kept (rows_from h lt) (omega arith) at
 
--- two things, and a third
 -- the rows behind row i in its run are the same row
 module _ (depth : ℕ) {s : List ℕ} {k : ℕ} {c : Column} {i n : ℕ} (h : ℕ) {run : ℕ} {stay : Stay} (r : Side s k i n) (st : Stays s k c (i + h) (n - h) run stay) where
   pub rows_same : (q : ℕ) → q < stay.rows - 1 → bytes_of depth s k (i + (h + 1) + q) ≡ bytes_of depth s k (i + h)

@@ -3,19 +3,19 @@
 use mathlib.Core.Path.{◌≡◌, refl}
 use mathlib.Core.Bool.{Bool, true, false}
 use mathlib.Core.List.{List}
-use Prim.Native.Nat.{ℕ, suc, ◌+◌, ◌*◌, ◌≤◌, ◌<◌}
+use Prim.Native.Nat.{ℕ, suc, ◌+◌, ◌*◌, ◌-◌, ◌≤◌, ◌<◌}
 use native.Mathlib.Nat.{one-mul}
 use native.Mathlib.Numerals.{add-one}
 use native.Mathlib.Omega.{arith}
-use lib.Dec.{leb}
-use lib.ListN.{length}
-use borrow.Author.Tests.{lt-ltb, leb-true, leb-false}
+use lib.Dec.{leb, ltb}
+use lib.ListN.{length, take, drop}
+use borrow.Author.Tests.{lt-ltb, le-ltb, leb-true, leb-false}
 use Rattle.image.specs.declared.type_code.Layout.{Layout}
 use Rattle.image.specs.declared.type_code.Layout.TheVariants.{Null, Boolean, FixedWidth, VariableSize, View, List as Lists, ListView, FixedList, Struct, DenseUnion, SparseUnion, Dictionary, Runs}
 use Rattle.image.specs.declared.type_code.Count.TheVariants.{Exactly}
 use Rattle.image.specs.Record.{node_count, code_of, p1_of, length_of, first_child, child_count, buffer_place}
 use Rattle.image.specs.TypeCode.{layout_of, child_rule}
-use Rattle.image.specs.Element.{element_width, element_place, element_at, type_id_at, child_end, child_with_id, view_length, view_data, run_at}
+use Rattle.image.specs.Element.{element_width, element_place, element_at, variable_text, type_id_at, child_end, child_with_id, view_length, view_data, run_at}
 use Rattle.laws.specs.Accepted.{AcceptedImage, IdKnown}
 use Rattle.accepted.specs.Parts.{Side, Part, Elements, Viewed}
 use Rattle.accepted.proofs.Nodes.{child_node, first_child_node, part_node}
@@ -24,20 +24,36 @@ use Rattle.accepted.proofs.Texts.{text_rises, text_inside}
 use Rattle.accepted.proofs.Views.{shown_short, shown_long, viewed, view_place_lem}
 use Rattle.accepted.proofs.ChildRows.{fixed_list_within, fixed_list_small, key_below, dense_known, dense_within, sparse_known, sparse_within}
 use Rattle.accepted.proofs.RunEnds.{run_first, runs_cover}
-use Rattle.rows.specs.declared.value.Value.{Value}
-use Rattle.rows.specs.Value.{leaf_value, nested_value}
-use Rattle.rows.specs.ValueOf.{union_value, value_of}
+use Rattle.std.specs.Prelude.{Option, Some, None, ⊤}
+use Rattle.image.specs.Bytes.{bytes_at}
+use Rattle.image.proofs.Slices.{bytes_taken}
+use Rattle.laws.proofs.Lengths.{bytes_length}
+use Rattle.rows.specs.declared.value.ChildRows.{ChildRows}
+use Rattle.rows.specs.Value.{Content, leaf_value, nested_value}
+use Rattle.rows.specs.ValueOf.{byte_value, union_value, value_of}
 
--- the number in front takes at most four bytes, the bytes lie inside, and the child rows are rows of nodes
-pub record Placed (s : List ℕ) (v : Value) : Type 0 where
-  pub narrow : v.width ≤ 4
-  pub inside : v.place + v.size ≤ length s
+-- child rows are rows of nodes
+pub record PlacedRows (s : List ℕ) (v : ChildRows) : Type 0 where
   pub parts : (c : ℕ) → c < v.parts → Side s (v.child + c) v.start v.count
   pub few : v.child + v.parts ≤ 65536
 
--- bytes of the image
-leaf_placed : (s : List ℕ) (head width place size : ℕ) → width ≤ 4 → place + size ≤ length s → Placed s (leaf_value head width place size)
-leaf_placed s head width place size narrow inside = record { narrow = narrow; inside = inside; parts = λ c lt. absurd (omega arith); few = omega arith }
+abbrev pub RowsPlaced : List ℕ → Option ChildRows → Type 0
+RowsPlaced s None = ⊤
+RowsPlaced s (Some v) = PlacedRows s v
+
+-- the number in front takes at most four bytes, the bytes are no more than the image's, and the child rows are rows of nodes
+pub record Placed (s : List ℕ) (v : Content) : Type 0 where
+  pub narrow : v.width ≤ 4
+  pub inside : length v.bytes ≤ length s
+  pub rows : RowsPlaced s v.rows
+
+-- bytes
+leaf_placed : {s : List ℕ} (head width : ℕ) {bytes : List ℕ} → width ≤ 4 → length bytes ≤ length s → Placed s (leaf_value head width bytes)
+leaf_placed head width narrow inside = record { narrow = narrow; inside = inside; rows = tt }
+
+-- those of the image from a place on
+within : (s : List ℕ) (place size : ℕ) → place + size ≤ length s → length (bytes_at s place size) ≤ length s
+within s place size inside = omega (arith, inside, bytes_length s place size)
 
 -- child rows
 nested_placed : {s : List ℕ} (head width child parts start count : ℕ) → AcceptedImage s → width ≤ 4
@@ -45,8 +61,10 @@ nested_placed : {s : List ℕ} (head width child parts start count : ℕ) → Ac
 nested_placed head width child parts start count image narrow nodes rows = record {
   narrow = narrow;
   inside = omega arith;
-  parts = λ c lt. record { image = image; node = omega arith; rows = rows c lt };
-  few = omega (arith, image.tables.few_nodes);
+  rows = record {
+    parts = λ c lt. record { image = image; node = omega arith; rows = rows c lt };
+    few = omega (arith, image.tables.few_nodes);
+  };
 }
 
 -- rows of one child
@@ -56,6 +74,15 @@ child_placed {s} head width child start count image narrow node rows =
     (λ c lt.
     let first : child + c ≡ child = omega arith in
     rw first rows)
+
+-- a union's value, where the id was found and where it was not
+pub union_known : (s : List ℕ) (k id i : ℕ) {c : ℕ} → c ≡ child_with_id s k id → c < child_end s k → nested_value id 1 c 1 i 1 ≡ union_value s k id i
+union_known s k id i e lt = rw (← e, lt-ltb _ _ lt)
+
+pub union_unknown : (s : List ℕ) (k id i : ℕ) → child_with_id s k id ≡ child_end s k → byte_value id ≡ union_value s k id i
+union_unknown s k id i e =
+    let none : ltb (child_with_id s k id) (child_end s k) ≡ false = le-ltb _ _ (omega (arith, e)) in
+    rw none
 
 -- the bytes of a view lie inside
 shown_inside : {s : List ℕ} {k v : ℕ} → Viewed s k v (view_length s v) → (b : Bool) → leb (view_length s v) 12 ≡ b → view_data s k v + view_length s v ≤ length s
@@ -82,6 +109,10 @@ module _ {s : List ℕ} {k j : ℕ} (r : Part s k j 1) where
     unfolding element_place
     fixed_inside = rw one-mul at (spanned s k j 1 _ _ element refl refl).inside
 
+    pub fixed_lent : {w p : ℕ} → w ≡ element_width s k → p ≡ buffer_place s k 0 → p + j * w + w ≤ length s
+    unfolding element_place
+    fixed_lent ew ep = rw (ew, ep) fixed_inside
+
     pub fixed_small : {w p : ℕ} → w ≡ element_width s k → p ≡ buffer_place s k 0 → p + j * w + w ≤ 16777216
     fixed_small {w} {p} ew ep = rw one-mul at (spanned_small s k j 1 w p element ew ep)
 
@@ -92,6 +123,16 @@ module _ {s : List ℕ} {k j : ℕ} (r : Part s k j 1) where
 
     text_ends : buffer_place s k 1 + element_at s k (suc j) ≤ length s
     text_ends = rw add-one at (text_inside s k j 1 r text)
+
+    -- as they are read
+    module _ {p x y : ℕ} (ep : p ≡ buffer_place s k 1) (ex : x ≡ element_at s k j) (ey : y ≡ element_at s k (suc j)) where
+      pub text_bounds : (x ≤ y) × (p + y ≤ length s)
+      text_bounds = (omega (arith, ex, ey, text_up), omega (arith, ep, ey, text_ends))
+
+      pub text_lent : take (p + y - (p + x)) (drop (p + x) s) ≡ variable_text s k j
+      text_lent =
+          let size : p + y - (p + x) ≡ y - x = omega arith in
+          rw (size, ← ep, ← ex, ← ey) (bytes_taken s (p + x) (y - x) (omega (arith, text_bounds)))
 
   -- a list's offsets
   module _ (lists : layout_of (code_of s k) ≡ Lists) where
@@ -112,7 +153,7 @@ module _ {s : List ℕ} {k j : ℕ} (r : Part s k j 1) where
       (child_placed (type_id_at s k j) 1 (child_with_id s k (type_id_at s k j)) i 1 r.image (omega arith) (omega (arith, known.high, (part_node r).tree.ends)) (omega arith))
 
   -- the bytes of a view, the rows of a Struct's children and of a run's values
-  view_inside : layout_of (code_of s k) ≡ View → view_data s k (element_place s k j) + view_length s (element_place s k j) ≤ length s
+  pub view_inside : layout_of (code_of s k) ≡ View → view_data s k (element_place s k j) + view_length s (element_place s k j) ≤ length s
   unfolding view_length
   view_inside views = shown_inside (rw (view_place_lem r views {p = buffer_place s k 0} refl) at (viewed r views refl refl)) _ refl
 
@@ -129,11 +170,11 @@ module _ {s : List ℕ} {k j : ℕ} (r : Part s k j 1) where
       child_placed 0 0 (first_child s k + 1) (run_at s k j) 1 r.image (omega arith) (child_node s k 1 r.image r.node (omega arith)) (omega (arith, (runs_cover part).value j part.element))
 
   by_layout : (x : Layout) → layout_of (code_of s k) ≡ x → Placed s (value_of x s k j)
-  by_layout Null e = leaf_placed s 0 0 0 0 (omega arith) (omega arith)
-  by_layout Boolean e = leaf_placed s _ 1 0 0 (omega arith) (omega arith)
-  by_layout FixedWidth e = leaf_placed s 0 0 _ _ (omega arith) (fixed_inside e)
-  by_layout VariableSize e = leaf_placed s _ 4 _ _ (omega arith) (omega (arith, text_up e, text_ends e))
-  by_layout View e = leaf_placed s _ 4 _ _ (omega arith) (view_inside e)
+  by_layout Null e = leaf_placed 0 0 (omega arith) (omega arith)
+  by_layout Boolean e = leaf_placed _ 1 (omega arith) (omega arith)
+  by_layout FixedWidth e = leaf_placed 0 0 (omega arith) (within s _ _ (fixed_inside e))
+  by_layout VariableSize e = leaf_placed _ 4 (omega arith) (within s _ _ (omega (arith, text_up e, text_ends e)))
+  by_layout View e = leaf_placed _ 4 (omega arith) (within s _ _ (view_inside e))
   by_layout Lists e = child_placed _ 4 _ _ _ r.image (omega arith) (only_child (rw e)) (omega (arith, list_rises e, list_ends e))
   by_layout ListView e = child_placed _ 4 _ _ _ r.image (omega arith) (only_child (rw e)) ((part_node r).places.list_view e j (omega (arith, r.high)))
   by_layout FixedList e = child_placed 0 0 _ _ _ r.image (omega arith) (only_child (rw e)) (rw one-mul at (fixed_list_within r e))

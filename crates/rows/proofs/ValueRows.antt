@@ -12,7 +12,7 @@ use lib.Dec.{ltb}
 use borrow.Author.Tests.{lt-ltb}
 use Rattle.image.specs.declared.type_code.Layout.{Layout}
 use Rattle.image.specs.declared.type_code.Layout.TheVariants.{Null, Boolean, FixedWidth, VariableSize, View, List as Lists, ListView, FixedList, Struct, DenseUnion, SparseUnion, Dictionary, Runs}
-use Rattle.image.specs.Bytes.{bit_at, bytes_at, number_bytes}
+use Rattle.image.specs.Bytes.{bit_at, number_bytes}
 use Rattle.image.specs.Record.{code_of, id_of, buffer_place}
 use Rattle.image.specs.TypeCode.{layout_of, is_union}
 use Rattle.image.specs.Element.{child_end, child_with_id, type_id_at, dense_offset_at}
@@ -20,13 +20,12 @@ use Rattle.image.specs.Row.{Row, Rows, null, fixed, sized, joined, counted, tagg
 use Rattle.image.specs.RowBytes.{row_bytes, rows_bytes}
 use Rattle.laws.specs.Accepted.{IdKnown}
 use Rattle.laws.proofs.Codes.{dense_code, sparse_code}
-use Rattle.laws.proofs.Lengths.{bytes_length, range_count}
+use Rattle.laws.proofs.Lengths.{range_count}
 use Rattle.accepted.specs.Parts.{Part}
 use Rattle.accepted.proofs.Nodes.{part_node}
 use Rattle.accepted.proofs.ChildRows.{dense_known, sparse_known}
-use Rattle.rows.specs.declared.value.Value.{Value}
-use Rattle.rows.specs.Value.{leaf_value, nested_value, front_bytes, own_bytes, part_rows, child_rows, tagged_first, row_of}
-use Rattle.rows.specs.ValueOf.{text_value, list_value, union_value, value_of}
+use Rattle.rows.specs.Value.{Content, leaf_value, nested_value, front_bytes, own_bytes, part_rows, child_rows, row_of}
+use Rattle.rows.specs.ValueOf.{byte_value, text_value, list_value, union_value, value_of}
 
 then_none : (rs : Rows) → rows_then rs none ≡ rs
 unfolding rows_then
@@ -51,13 +50,13 @@ bit_byte true = refl
 bit_byte false = refl
 
 -- a union's row: by whether a child has its id
-union_row_lem : (sub : ℕ → ℕ → Row) (c i id : ℕ) (known : Bool) → cond known (tagged id (sub c i)) null ≡ tagged_first id (part_rows sub c (cond known 1 0) i 1)
-unfolding part_rows range rows_then
+union_row_lem : (sub : ℕ → ℕ → Row) (c i id : ℕ) (known : Bool) → cond known (tagged id (sub c i)) null ≡ row_of DenseUnion sub (cond known (nested_value id 1 c 1 i 1) (byte_value id))
+unfolding child_rows part_rows range rows_then
 union_row_lem sub c i id true = refl
 union_row_lem sub c i id false = refl
 
-pub value_row : (x : Layout) (sub : ℕ → ℕ → Row) (s : List ℕ) (k j : ℕ) → value_at x sub s k j ≡ row_of x sub s (value_of x s k j)
-unfolding boolean_row fixed_row variable_row view_row list_row list_view_row fixed_list_row struct_row dense_row sparse_row dictionary_row run_row child_rows front_bytes number_bytes bytes_at range
+pub value_row : (x : Layout) (sub : ℕ → ℕ → Row) (s : List ℕ) (k j : ℕ) → value_at x sub s k j ≡ row_of x sub (value_of x s k j)
+unfolding boolean_row fixed_row variable_row view_row list_row list_view_row fixed_list_row struct_row dense_row sparse_row dictionary_row run_row child_rows front_bytes number_bytes range
 value_row Null sub s k j = refl
 value_row Boolean sub s k j = ap fixed (bit_byte (bit_at s (buffer_place s k 0) j))
 value_row FixedWidth sub s k j = refl
@@ -73,32 +72,32 @@ value_row Dictionary sub s k j = ap joined (sym (one_part sub _ _ _))
 value_row Runs sub s k j = ap joined (sym (one_part sub _ _ _))
 
 -- The bytes of a row that a value makes are its own bytes, and then those of its child rows.
-abbrev Written : (ℕ → ℕ → Row) → List ℕ → Value → Row → Type 0
-Written sub s v row = row_bytes row ≡ own_bytes s v ++ rows_bytes (child_rows sub v)
+abbrev Written : (ℕ → ℕ → Row) → Content → Row → Type 0
+Written sub v row = row_bytes row ≡ own_bytes v ++ rows_bytes (child_rows sub v)
 
-module _ (sub : ℕ → ℕ → Row) (s : List ℕ) where
+module _ (sub : ℕ → ℕ → Row) where
   -- bytes without child rows, a text, child rows
-  leaf_written : (head width place size : ℕ) → Written sub s (leaf_value head width place size) (fixed (front_bytes s (leaf_value head width place size)))
-  unfolding row_bytes own_bytes child_rows part_rows
-  leaf_written head width place size = sym (append-nil _)
+  leaf_written : (head width : ℕ) (bytes : List ℕ) → Written sub (leaf_value head width bytes) (fixed (front_bytes (leaf_value head width bytes)))
+  unfolding row_bytes rows_bytes own_bytes child_rows
+  leaf_written head width bytes = sym (append-nil _)
 
-  text_written : (place size : ℕ) → Written sub s (text_value place size) (sized (bytes_at s place size))
-  unfolding row_bytes own_bytes front_bytes child_rows part_rows
-  text_written place size = rw (bytes_length s place size, append-nil (number_bytes 4 size ++ bytes_at s place size))
+  text_written : (bytes : List ℕ) → Written sub (text_value bytes) (sized bytes)
+  unfolding row_bytes rows_bytes own_bytes front_bytes child_rows
+  text_written bytes = sym (append-nil _)
 
-  list_written : (child start count : ℕ) → Written sub s (list_value child start count) (counted (child_rows sub (list_value child start count)))
-  unfolding row_bytes own_bytes front_bytes child_rows bytes_at
+  list_written : (child start count : ℕ) → Written sub (list_value child start count) (counted (child_rows sub (list_value child start count)))
+  unfolding row_bytes own_bytes front_bytes child_rows
   list_written child start count = rw (one_part sub child start count, range_count (sub child) start count, append-nil (number_bytes 4 count))
 
-  rows_written : (child parts start count : ℕ) → Written sub s (nested_value 0 0 child parts start count) (joined (child_rows sub (nested_value 0 0 child parts start count)))
-  unfolding row_bytes own_bytes front_bytes number_bytes bytes_at
+  rows_written : (child parts start count : ℕ) → Written sub (nested_value 0 0 child parts start count) (joined (child_rows sub (nested_value 0 0 child parts start count)))
+  unfolding row_bytes own_bytes front_bytes number_bytes
   rows_written child parts start count = refl
 
   -- a union's id and row, where the id is known
-  union_written : {k j : ℕ} (i : ℕ) → IdKnown s k j → id_of s (child_with_id s k (type_id_at s k j)) ≤ 127
-      → Written sub s (union_value s k (type_id_at s k j) i) (tagged_first (type_id_at s k j) (child_rows sub (union_value s k (type_id_at s k j) i)))
-  unfolding row_bytes own_bytes front_bytes number_bytes bytes_at child_rows part_rows range rows_then
-  union_written {k} {j} i known small =
+  union_written : {s : List ℕ} {k j : ℕ} (i : ℕ) → IdKnown s k j → id_of s (child_with_id s k (type_id_at s k j)) ≤ 127
+      → Written sub (union_value s k (type_id_at s k j) i) (row_of DenseUnion sub (union_value s k (type_id_at s k j) i))
+  unfolding row_bytes own_bytes front_bytes number_bytes child_rows part_rows range rows_then
+  union_written {s} {k} {j} i known small =
       let byte : type_id_at s k j % 256 ≡ type_id_at s k j = mod-eq_of_lt (omega (arith, known.same)) in
       rw (lt-ltb _ _ known.high, byte, append-nil (row_bytes (sub (child_with_id s k (type_id_at s k j)) i)))
 
@@ -106,20 +105,20 @@ module _ {s : List ℕ} {k j : ℕ} (r : Part s k j 1) (sub : ℕ → ℕ → Ro
   id_small : is_union (code_of s k) ≡ true → IdKnown s k j → id_of s (child_with_id s k (type_id_at s k j)) ≤ 127
   id_small union known = ((part_node r).tree.ids union).small (child_with_id s k (type_id_at s k j)) known.low known.high
 
-  by_layout : (x : Layout) → layout_of (code_of s k) ≡ x → Written sub s (value_of x s k j) (row_of x sub s (value_of x s k j))
-  by_layout Null e = leaf_written sub s 0 0 0 0
-  by_layout Boolean e = leaf_written sub s _ 1 0 0
-  by_layout FixedWidth e = leaf_written sub s 0 0 _ _
-  by_layout VariableSize e = text_written sub s _ _
-  by_layout View e = text_written sub s _ _
-  by_layout Lists e = list_written sub s _ _ _
-  by_layout ListView e = list_written sub s _ _ _
-  by_layout FixedList e = rows_written sub s _ _ _ _
-  by_layout Struct e = rows_written sub s _ _ _ _
-  by_layout DenseUnion e = union_written sub s _ (dense_known r e) (id_small (dense_code (code_of s k) e) (dense_known r e))
-  by_layout SparseUnion e = union_written sub s _ (sparse_known r e) (id_small (sparse_code (code_of s k) e) (sparse_known r e))
-  by_layout Dictionary e = rows_written sub s _ _ _ _
-  by_layout Runs e = rows_written sub s _ _ _ _
+  by_layout : (x : Layout) → layout_of (code_of s k) ≡ x → Written sub (value_of x s k j) (row_of x sub (value_of x s k j))
+  by_layout Null e = leaf_written sub 0 0 []
+  by_layout Boolean e = leaf_written sub _ 1 []
+  by_layout FixedWidth e = leaf_written sub 0 0 _
+  by_layout VariableSize e = text_written sub _
+  by_layout View e = text_written sub _
+  by_layout Lists e = list_written sub _ _ _
+  by_layout ListView e = list_written sub _ _ _
+  by_layout FixedList e = rows_written sub _ _ _ _
+  by_layout Struct e = rows_written sub _ _ _ _
+  by_layout DenseUnion e = union_written sub _ (dense_known r e) (id_small (dense_code (code_of s k) e) (dense_known r e))
+  by_layout SparseUnion e = union_written sub _ (sparse_known r e) (id_small (sparse_code (code_of s k) e) (sparse_known r e))
+  by_layout Dictionary e = rows_written sub _ _ _ _
+  by_layout Runs e = rows_written sub _ _ _ _
 
-  pub value_written : row_bytes (value_at (layout_of (code_of s k)) sub s k j) ≡ own_bytes s (value_of (layout_of (code_of s k)) s k j) ++ rows_bytes (child_rows sub (value_of (layout_of (code_of s k)) s k j))
+  pub value_written : row_bytes (value_at (layout_of (code_of s k)) sub s k j) ≡ own_bytes (value_of (layout_of (code_of s k)) s k j) ++ rows_bytes (child_rows sub (value_of (layout_of (code_of s k)) s k j))
   value_written = ap row_bytes (value_row (layout_of (code_of s k)) sub s k j) ∙ by_layout (layout_of (code_of s k)) refl

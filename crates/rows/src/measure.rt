@@ -39,13 +39,16 @@ fn measure_row(
         return room.checked_sub(1);
     }
     let v = value_at(column.node, column.offset + i, run);
-    let mut left = room.checked_sub(1 + v.width + v.size)?;
-    for c in 0..v.parts {
+    let mut left = room.checked_sub(1 + v.width + v.bytes.len())?;
+    let Some(rows) = v.rows else {
+        return Some(left);
+    };
+    for c in 0..rows.parts {
         let child = Node {
             image: column.node.image,
-            number: v.child + c,
+            number: rows.child + c,
         };
-        left = measure_rows(child, v.start, v.count, depth - 1, runs, left)?;
+        left = measure_rows(child, rows.start, rows.count, depth - 1, runs, left)?;
     }
     Some(left)
 }

@@ -6,11 +6,10 @@ ghost use Rattle.image.specs.Of.{◌of◌};
 ghost use Rattle.image.specs.Record.{code_of, first_child};
 ghost use Rattle.image.specs.TypeCode.{layout_of};
 ghost use Rattle.image.specs.Element.{type_id_at};
-ghost use Rattle.laws.specs.Accepted.{IdKnown};
 ghost use Rattle.accepted.specs.Parts.{Part};
 ghost use Rattle.accepted.specs.Runs.{kept_run};
-ghost use Rattle.rows.specs.Value.{leaf_value, nested_value, is_null};
-ghost use Rattle.rows.specs.ValueOf.{rows_value, union_value, value_of};
+ghost use Rattle.rows.specs.Value.{content, leaf_value, nested_value, is_null};
+ghost use Rattle.rows.specs.ValueOf.{text_value, rows_value, union_value, value_of};
 
 use accepted::byte_view::view_bytes;
 use image::bytes::{bit, byte, le};
@@ -18,20 +17,25 @@ use image::element::VIEW_SIZE;
 use image::record::Node;
 use image::type_code::{Layout, TypeCode};
 
+// Child rows: of each of `parts` children from `child` on, `count` rows from `start` on.
 #[derive(Clone, Copy)]
-pub struct Value {
+pub struct ChildRows {
+    pub child: u32,
+    pub parts: u32,
+    pub start: usize,
+    pub count: usize,
+}
+
+#[derive(Clone, Copy)]
+pub struct Value<'a> {
     // the number in front: a text's length, a list's count, a union's id, a Boolean's bit
     pub head: usize,
     // how many bytes the number takes: 0, 1 or 4
     pub width: usize,
     // bytes of the image
-    pub place: usize,
-    pub size: usize,
-    // child rows: of each of `parts` children from `child` on, `count` rows from `start` on
-    pub child: u32,
-    pub parts: u32,
-    pub start: usize,
-    pub count: usize,
+    pub bytes: &'a [u8],
+    // child rows, where it has some
+    pub rows: Option<ChildRows>,
 }
 
 // How many bytes a length or a count takes, and how many an id or a Boolean.
@@ -40,161 +44,185 @@ const COUNT_WIDTH: usize = 4;
 const ID_WIDTH: usize = 1;
 
 // A value without child rows.
-fn leaf(head: usize, width: usize, place: usize, size: usize) -> Value
-    ensures { result ≡ leaf_value head width place size }
+fn leaf(head: usize, width: usize, bytes: &[u8]) -> Value<'_>
+    ensures { content result ≡ leaf_value head width bytes.now }
 {
     Value {
-        head: head,
-        width: width,
-        place: place,
-        size: size,
-        child: 0,
-        parts: 0,
-        start: 0,
-        count: 0,
+        head,
+        width,
+        bytes,
+        rows: None,
     }
 }
 
+// Bytes with their length in front.
+fn text(bytes: &[u8]) -> Value<'_>
+    ensures { content result ≡ text_value bytes.now }
+{
+    leaf(bytes.len(), COUNT_WIDTH, bytes)
+}
+
 // A value of child rows.
-fn nested(head: usize, width: usize, child: u32, parts: u32, start: usize, count: usize) -> Value
-    ensures { result ≡ nested_value head width child parts start count }
+fn nested<'a>(head: usize, width: usize, rows: ChildRows) -> Value<'a>
+    ensures { content result ≡ nested_value head width rows.child rows.parts rows.start rows.count }
 {
     Value {
-        head: head,
-        width: width,
-        place: 0,
-        size: 0,
-        child: child,
-        parts: parts,
-        start: start,
-        count: count,
+        head,
+        width,
+        bytes: &[],
+        rows: Some(rows),
+    }
+}
+
+// Child rows with their count in front.
+fn list<'a>(rows: ChildRows) -> Value<'a>
+    ensures { content result ≡ nested_value rows.count 4 rows.child rows.parts rows.start rows.count }
+{
+    nested(rows.count, COUNT_WIDTH, rows)
+}
+
+// Rows of one child, from a row on.
+fn rows_from(child: u32, start: usize, count: usize) -> ChildRows
+    ensures { result ≡ record { child = child; parts = 1; start = start; count = count } }
+{
+    ChildRows {
+        child,
+        parts: 1,
+        start,
+        count,
     }
 }
 
 // "Boolean: 00 or 01."
-fn boolean_value(node: Node, j: usize) -> Value
-    ensures { result ≡ (value_of Boolean of node.entry) j }
+fn boolean_value(node: Node, j: usize) -> Value<'_>
+    ensures { content result ≡ (value_of Boolean of node.entry) j }
 {
     if bit(node.image, node.buffer_place(0), j) {
-        return leaf(1, ID_WIDTH, 0, 0);
+        return leaf(1, ID_WIDTH, &[]);
     }
-    leaf(0, ID_WIDTH, 0, 0)
+    leaf(0, ID_WIDTH, &[])
 }
 
 // "Fixed widths: the bytes."
-fn fixed_value(node: Node, j: usize) -> Value
+fn fixed_value(node: Node, j: usize) -> Value<'_>
     requires part { (Part of node) j 1 }
     requires layout { layout_of (code_of of node) ≡ FixedWidth }
-    ensures { result ≡ (value_of FixedWidth of node.entry) j }
+    ensures { content result ≡ (value_of FixedWidth of node.entry) j }
 {
     let width = node.element_width();
-    leaf(0, 0, node.buffer_place(0) + j * width, width)
+    let place = node.buffer_place(0) + j * width;
+    leaf(0, 0, &node.image[place..place + width])
 }
 
 // "Text, binary, views: u32 length, bytes." Here of texts and binary, from one offset up to the next.
-fn variable_value(node: Node, j: usize) -> Value
+fn variable_value(node: Node, j: usize) -> Value<'_>
     requires part { (Part of node) j 1 }
     requires layout { layout_of (code_of of node) ≡ VariableSize }
-    ensures { result ≡ (value_of VariableSize of node.entry) j }
+    ensures { content result ≡ (value_of VariableSize of node.entry) j }
 {
+    let place = node.buffer_place(1);
     let from = node.offset_at(j);
-    let size = node.offset_at(j + 1) - from;
-    leaf(size, COUNT_WIDTH, node.buffer_place(1) + from, size)
+    let end = node.offset_at(j + 1);
+    text(&node.image[place + from..place + end])
 }
 
 // The same of views, in the view or in a data buffer.
-fn view_value(node: Node, j: usize) -> Value
+fn view_value(node: Node, j: usize) -> Value<'_>
     requires part { (Part of node) j 1 }
     requires layout { layout_of (code_of of node) ≡ View }
-    ensures { result ≡ (value_of View of node.entry) j }
+    ensures { content result ≡ (value_of View of node.entry) j }
 {
     let view = node.buffer_place(0) + j * VIEW_SIZE;
     let size = le::<4>(node.image, view);
-    leaf(size, COUNT_WIDTH, view_bytes(node, view, size), size)
+    let place = view_bytes(node, view, size);
+    text(&node.image[place..place + size])
 }
 
 // "List kinds and Map: u32 count, child rows." From one offset up to the next.
-fn list_value(node: Node, j: usize) -> Value
+fn list_value(node: Node, j: usize) -> Value<'_>
     requires part { (Part of node) j 1 }
     requires layout { layout_of (code_of of node) ≡ Lists }
-    ensures { result ≡ (value_of Lists of node.entry) j }
+    ensures { content result ≡ (value_of Lists of node.entry) j }
 {
     let from = node.offset_at(j);
     let count = node.offset_at(j + 1) - from;
-    nested(count, COUNT_WIDTH, node.first_child(), 1, from, count)
+    list(rows_from(node.first_child(), from, count))
 }
 
 // Of list views, from the offset on as many as the size says.
-fn list_view_value(node: Node, j: usize) -> Value
+fn list_view_value(node: Node, j: usize) -> Value<'_>
     requires part { (Part of node) j 1 }
     requires layout { layout_of (code_of of node) ≡ ListView }
-    ensures { result ≡ (value_of ListView of node.entry) j }
+    ensures { content result ≡ (value_of ListView of node.entry) j }
 {
     let from = node.offset_at(j);
     let count = node.numbers(1, node.element_width()).at(j);
-    nested(count, COUNT_WIDTH, node.first_child(), 1, from, count)
+    list(rows_from(node.first_child(), from, count))
 }
 
 // "Fixed lists, Structs: child rows." Here p1 rows of the child.
-fn fixed_list_value(node: Node, j: usize) -> Value
+fn fixed_list_value(node: Node, j: usize) -> Value<'_>
     requires part { (Part of node) j 1 }
     requires layout { layout_of (code_of of node) ≡ FixedList }
-    ensures { result ≡ (value_of FixedList of node.entry) j }
+    ensures { content result ≡ (value_of FixedList of node.entry) j }
 {
     let count = node.p1();
-    nested(0, 0, node.first_child(), 1, j * count, count)
+    nested(0, 0, rows_from(node.first_child(), j * count, count))
 }
 
 // Of a Struct, one row of each child.
-fn struct_value(node: Node, j: usize) -> Value
-    ensures { result ≡ (value_of Struct of node.entry) j }
+fn struct_value(node: Node, j: usize) -> Value<'_>
+    ensures { content result ≡ (value_of Struct of node.entry) j }
 {
-    nested(0, 0, node.first_child(), node.child_count(), j, 1)
+    let rows = ChildRows {
+        child: node.first_child(),
+        parts: node.child_count(),
+        start: j,
+        count: 1,
+    };
+    nested(0, 0, rows)
 }
 
 // "Union: the id byte, child row." The row is one of the child that the id names.
-fn union_value(node: Node, j: usize, row: usize) -> Value
-    requires part { (Part of node) j 1 }
-    requires id_known { (IdKnown of node) j }
-    ensures { result ≡ (union_value of node.entry) ((type_id_at of node.entry) j) row }
+fn union_value(node: Node, j: usize, row: usize) -> Value<'_>
+    requires { (Part of node) j 1 }
+    ensures { content result ≡ (union_value of node.entry) ((type_id_at of node.entry) j) row }
 {
     let id = byte(node.image, node.buffer_place(0) + j);
     match node.child_with_id(id) {
-        Some(child) => nested(usize::from(id), ID_WIDTH, child, 1, row, 1),
-        None => leaf(usize::from(id), ID_WIDTH, 0, 0),
+        Some(child) => nested(usize::from(id), ID_WIDTH, rows_from(child, row, 1)),
+        None => leaf(usize::from(id), ID_WIDTH, &[]),
     }
 }
 
 // Its row is at the stored offset, or at the same place.
-fn dense_value(node: Node, j: usize) -> Value
-    requires part { (Part of node) j 1 }
-    requires layout { layout_of (code_of of node) ≡ DenseUnion }
-    ensures { result ≡ (value_of DenseUnion of node.entry) j }
+fn dense_value(node: Node, j: usize) -> Value<'_>
+    requires { (Part of node) j 1 }
+    ensures { content result ≡ (value_of DenseUnion of node.entry) j }
 {
     union_value(node, j, le::<4>(node.image, node.buffer_place(1) + j * 4))
 }
 
-fn sparse_value(node: Node, j: usize) -> Value
-    requires part { (Part of node) j 1 }
-    requires layout { layout_of (code_of of node) ≡ SparseUnion }
-    ensures { result ≡ (value_of SparseUnion of node.entry) j }
+fn sparse_value(node: Node, j: usize) -> Value<'_>
+    requires { (Part of node) j 1 }
+    ensures { content result ≡ (value_of SparseUnion of node.entry) j }
 {
     union_value(node, j, j)
 }
 
 // "Dictionary, runs: the row of the values child." It is named by the key, or numbered as the run.
-fn dictionary_value(node: Node, j: usize) -> Value
+fn dictionary_value(node: Node, j: usize) -> Value<'_>
     requires part { (Part of node) j 1 }
     requires layout { layout_of (code_of of node) ≡ Dictionary }
-    ensures { result ≡ (value_of Dictionary of node.entry) j }
+    ensures { content result ≡ (value_of Dictionary of node.entry) j }
 {
-    nested(0, 0, node.first_child(), 1, node.offset_at(j), 1)
+    nested(0, 0, rows_from(node.first_child(), node.offset_at(j), 1))
 }
 
-fn run_value(node: Node, run: usize) -> Value
-    ensures { result ≡ rows_value ((first_child of node.entry) + 1) run 1 }
+fn run_value(node: Node, run: usize) -> Value<'_>
+    ensures { content result ≡ rows_value ((first_child of node.entry) + 1) run 1 }
 {
-    nested(0, 0, node.first_child() + 1, 1, run, 1)
+    nested(0, 0, rows_from(node.first_child() + 1, run, 1))
 }
 
 // Row i of a node is null: its bitmap bit is 0, or no depth is left.
@@ -205,21 +233,18 @@ pub fn is_null(node: Node, i: usize, depth: usize) -> bool
     if depth == 0 {
         return true;
     }
-    if !node.has_bitmap() {
-        return false;
-    }
-    !bit(node.image, node.bitmap_place(), node.first_bit() + i)
+    !node.is_kept(node.bitmap(), i)
 }
 
 // The value at element j of a node, beside which a run is kept.
-pub fn value_at(node: Node, j: usize, run: usize) -> Value
+pub fn value_at(node: Node, j: usize, run: usize) -> Value<'_>
     requires part { (Part of node) j 1 }
     requires run_value { run ≡ (kept_run of node) j }
-    ensures { result ≡ (value_of (layout_of (code_of of node.entry)) of node.entry) j }
+    ensures { content result ≡ (value_of (layout_of (code_of of node.entry)) of node.entry) j }
 {
     let layout = TypeCode::layout(node.code());
     match layout {
-        Layout::Null => leaf(0, 0, 0, 0),
+        Layout::Null => leaf(0, 0, &[]),
         Layout::Boolean => boolean_value(node, j),
         Layout::FixedWidth => fixed_value(node, j),
         Layout::VariableSize => variable_value(node, j),

@@ -1,12 +1,11 @@
 // The bytes of rows, put into a lent buffer that has room for them.
-ghost use Rattle.std.specs.Prelude.{◌+◌, ◌≤◌, length};
 ghost use Rattle.image.specs.Of.{◌of◌};
 ghost use Rattle.image.specs.Row.{row_at, range};
 ghost use Rattle.image.specs.RowBytes.{row_bytes, rows_bytes};
 ghost use Rattle.accepted.specs.Parts.{Side};
 ghost use Rattle.accepted.specs.Runs.{Kept, Remembered};
 ghost use Rattle.rows.specs.Output.{Fits, Put};
-ghost use Rattle.rows.specs.Value.{own_bytes};
+ghost use Rattle.rows.specs.Value.{content, own_bytes};
 
 use crate::output::Output;
 use crate::value::{Value, is_null, value_at};
@@ -21,14 +20,13 @@ const NULL: usize = 0;
 const VALID: usize = 1;
 
 // What a value has before its child rows.
-fn put_own(s: &[u8], v: Value, out: &mut Output)
-    requires size_in_bounds { v.place + v.size ≤ length s.now }
-    requires fits { Fits out.old.bytes.now out.old.at (own_bytes s.now v) }
-    ensures { Put out.old out.new (own_bytes s.now v) }
+fn put_own(v: Value, out: &mut Output)
+    requires { Fits out.old.bytes.now out.old.at (own_bytes (content v)) }
+    ensures { Put out.old out.new (own_bytes (content v.entry)) }
 {
     out.put_number(VALID, MARK_WIDTH);
     out.put_number(v.head, v.width);
-    out.put_bytes(&s[v.place..v.place + v.size]);
+    out.put_bytes(v.bytes);
 }
 
 // Row i of a node, beside which a run is kept.
@@ -53,18 +51,23 @@ fn write_row(
         return;
     }
     let v = value_at(column.node, column.offset + i, run);
-    put_own(column.node.image, v, out);
-    for c in 0..v.parts {
+    put_own(v, out);
+    let Some(rows) = v.rows else {
+        return;
+    };
+    for c in 0..rows.parts {
         let child = Node {
             image: column.node.image,
-            number: v.child + c,
+            number: rows.child + c,
         };
-        write_rows(child, v.start, v.count, depth - 1, runs, out);
+        write_rows(child, rows.start, rows.count, depth - 1, runs, out);
     }
 }
 
 // n rows of a node from row i on. The rows of one run are the same row, whose bytes are put again.
 // Kept: no `for`, since a step is as long as a run.
+// Kept: measuring walks alike and has functions of its own. It answers with the room that is left and stops where there is none,
+// and writing lends a buffer and cannot stop; a trait over both would have three methods with laws, and two impls.
 #[cycle(write_row_write_rows)]
 pub fn write_rows(
     node: Node,

@@ -1,7 +1,7 @@
 -- Offsets that stand equally far above the first of them make equal spans, and the other way.
 -- Each offset is the first and the spans up to it; a span is the difference of two such distances.
 use mathlib.Core.Path.{◌≡◌, sym, ap₂, ◌∙◌}
-use mathlib.Core.Bool.{Bool, ◌&&◌}
+use mathlib.Core.Bool.{Bool, true, ◌&&◌}
 use mathlib.Core.List.{List}
 use mathlib.Core.Logic.{◌⊎◌, inl, inr}
 use Prim.Native.Nat.{ℕ, suc, ◌+◌, ◌*◌, ◌-◌, ◌<◌, ◌≤◌}
@@ -13,7 +13,7 @@ use borrow.Author.Tests.{eqb-true, eq-eqb}
 use Rattle.image.specs.Bytes.{number_at}
 use Rattle.image.specs.Record.{buffer_place}
 use Rattle.image.specs.Element.{element_width, element_place, element_at}
-use Rattle.image.specs.Reads.{Read}
+use Rattle.image.specs.Reads.{Read, is_width}
 use Rattle.image.proofs.Bools.{tests_same}
 use Rattle.values.specs.Pairs.{all, same_span, span_at, same_distance}
 use Rattle.values.specs.Parts.{Spans, Above}
@@ -28,6 +28,12 @@ above_part s p w x i n h m le r =
 
 pub above_ahead : {s : List ℕ} {p w x i n h m : ℕ} → Above s p w x i n → h ≤ n → m ≤ n - h → Above s p w x (i + h) m
 above_ahead r le rest = above_part _ _ _ _ _ _ _ _ (omega arith) r
+
+-- a width of offsets is one that integers have
+is_width_lem : (w : ℕ) → (w ≡ 4) ⊎ (w ≡ 8) → is_width w ≡ true
+unfolding is_width
+is_width_lem w (inl e) = rw e
+is_width_lem w (inr e) = rw e
 
 pub above_narrow : {s : List ℕ} {p w x i n : ℕ} → Above s p w x i n → w ≤ 8
 above_narrow {w = w} r = cases r.whole

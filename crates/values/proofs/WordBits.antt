@@ -88,6 +88,16 @@ digits zero (suc (suc v)) l m = absurd (omega arith)
 digits (suc zero) (suc (suc v)) l m = absurd (omega arith)
 digits (suc (suc u)) v l m = absurd (omega arith)
 
+pub whole_number_lem : (x : ℕ) → x ≡ x / 2 ^ 0
+whole_number_lem x = omega arith
+
+-- a pair of bits of two numbers, by what is left of these
+pub pair_differs_lem : (x y r : ℕ) {u v : ℕ} → u ≡ x / 2 ^ r → v ≡ y / 2 ^ r → (u % 2 ≡ v % 2 → ⊥) → same_bit_of x y (0 + r) (0 + r) ≡ false
+unfolding same_bit_of bit_of
+pair_differs_lem x y r {u} {v} e f h =
+    let z : 0 + r ≡ r = zero-add r in
+    rw (z, ← e, ← f) (digits (u % 2) (v % 2) (omega arith) (omega arith) ∙ ne_eqb _ _ (λ none. h (omega (arith, none))))
+
 same_digit : (x y i : ℕ) → same_bit_of x y i i ≡ eqb (digit_at (bit_xor x y) i) 0
 unfolding same_bit_of bit_of
 same_digit x y i = digits (digit_at x i) (digit_at y i) (bit_at-lt x i) (bit_at-lt y i) ∙ ap (λ (z : ℕ). eqb z 0) (sym (bit_at_xor x y i))

@@ -9,7 +9,7 @@
 use native.Mathlib.Nat.{add-zero}
 use native.Mathlib.Omega.{arith}
 use Rattle.parse.proofs.Scans.{begun_at, begun_next}
-use Rattle.parse.proofs.Values.{list_child, struct_child, layout_told, bitmap_told, fixed_codes, null_value, boolean_value, bytes_value, text_value, list_value, struct_value}
+use Rattle.parse.proofs.Values.{list_child, struct_child, layout_told, bitmap_told, fixed_codes, null_value, boolean_value, bytes_value_lem, text_value_lem, list_value_lem, struct_value}
 use Rattle.parse.proofs.Rows.{row_too_deep, row_none, row_other, row_no_null, row_null, row_value, list_none, list_stop, list_go}
 use Rattle.parse.proofs.Loops.{left_stop, left_next, left_done}
 use Rattle.parse.proofs.scan.+rows.Goals as goal
@@ -33,7 +33,7 @@ pub scan_row-returns : goal.scan_row-returns
 scan_row-returns t c = row_null _ _ _ _ c.if-depth-eq0.false c.in_ok-mark.ensures.cases c.if-mark-ne-NULL.false (bitmap_told c.code.ensures c.takes_bitmap.ensures c.if-not-takes_bitmap.false)
 
 pub scan_value-returns-then-code-le-INTERVAL_MONTH_DAY_NANO : goal.scan_value-returns-then-code-le-INTERVAL_MONTH_DAY_NANO
-scan_value-returns-then-code-le-INTERVAL_MONTH_DAY_NANO t c = bytes_value _ _ _ _ _ _ (fixed_codes c.code-code.ensures c.if-code-ge-INT8.true c.if-code-le-INTERVAL_MONTH_DAY_NANO.true) c.element_width.ensures c.scan_bytes.ensures
+scan_value-returns-then-code-le-INTERVAL_MONTH_DAY_NANO t c = bytes_value_lem _ _ _ _ _ _ (fixed_codes c.code-code.ensures c.if-code-ge-INT8.true c.if-code-le-INTERVAL_MONTH_DAY_NANO.true) c.element_width.ensures c.scan_bytes.ensures
 
 pub scan_by_layout-returns-in-Null : goal.scan_by_layout-returns-in-Null
 scan_by_layout-returns-in-Null t c = null_value _ _ _ _ _ (layout_told c.requires.code c.layout.ensures c.in-Null.is)
@@ -42,13 +42,13 @@ pub scan_by_layout-returns-in-Boolean : goal.scan_by_layout-returns-in-Boolean
 scan_by_layout-returns-in-Boolean t c = boolean_value _ _ _ _ _ (layout_told c.requires.code c.layout.ensures c.in-Boolean.is) c.scan_boolean.ensures
 
 pub scan_by_layout-returns-in-FixedWidth : goal.scan_by_layout-returns-in-FixedWidth
-scan_by_layout-returns-in-FixedWidth t c = bytes_value _ _ _ _ _ _ (layout_told c.requires.code c.layout.ensures c.in-FixedWidth.is) c.element_width.ensures c.scan_bytes.ensures
+scan_by_layout-returns-in-FixedWidth t c = bytes_value_lem _ _ _ _ _ _ (layout_told c.requires.code c.layout.ensures c.in-FixedWidth.is) c.element_width.ensures c.scan_bytes.ensures
 
 pub scan_by_layout-returns-in-VariableSize : goal.scan_by_layout-returns-in-VariableSize
-scan_by_layout-returns-in-VariableSize t c = text_value _ _ _ _ c.requires.code (layout_told c.requires.code c.layout.ensures c.in-VariableSize.is) c.scan_text.ensures
+scan_by_layout-returns-in-VariableSize t c = text_value_lem _ _ _ _ c.requires.code (layout_told c.requires.code c.layout.ensures c.in-VariableSize.is) c.scan_text.ensures
 
 pub scan_by_layout-returns-in-List : goal.scan_by_layout-returns-in-List
-scan_by_layout-returns-in-List t c = list_value _ _ _ _ (layout_told c.requires.code c.layout.ensures c.in-List.is) c.scan_list.ensures
+scan_by_layout-returns-in-List t c = list_value_lem _ _ _ _ (layout_told c.requires.code c.layout.ensures c.in-List.is) c.scan_list.ensures
 
 pub scan_by_layout-returns-in-Struct : goal.scan_by_layout-returns-in-Struct
 scan_by_layout-returns-in-Struct t c = struct_value _ _ _ _ (layout_told c.requires.code c.layout.ensures c.in-Struct.is) c.scan_struct.ensures

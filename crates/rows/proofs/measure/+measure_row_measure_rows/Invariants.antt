@@ -1,7 +1,7 @@
 -- The measures and the invariants of the cycle.
 use Rattle.image.specs.Row.{row_at}
 use Rattle.accepted.specs.Runs.{Remembered}
-use Rattle.rows.proofs.RowParts.{RowValue, child_bytes}
+use Rattle.rows.proofs.RowParts.{Below, child_bytes}
 use Rattle.rows.proofs.Rooms.{PiecesToMeasure}
 use Prim.Native.Nat.{◌-◌}
 use Rattle.rows.proofs.Stretches.{Measuring}
@@ -15,7 +15,7 @@ abbrev pub decreases-measure_rows : goal.decreases-measure_rows
 decreases-measure_rows l = 2 * l.depth + 1
 
 abbrev pub invariant-measure_row-loop-c : goal.invariant-measure_row-loop-c
-invariant-measure_row-loop-c l = RowValue l.depth l.column.node.image.now l.column.node.number l.i l.v × (PiecesToMeasure (child_bytes (row_at (l.depth - 1) l.column.node.image.now) l.v) l.v.child l.v.parts l.initial.left l.left l.c × Remembered l.column.node.image.now l.runs)
+invariant-measure_row-loop-c l = Below l.depth l.column.node.image.now l.rows × (PiecesToMeasure (child_bytes (row_at (l.depth - 1) l.column.node.image.now) l.rows) l.rows.child l.rows.parts l.initial.left l.left l.c × Remembered l.column.node.image.now l.runs)
 
 abbrev pub invariant-measure_rows-loop-k : goal.invariant-measure_rows-loop-k
 invariant-measure_rows-loop-k l = Measuring l.depth l.column.node.image.now l.column.node.number l.column l.i l.n l.room l.run l.left l.k × Remembered l.column.node.image.now l.runs

@@ -3,9 +3,9 @@
 -- `write_rows` puts row after row, those of one run by putting the bytes of the first again.
 -- The loop keeps that the rows before row k are put, the run that is kept there, and the runs that are remembered.
 use mathlib.Core.Path.{refl, sym, ◌∙◌}
-use Rattle.rows.proofs.RowParts.{row_null, side_few, row_part, value_of_lem, side_row}
-use Rattle.rows.proofs.Stretches.{first_row, rows_from, row_kept, none_written, writing_start, row_fits, others_fit, writing_more, writing_done}
-use Rattle.rows.proofs.Over.{put_last, pieces_from, pieces_fit, pieces_more, pieces_place, pieces_done, null_fits, null_put, value_fits, value_put}
+use Rattle.rows.proofs.RowParts.{row_null, side_few, row_part, value_of_lem, below, side_row}
+use Rattle.rows.proofs.Stretches.{rows_from, row_kept, none_written, writing_start, row_fits, others_fit, writing_more, writing_done}
+use Rattle.rows.proofs.Over.{put_last, pieces_from, pieces_fit, pieces_more, pieces_place, pieces_done, null_fits, null_put, value_fits, leaf_put, nested_put}
 use native.Mathlib.Omega.{arith}
 use Rattle.accepted.proofs.Columns.{node_few, remembered_now}
 use Rattle.rows.proofs.write.+write_row_write_rows.Goals as goal
@@ -26,13 +26,13 @@ pub write_row-value_at-v-requires : goal.write_row-value_at-v-requires
 write_row-value_at-v-requires t c = record { part = row_part _ c.requires.side c.is_null.ensures c.if-is_null.false c.requires.kept.column.offset; run_value = c.requires.kept.same }
 
 pub write_row-put_own-requires : goal.write_row-put_own-requires
-write_row-put_own-requires t c = record { size_in_bounds = (value_of_lem _ c.requires.side c.is_null.ensures c.if-is_null.false c.requires.kept.column.offset c.value_at-v.ensures).placed.inside; fits = value_fits (value_of_lem _ c.requires.side c.is_null.ensures c.if-is_null.false c.requires.kept.column.offset c.value_at-v.ensures) c.requires.fits }
+write_row-put_own-requires t c = value_fits (value_of_lem _ c.requires.side c.is_null.ensures c.if-is_null.false c.requires.kept.column.offset c.value_at-v.ensures) c.requires.fits
+
+pub write_row-returns-in_default-clause-put : goal.write_row-returns-in_default-clause-put
+write_row-returns-in_default-clause-put t c = let both = leaf_put (value_of_lem _ c.requires.side c.is_null.ensures c.if-is_null.false c.requires.kept.column.offset c.value_at-v.ensures) c.requires.fits c.put_own.ensures.bytes c.put_own.ensures.at c.in_default.is in record { lent = c.put_own.ensures.lent; long = c.put_own.ensures.long; at = both.0; bytes = both.1 }
 
 pub write_row-loop-c-init : goal.write_row-loop-c-init
-write_row-loop-c-init t c = (c.put_own.ensures.lent, ((value_of_lem _ c.requires.side c.is_null.ensures c.if-is_null.false c.requires.kept.column.offset c.value_at-v.ensures), (pieces_from (value_put (value_of_lem _ c.requires.side c.is_null.ensures c.if-is_null.false c.requires.kept.column.offset c.value_at-v.ensures) c.requires.fits c.put_own.ensures.bytes c.put_own.ensures.at), c.requires.remembered)))
-
-pub write_row-overflow_sub-depth : goal.write_row-overflow_sub-depth
-write_row-overflow_sub-depth t c = omega (arith, c.loop-c.invariant.1.0.deep)
+write_row-loop-c-init t c = (c.put_own.ensures.lent, (below (value_of_lem _ c.requires.side c.is_null.ensures c.if-is_null.false c.requires.kept.column.offset c.value_at-v.ensures) c.in-Some.is, (pieces_from (nested_put (value_of_lem _ c.requires.side c.is_null.ensures c.if-is_null.false c.requires.kept.column.offset c.value_at-v.ensures) c.requires.fits c.put_own.ensures.bytes c.put_own.ensures.at c.in-Some.is), c.requires.remembered)))
 
 pub write_row-write_rows-requires : goal.write_row-write_rows-requires
 write_row-write_rows-requires t c = (omega (arith, c.decreases, c.loop-c.invariant.1.0.deep), (c.loop-c.invariant.1.0.placed.parts c.loop-c.c c.loop-c-test.true, (c.loop-c.invariant.1.1.1, pieces_fit c.loop-c.invariant.1.1.0 c.loop-c-test.true)))
@@ -41,22 +41,16 @@ pub write_row-loop-c-preserved : goal.write_row-loop-c-preserved
 write_row-loop-c-preserved t c = (c.write_rows.ensures.put.lent ∙ c.loop-c.invariant.0, (c.loop-c.invariant.1.0, (pieces_more c.loop-c.invariant.1.1.0 c.loop-c-test.true c.write_rows.ensures.put.bytes c.write_rows.ensures.put.at, c.write_rows.ensures.remembered_after)))
 
 pub write_row-returns : goal.write_row-returns
-write_row-returns t c = let both = put_last (value_put c.loop-c.invariant.1.0 c.requires.fits c.put_own.ensures.bytes c.put_own.ensures.at) (pieces_done c.loop-c.invariant.1.1.0 c.loop-c-test.false) (pieces_place c.loop-c.invariant.1.1.0 c.loop-c-test.false) in record { put = record { lent = c.loop-c.invariant.0; long = c.loop-c.invariant.1.1.0.put.long ∙ c.put_own.ensures.long; at = both.0; bytes = both.1 }; remembered_after = c.loop-c.invariant.1.1.1 }
+write_row-returns t c = let both = put_last (nested_put (value_of_lem _ c.requires.side c.is_null.ensures c.if-is_null.false c.requires.kept.column.offset c.value_at-v.ensures) c.requires.fits c.put_own.ensures.bytes c.put_own.ensures.at c.in-Some.is) (pieces_done c.loop-c.invariant.1.1.0 c.loop-c-test.false) (pieces_place c.loop-c.invariant.1.1.0 c.loop-c-test.false) in record { put = record { lent = c.loop-c.invariant.0; long = c.loop-c.invariant.1.1.0.put.long ∙ c.put_own.ensures.long; at = both.0; bytes = both.1 }; remembered_after = c.loop-c.invariant.1.1.1 }
 
 pub write_rows-returns-then-n-eq0 : goal.write_rows-returns-then-n-eq0
 write_rows-returns-then-n-eq0 t c = let both = none_written _ _ _ _ _ c.if-n-eq0.true c.requires.fits in record { put = record { lent = refl; long = refl; at = both.0; bytes = both.1 }; remembered_after = c.requires.remembered }
-
-pub write_rows-first_run-run-requires : goal.write_rows-first_run-run-requires
-write_rows-first_run-run-requires t c = (record { side = first_row (rw c.new-column.ensures.node c.requires.side) c.if-n-eq0.false; column_read = c.new-column.ensures.read; remembered = rw c.new-column.ensures.node c.requires.remembered })
 
 pub write_rows-loop-k-init : goal.write_rows-loop-k-init
 write_rows-loop-k-init t c = (refl, (writing_start _ _ _ _ _ (rw c.new-column.ensures.node c.requires.fits) c.first_run-run.ensures, rw c.new-column.ensures.node c.requires.remembered))
 
 pub write_rows-overflow_add-i : goal.write_rows-overflow_add-i
 write_rows-overflow_add-i t c = omega (arith, side_few c.requires.side, c.loop-k-test.true)
-
-pub write_rows-overflow_sub-n : goal.write_rows-overflow_sub-n
-write_rows-overflow_sub-n t c = omega (arith, c.loop-k-test.true)
 
 pub write_rows-stay-stay-requires : goal.write_rows-stay-stay-requires
 write_rows-stay-stay-requires t c = (record { side = (rows_from (rw c.new-column.ensures.node c.requires.side) _ c.loop-k-test.true, omega (arith, c.loop-k-test.true)); kept = row_kept (rw c.new-column.ensures.node c.requires.side) _ c.loop-k-test.true c.loop-k.invariant.1.0.kept })
@@ -67,20 +61,8 @@ write_rows-overflow_add-i-in-loop-k t c = omega (arith, side_few c.requires.side
 pub write_rows-write_row-requires : goal.write_rows-write_row-requires
 write_rows-write_row-requires t c = (omega (arith, c.decreases), (side_row (rw c.new-column.ensures.node c.requires.side) c.loop-k-test.true, (row_kept (rw c.new-column.ensures.node c.requires.side) _ c.loop-k-test.true c.loop-k.invariant.1.0.kept, (c.loop-k.invariant.1.1, row_fits c.loop-k.invariant.1.0 c.loop-k-test.true))))
 
-pub write_rows-overflow_sub-size : goal.write_rows-overflow_sub-size
-write_rows-overflow_sub-size t c = omega (arith, c.write_row.ensures.put.at)
-
-pub write_rows-overflow_sub-stay : goal.write_rows-overflow_sub-stay
-write_rows-overflow_sub-stay t c = omega (arith, c.stay-stay.ensures.some)
-
 pub write_rows-put_times-requires : goal.write_rows-put_times-requires
 write_rows-put_times-requires t c = record { behind = others_fit c.loop-k.invariant.1.0 c.loop-k-test.true (rw c.new-column.ensures.node c.requires.side) c.stay-stay.ensures (c.write_row.ensures.put.at, c.write_row.ensures.put.bytes); times_bound = omega (arith, c.stay-stay.ensures.within, side_few c.requires.side) }
-
-pub write_rows-overflow_add-k : goal.write_rows-overflow_add-k
-write_rows-overflow_add-k t c = omega (arith, c.stay-stay.ensures.within, side_few c.requires.side, c.loop-k-test.true)
-
-pub write_rows-loop-k-smaller : goal.write_rows-loop-k-smaller
-write_rows-loop-k-smaller t c = omega (arith, c.stay-stay.ensures.some, c.stay-stay.ensures.within, c.loop-k-test.true)
 
 pub write_rows-loop-k-preserved : goal.write_rows-loop-k-preserved
 write_rows-loop-k-preserved t c = (c.put_times.ensures.lent ∙ c.write_row.ensures.put.lent ∙ c.loop-k.invariant.0, (writing_more c.loop-k.invariant.1.0 c.loop-k-test.true (rw c.new-column.ensures.node c.requires.side) c.stay-stay.ensures (c.write_row.ensures.put.at, c.write_row.ensures.put.bytes) (c.put_times.ensures.at, c.put_times.ensures.bytes), c.write_row.ensures.remembered_after))

@@ -2,7 +2,7 @@
 use mathlib.Core.Path.{◌≡◌}
 use Rattle.image.specs.Row.{row_at}
 use Rattle.accepted.specs.Runs.{Remembered}
-use Rattle.rows.proofs.RowParts.{RowValue, child_bytes}
+use Rattle.rows.proofs.RowParts.{Below, child_bytes}
 use Rattle.rows.proofs.Stretches.{Writing}
 use Rattle.rows.proofs.Over.{PiecesToPut}
 use Prim.Native.Nat.{◌-◌}
@@ -16,7 +16,7 @@ abbrev pub decreases-write_rows : goal.decreases-write_rows
 decreases-write_rows l = 2 * l.depth + 1
 
 abbrev pub invariant-write_row-loop-c : goal.invariant-write_row-loop-c
-invariant-write_row-loop-c l = (l.out.bytes.ghost_name ≡ l.fn.out.bytes.ghost_name) × (RowValue l.depth l.column.node.image.now l.column.node.number l.i l.v × (PiecesToPut (child_bytes (row_at (l.depth - 1) l.column.node.image.now) l.v) l.v.child l.v.parts l.initial.out.bytes.now l.initial.out.at l.out.bytes.now l.out.at l.c × Remembered l.column.node.image.now l.runs))
+invariant-write_row-loop-c l = (l.out.bytes.ghost_name ≡ l.fn.out.bytes.ghost_name) × (Below l.depth l.column.node.image.now l.rows × (PiecesToPut (child_bytes (row_at (l.depth - 1) l.column.node.image.now) l.rows) l.rows.child l.rows.parts l.initial.out.bytes.now l.initial.out.at l.out.bytes.now l.out.at l.c × Remembered l.column.node.image.now l.runs))
 
 abbrev pub invariant-write_rows-loop-k : goal.invariant-write_rows-loop-k
 invariant-write_rows-loop-k l = (l.out.bytes.ghost_name ≡ l.fn.out.bytes.ghost_name) × (Writing l.depth l.column.node.image.now l.column.node.number l.column l.i l.n l.fn.out.bytes.now l.fn.out.at l.out.bytes.now l.run l.out.at l.k × Remembered l.column.node.image.now l.runs)

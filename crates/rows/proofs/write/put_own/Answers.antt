@@ -3,21 +3,19 @@
 use mathlib.Core.Path.{◌∙◌}
 use native.Mathlib.Omega.{arith}
 use Rattle.rows.proofs.Over.{own_fits, own_put, number_at}
-use Rattle.image.proofs.Slices.{sliced}
-use Rattle.laws.proofs.Lengths.{bytes_length}
 use Rattle.rows.proofs.write.put_own.Goals as goal
 
 pub put_number-requires : goal.put_number-requires
-put_number-requires c = omega (arith, own_fits _ _ c.requires.fits)
+put_number-requires c = omega (arith, own_fits _ c.requires)
 
 pub put_number-requires-2 : goal.put_number-requires-2
-put_number-requires-2 c = omega (arith, own_fits _ _ c.requires.fits, number_at _ _ c.put_number.ensures)
+put_number-requires-2 c = omega (arith, own_fits _ c.requires, number_at _ _ c.put_number.ensures)
 
 pub put_bytes-requires : goal.put_bytes-requires
-put_bytes-requires c = rw (sliced c.args.s.now c.args.v.place c.args.v.size c.requires.size_in_bounds) (omega (arith, bytes_length c.args.s.now c.args.v.place c.args.v.size, own_fits _ _ c.requires.fits, number_at _ _ c.put_number.ensures, number_at _ _ c.put_number-2.ensures))
+put_bytes-requires c = omega (arith, own_fits _ c.requires, number_at _ _ c.put_number.ensures, number_at _ _ c.put_number-2.ensures)
 
 pub returns : goal.returns
 returns c =
-    let p = rw (sliced c.args.s.now c.args.v.place c.args.v.size c.requires.size_in_bounds) at c.put_bytes.ensures in
-    let both = own_put _ _ c.requires.fits (c.put_number.ensures.at, c.put_number.ensures.bytes) (c.put_number-2.ensures.at, c.put_number-2.ensures.bytes) (p.at, p.bytes) in
+    let p = c.put_bytes.ensures in
+    let both = own_put _ c.requires (c.put_number.ensures.at, c.put_number.ensures.bytes) (c.put_number-2.ensures.at, c.put_number-2.ensures.bytes) (p.at, p.bytes) in
     record { lent = p.lent ∙ c.put_number-2.ensures.lent ∙ c.put_number.ensures.lent; long = p.long ∙ c.put_number-2.ensures.long ∙ c.put_number.ensures.long; at = both.0; bytes = both.1 }

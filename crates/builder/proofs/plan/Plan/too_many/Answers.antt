@@ -1,21 +1,12 @@
 -- `too_many` answers whether a node has too many rows.
--- The loop keeps that the nodes that are left decide.
-use native.Mathlib.Nat.{zero-add}
-use borrow.Author.Tests.{lt-ltb, le-ltb}
-use Rattle.image.proofs.Loops.{rest_none, any_more, any_found, any_done}
+-- The lengths that are lent are those of the nodes.
+use native.Mathlib.Omega.{arith}
+use lib.Dec.{ltb}
+use Rattle.image.specs.Record.{most_elements}
+use Rattle.builder.proofs.Planning.{any_listed}
 use Rattle.builder.specs.Plan.{too_many}
 use Rattle.builder.proofs.plan.Plan.too_many.Goals as goal
 
-pub loop-k-init : goal.loop-k-init
-loop-k-init c = rest_none _ _ _
-
-pub returns-then-self-k-gt-MOST_ELEMENTS : goal.returns-then-self-k-gt-MOST_ELEMENTS
-unfolding too_many
-returns-then-self-k-gt-MOST_ELEMENTS c = rw (← c.node_count-k-end.ensures.value) (any_found _ _ _ _ c.loop-k-test.true c.loop-k.invariant (rw zero-add (lt-ltb _ _ c.if-self-k-gt-MOST_ELEMENTS.true)))
-
-pub loop-k-preserved : goal.loop-k-preserved
-unfolding too_many
-loop-k-preserved c = any_more _ _ _ _ c.loop-k-test.true c.loop-k.invariant (rw zero-add (le-ltb _ _ c.if-self-k-gt-MOST_ELEMENTS.false))
-
 pub returns : goal.returns
-returns c = rw (← c.node_count-k-end.ensures.value) (any_done _ _ _ _ c.loop-k-test.false c.loop-k.invariant)
+unfolding too_many
+returns c = rw (c.any_above.ensures, c.node_count.ensures.value) (any_listed (ltb most_elements) c.args.self.now.lengths 0 _ (omega (arith, c.requires, c.well_formed)))

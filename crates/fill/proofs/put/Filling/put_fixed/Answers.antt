@@ -2,7 +2,8 @@
 -- Its bit is set, and its bytes stand behind those of the rows before.
 use mathlib.Core.Path.{refl, ◌∙◌}
 use native.Mathlib.Omega.{arith}
-use Rattle.fill.proofs.Events.{node_small, bit_requires, count_requires, value_near, value_inside, fixed_filled}
+use Rattle.fill.proofs.Parts.{state_sized}
+use Rattle.fill.proofs.Events.{node_small, bit_requires, count_requires, fixed_filled}
 use Rattle.fill.proofs.put.Filling.put_fixed.Goals as goal
 
 pub spot_of-spot-requires : goal.spot_of-spot-requires
@@ -11,17 +12,8 @@ spot_of-spot-requires c = node_small c.requires.getting
 pub set_bit-requires : goal.set_bit-requires
 set_bit-requires c = let both = bit_requires c.requires.getting c.spot_of-spot.ensures (rw c.requires.layout) in record { j_in_bounds = both.0; j_bound = both.1 }
 
-pub overflow_mul-spot : goal.overflow_mul-spot
-overflow_mul-spot c = omega (arith, value_near c.requires.getting c.spot_of-spot.ensures c.requires.layout c.requires.width)
-
-pub overflow_add-spot : goal.overflow_add-spot
-overflow_add-spot c = omega (arith, value_near c.requires.getting c.spot_of-spot.ensures c.requires.layout c.requires.width)
-
-pub put-requires : goal.put-requires
-put-requires c = value_inside c.requires.getting c.spot_of-spot.ensures c.requires.layout c.requires.width c.set_bit.ensures
-
 pub count_row-requires : goal.count_row-requires
 count_row-requires c = count_requires c.requires.getting c.spot_of-spot.ensures
 
 pub returns-clause-filled : goal.returns-clause-filled
-returns-clause-filled c = fixed_filled c.requires.getting c.spot_of-spot.ensures c.requires.layout c.requires.width (omega (arith, c.well_formed), omega (arith, c.well_formed)) _ refl c.set_bit.ensures (c.count_row.ensures.out_after ∙ c.put.ensures) (c.count_row.ensures.rows_after, c.count_row.ensures.spans_after)
+returns-clause-filled c = fixed_filled c.requires.getting c.spot_of-spot.ensures c.requires.layout c.requires.width (state_sized c.args.self.now (omega (arith, c.well_formed))) _ refl c.set_bit.ensures (c.count_row.ensures.out_after ∙ c.put.ensures) (c.count_row.ensures.rows_after, c.count_row.ensures.spans_after)

@@ -2,6 +2,7 @@
 -- Nothing is put but the end of an empty text or list.
 use mathlib.Core.Path.{◌∙◌}
 use native.Mathlib.Omega.{arith}
+use Rattle.fill.proofs.Parts.{state_sized}
 use Rattle.fill.proofs.Events.{node_small, count_requires, end_requires, has_told, has_not, gap_ended, gap_plain}
 use Rattle.fill.proofs.put.Filling.put_gap.Goals.{then-has_offsets, else-has_offsets}
 use Rattle.fill.proofs.put.Filling.put_gap.Goals as goal
@@ -16,4 +17,4 @@ pub count_row-requires : goal.count_row-requires
 count_row-requires c = count_requires c.requires c.spot_of-spot.ensures
 
 pub returns-clause-filled : goal.returns-clause-filled
-returns-clause-filled c = elim c.if-has_offsets.branch [ then-has_offsets w ↦ gap_ended c.requires c.spot_of-spot.ensures (omega (arith, c.well_formed), omega (arith, c.well_formed)) (has_told c.args.node.image.now c.args.node.number c.has_offsets.ensures c.layout-layout.ensures c.code.ensures.value w.if-has_offsets.true) (rw w.self-is at c.count_row.ensures.out_after ∙ w.put_end.ensures) (rw w.self-is at c.count_row.ensures.rows_after, rw w.self-is at c.count_row.ensures.spans_after) | else-has_offsets w ↦ gap_plain c.requires c.spot_of-spot.ensures (omega (arith, c.well_formed), omega (arith, c.well_formed)) (has_not c.args.node.image.now c.args.node.number c.has_offsets.ensures c.layout-layout.ensures c.code.ensures.value w.if-has_offsets.false) (rw w.self-is at c.count_row.ensures.out_after) (rw w.self-is at c.count_row.ensures.rows_after, rw w.self-is at c.count_row.ensures.spans_after) ]
+returns-clause-filled c = elim c.if-has_offsets.branch [ then-has_offsets w ↦ gap_ended c.requires c.spot_of-spot.ensures (state_sized c.args.self.now (omega (arith, c.well_formed))) (has_told c.args.node.image.now c.args.node.number c.has_offsets.ensures c.layout-layout.ensures c.code.ensures.value w.if-has_offsets.true) (rw w.self-is at c.count_row.ensures.out_after ∙ w.put_end.ensures) (rw w.self-is at c.count_row.ensures.rows_after, rw w.self-is at c.count_row.ensures.spans_after) | else-has_offsets w ↦ gap_plain c.requires c.spot_of-spot.ensures (state_sized c.args.self.now (omega (arith, c.well_formed))) (has_not c.args.node.image.now c.args.node.number c.has_offsets.ensures c.layout-layout.ensures c.code.ensures.value w.if-has_offsets.false) (rw w.self-is at c.count_row.ensures.out_after) (rw w.self-is at c.count_row.ensures.rows_after, rw w.self-is at c.count_row.ensures.spans_after) ]

@@ -2,14 +2,12 @@
 -- Its bit is set, and its end stands behind the offsets of the rows before.
 use mathlib.Core.Path.{◌∙◌}
 use native.Mathlib.Omega.{arith}
-use Rattle.fill.proofs.Events.{node_small, bit_requires, count_requires, list_near, list_end_requires, list_filled}
+use Rattle.fill.proofs.Parts.{state_sized}
+use Rattle.fill.proofs.Events.{node_small, bit_requires, count_requires, list_end_requires, list_filled}
 use Rattle.fill.proofs.put.Filling.put_list.Goals as goal
 
 pub spot_of-spot-requires : goal.spot_of-spot-requires
 spot_of-spot-requires c = node_small c.requires.getting
-
-pub overflow_add-end : goal.overflow_add-end
-overflow_add-end c = omega (arith, list_near c.requires.getting c.spot_of-spot.ensures c.requires.layout)
 
 pub set_bit-requires : goal.set_bit-requires
 set_bit-requires c = let both = bit_requires c.requires.getting c.spot_of-spot.ensures (rw c.requires.layout) in record { j_in_bounds = both.0; j_bound = both.1 }
@@ -21,4 +19,4 @@ pub count_row-requires : goal.count_row-requires
 count_row-requires c = count_requires c.requires.getting c.spot_of-spot.ensures
 
 pub returns-clause-filled : goal.returns-clause-filled
-returns-clause-filled c = list_filled c.requires.getting c.spot_of-spot.ensures c.requires.layout (omega (arith, c.well_formed), omega (arith, c.well_formed)) c.set_bit.ensures (c.count_row.ensures.out_after ∙ c.put_end.ensures) (c.count_row.ensures.rows_after, c.count_row.ensures.spans_after)
+returns-clause-filled c = list_filled c.requires.getting c.spot_of-spot.ensures c.requires.layout (state_sized c.args.self.now (omega (arith, c.well_formed))) c.set_bit.ensures (c.count_row.ensures.out_after ∙ c.put_end.ensures) (c.count_row.ensures.rows_after, c.count_row.ensures.spans_after)

@@ -2,6 +2,7 @@
 -- Its bit is set and its count goes on; the other parts are empty.
 use mathlib.Core.Path.{◌∙◌}
 use native.Mathlib.Omega.{arith}
+use Rattle.fill.proofs.Parts.{state_sized}
 use Rattle.fill.proofs.Events.{node_small, bit_requires, count_requires, struct_filled}
 use Rattle.fill.proofs.put.Filling.put_struct.Goals as goal
 
@@ -15,4 +16,4 @@ pub count_row-requires : goal.count_row-requires
 count_row-requires c = count_requires c.requires.getting c.spot_of-spot.ensures
 
 pub returns-clause-filled : goal.returns-clause-filled
-returns-clause-filled c = struct_filled c.requires.getting c.spot_of-spot.ensures c.requires.layout (omega (arith, c.well_formed), omega (arith, c.well_formed)) (c.count_row.ensures.out_after ∙ c.set_bit.ensures) (c.count_row.ensures.rows_after, c.count_row.ensures.spans_after)
+returns-clause-filled c = struct_filled c.requires.getting c.spot_of-spot.ensures c.requires.layout (state_sized c.args.self.now (omega (arith, c.well_formed))) (c.count_row.ensures.out_after ∙ c.set_bit.ensures) (c.count_row.ensures.rows_after, c.count_row.ensures.spans_after)

@@ -2,16 +2,12 @@
 -- The loop keeps that the bytes of what is left of the number, put after those that were put, give the whole.
 use mathlib.Core.Path.{refl, sym, ap}
 use Prim.Native.Nat.{ℕ, ◌+◌}
-use native.Mathlib.Omega.{arith}
 use Rattle.laws.proofs.Lengths.{number_length}
 use Rattle.rows.proofs.Over.{number_start, number_more, number_done}
 use Rattle.rows.proofs.output.Output.put_number.Goals as goal
 
 pub loop-k-init : goal.loop-k-init
 loop-k-init c = (refl, number_start c.requires)
-
-pub bounds-self-at : goal.bounds-self-at
-bounds-self-at c = omega (arith, c.loop-k.invariant.1.put.long)
 
 pub loop-k-preserved : goal.loop-k-preserved
 loop-k-preserved c = (c.loop-k.invariant.0, number_more c.loop-k.invariant.1 c.loop-k-test.true)

@@ -6,26 +6,11 @@ use Rattle.rows.proofs.Over.{pasted}
 use Rattle.rows.proofs.Repeats.{repeating_start, again_requires, again_more, again_done}
 use Rattle.rows.proofs.output.Output.put_times.Goals as goal
 
-pub overflow_sub-from : goal.overflow_sub-from
-overflow_sub-from c = omega (arith, c.requires.behind.0)
-
 pub loop-left-init : goal.loop-left-init
 loop-left-init c = (refl, repeating_start c.requires.behind.0 c.requires.behind.1)
 
-pub overflow_mul-m : goal.overflow_mul-m
-overflow_mul-m c = omega (arith, (again_requires c.loop-left.invariant.1 c.min-m.ensures).1, c.loop-left.invariant.1.put.long, c.well_formed)
-
 pub copy_within-requires-clause-dest_in_bounds : goal.copy_within-requires-clause-dest_in_bounds
 copy_within-requires-clause-dest_in_bounds c = omega (arith, again_requires c.loop-left.invariant.1 c.min-m.ensures)
-
-pub overflow_add-there : goal.overflow_add-there
-overflow_add-there c = omega (arith, c.min-m.ensures, c.loop-left.invariant.1.all, c.requires.times_bound)
-
-pub overflow_sub-left : goal.overflow_sub-left
-overflow_sub-left c = omega (arith, c.min-m.ensures)
-
-pub loop-left-smaller : goal.loop-left-smaller
-loop-left-smaller c = omega (arith, c.min-m.ensures, c.loop-left.invariant.1.some, c.loop-left-test.true)
 
 pub loop-left-preserved : goal.loop-left-preserved
 loop-left-preserved c = (c.loop-left.invariant.0, again_more c.loop-left.invariant.1 c.min-m.ensures (refl, pasted _ _ _ (omega (arith, again_requires c.loop-left.invariant.1 c.min-m.ensures)) _ _ c.copy_within.ensures.after))
