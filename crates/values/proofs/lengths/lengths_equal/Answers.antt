@@ -1,5 +1,6 @@
 -- `values::lengths::lengths_equal` meets its contract.
 -- Offsets that are the same make the same lengths, and so do offsets that stand equally far above the first, and no others.
+use Rattle.values.proofs.Fixed.{fixed_block}
 use Rattle.values.proofs.Spans.{offsets_spans}
 use Rattle.values.proofs.Distances.{narrow_width, else_wide, both_above, distances_spans}
 use mathlib.Core.Path.{refl, sym, ◌∙◌}
@@ -7,11 +8,14 @@ use native.Mathlib.Nat.{add-zero}
 use native.Mathlib.Omega.{arith}
 use Rattle.values.proofs.lengths.lengths_equal.Goals as goal
 
-pub offsets_same-requires : goal.offsets_same-requires
-offsets_same-requires c = c.requires
+pub overflow_add-offsets : goal.overflow_add-offsets
+overflow_add-offsets c = omega (arith, c.requires.left_small)
 
-pub returns-then-offsets_same : goal.returns-then-offsets_same
-returns-then-offsets_same c = sym (offsets_spans c.requires (sym c.offsets_same.ensures ∙ c.if-offsets_same.true))
+pub elements_equal-requires : goal.elements_equal-requires
+elements_equal-requires c = record { left = c.requires.left_inside; right = c.requires.right_inside; width = c.requires.same }
+
+pub returns-then-elements_equal : goal.returns-then-elements_equal
+returns-then-elements_equal c = sym (offsets_spans c.requires (fixed_block _ _ _ _ c.requires.same _ _ _ ∙ sym c.elements_equal.ensures ∙ c.if-elements_equal.true))
 
 pub offset_at-requires : goal.offset_at-requires
 offset_at-requires c = (narrow_width c.requires.whole refl, omega (arith, c.requires.left_small))
