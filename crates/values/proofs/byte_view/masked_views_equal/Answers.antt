@@ -3,11 +3,11 @@
 use mathlib.Core.Path.{sym, ◌∙◌}
 use native.Mathlib.Omega.{arith}
 use Rattle.image.specs.Row.{view_row}
-use Rattle.values.proofs.Steps.{left_none, left_more, left_fails, left_done, by_rows, row_test}
+use Rattle.values.proofs.Steps.{left_more, left_fails, left_done, by_rows, row_test}
 use Rattle.accepted.proofs.Nodes.{side_small}
 use Rattle.values.proofs.MaskedRows.{masked_row_lem, null_rows}
 use Rattle.accepted.proofs.Views.{entries_read}
-use Rattle.values.proofs.Views.{first_view, next_view, view_small, row_views, row_are}
+use Rattle.values.proofs.Views.{next_view, view_small, row_views, row_are}
 use Rattle.values.proofs.byte_view.masked_views_equal.Goals as goal
 use Rattle.values.proofs.byte_view.masked_views_equal.Goals.{then-is_kept+else-not-view_equal, else-is_kept}
 
@@ -22,12 +22,6 @@ overflow_add-y c = omega (arith, side_small _ _ _ _ c.requires.right, c.first_pl
 
 pub overflow_mul-y : goal.overflow_mul-y
 overflow_mul-y c = omega (arith, side_small _ _ _ _ c.requires.right, c.first_place-2.ensures.near)
-
-pub loop-k-init : goal.loop-k-init
-loop-k-init c = (first_view _ _ _ c.first_place.ensures.value, first_view _ _ _ c.first_place-2.ensures.value, left_none _ _ _ _)
-
-pub overflow_add-rows : goal.overflow_add-rows
-overflow_add-rows c = omega (arith, c.loop-k-test.true, side_small _ _ _ _ c.requires.left)
 
 pub is_kept-requires : goal.is_kept-requires
 is_kept-requires c = (c.bitmap-bitmap.ensures, omega (arith, c.loop-k-test.true, side_small _ _ _ _ c.requires.left))

@@ -11,12 +11,6 @@ first_place-requires c = rw c.element_width-width.ensures (side_width c.requires
 pub first_place-requires-in-FixedWidth : goal.first_place-requires-in-FixedWidth
 first_place-requires-in-FixedWidth c = rw c.element_width-width.ensures (side_width c.requires.0)
 
-pub first_place-requires-in-VariableSize : goal.first_place-requires-in-VariableSize
-first_place-requires-in-VariableSize c = rw c.element_width-width.ensures (side_width c.requires.0)
-
-pub first_place-requires-in-VariableSize-2 : goal.first_place-requires-in-VariableSize-2
-first_place-requires-in-VariableSize-2 c = rw c.element_width-width.ensures (side_width c.requires.0)
-
 pub returns-in-FixedWidth : goal.returns-in-FixedWidth
 returns-in-FixedWidth c =
     let right = sym c.if-element_width-width.false ∙ c.element_width.ensures in

@@ -10,6 +10,3 @@ elements-requires c = (omega (arith, side_small _ _ _ _ c.requires.left), omega 
 
 pub elements_equal-requires : goal.elements_equal-requires
 elements_equal-requires c = rw c.elements.ensures (fixed_inside (masked_fixed c.requires))
-
-pub returns : goal.returns
-returns c = rw c.elements.ensures at c.elements_equal.ensures

@@ -12,9 +12,6 @@ overflow_mul-at c = omega (arith, c.well_formed, block_inside _ _ _ _ c.element_
 pub overflow_add-at : goal.overflow_add-at
 overflow_add-at c = omega (arith, c.well_formed, block_inside _ _ _ _ c.element_width-width.ensures c.buffer_place.ensures.value c.requires)
 
-pub overflow_mul-result : goal.overflow_mul-result
-overflow_mul-result c = omega (arith, c.well_formed, block_inside _ _ _ _ c.element_width-width.ensures c.buffer_place.ensures.value c.requires)
-
 pub overflow_add-result : goal.overflow_add-result
 overflow_add-result c = omega (arith, c.well_formed, block_inside _ _ _ _ c.element_width-width.ensures c.buffer_place.ensures.value c.requires)
 

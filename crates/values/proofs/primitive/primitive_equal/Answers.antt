@@ -5,6 +5,3 @@ use Rattle.values.proofs.primitive.primitive_equal.Goals as goal
 
 pub elements_equal-requires : goal.elements_equal-requires
 elements_equal-requires c = fixed_inside (parts_fixed _ _ _ _ _ _ _ _ c.requires.parts c.requires.layout)
-
-pub returns : goal.returns
-returns c = c.elements_equal.ensures

@@ -3,13 +3,9 @@
 use Rattle.values.proofs.Fixed.{fixed_inside}
 use Rattle.values.proofs.SameRuns.{ends_small, ends_read, ends_same}
 use mathlib.Core.Path.{sym, ◌∙◌}
-use mathlib.Core.Bool.{false≢true}
 use native.Mathlib.Nat.{add-zero}
 use native.Mathlib.Omega.{arith}
 use Rattle.values.proofs.runs.ends_same.Goals as goal
-
-pub returns-then-element_width : goal.returns-then-element_width
-returns-then-element_width c = λ e. absurd (false≢true e)
 
 pub elements-requires : goal.elements-requires
 elements-requires c = (omega (arith, ends_small c.requires.left), omega (arith, ends_small c.requires.right))
