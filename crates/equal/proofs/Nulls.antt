@@ -12,7 +12,6 @@ use Rattle.image.specs.Ranges.{every}
 use Rattle.image.specs.Record.{code_of, offset_of, elements_of}
 use Rattle.image.specs.TypeCode.{layout_of, takes_bitmap}
 use Rattle.image.specs.Element.{valid}
-use Rattle.image.specs.Reads.{Read}
 use Rattle.image.specs.Row.{Row, null, range, masked, boolean_row, fixed_row, variable_row, view_row, list_row, list_view_row, fixed_list_row, struct_row, dictionary_row, run_row, value_at, row_at}
 use Rattle.image.specs.Equality.{row_equal}
 use Rattle.image.proofs.Ranges.{every_at, range_same}
@@ -124,43 +123,41 @@ module _ {a b : List ℕ} {k l i j n d : ℕ} (r : Sides a b k l i j n (suc d)) 
   some_right : (x : ℕ) → x < m → valid b l (j + h + x) ≡ true
   some_right x lt = right_valid a b k l d (i + h + x) (j + h + x) (mask_at x lt) (some x lt)
 
-  module _ {oa ob : ℕ} (ra : Read (offset_of a k) 32 oa) (rb : Read (offset_of b l) 32 ob) where
-    -- what the comparison of their values asks for
-    pub run_requires : Parts a b k l (oa + (i + h)) (ob + (j + h)) m d
-    unfolding elements_of
-    run_requires = record {
-      left = record {
-        image = r.left.image;
-        node = r.left.node;
-        low = omega (arith, ra.value);
-        high = omega (arith, ra.value, r.left.rows);
-        not_null = λ x low high.
-            let e : i + h + (x - (i + h)) ≡ x = omega (arith, ra.value) in
-            rw e at (some (x - (i + h)) (omega (arith, ra.value)));
-      };
-      right = record {
-        image = r.right.image;
-        node = r.right.node;
-        low = omega (arith, rb.value);
-        high = omega (arith, rb.value, r.right.rows);
-        not_null = λ x low high.
-            let e : j + h + (x - (j + h)) ≡ x = omega (arith, rb.value) in
-            rw e at (some_right (x - (j + h)) (omega (arith, rb.value)));
-      };
-      alike = r.alike;
-    }
+  -- what the comparison of their values asks for
+  pub run_requires : Parts a b k l (offset_of a k + i + h) (offset_of b l + j + h) m d
+  unfolding elements_of
+  run_requires = record {
+    left = record {
+      image = r.left.image;
+      node = r.left.node;
+      low = omega arith;
+      high = omega (arith, r.left.rows);
+      not_null = λ x low high.
+          let e : i + h + (x - (i + h)) ≡ x = omega arith in
+          rw e at (some (x - (i + h)) (omega arith));
+    };
+    right = record {
+      image = r.right.image;
+      node = r.right.node;
+      low = omega arith;
+      high = omega (arith, r.right.rows);
+      not_null = λ x low high.
+          let e : j + h + (x - (j + h)) ≡ x = omega arith in
+          rw e at (some_right (x - (j + h)) (omega arith));
+    };
+    alike = r.alike;
+  }
 
-    -- their values are compared
-    pub run_answer : range_equal (value_at (layout_of (code_of a k)) (row_at d a) a k) (value_at (layout_of (code_of b l)) (row_at d b) b l) (oa + (i + h)) (ob + (j + h)) m ≡ range_equal (row_at (suc d) a k) (row_at (suc d) b l) (i + h) (j + h) m
-    run_answer =
-        rw (ra.value, rb.value)
-        (sym (sym (by_rows (row_at (suc d) a k) (row_at (suc d) b l) (i + h) (j + h) m)
-        ∙ all_moved (same_row (row_at (suc d) a k) (row_at (suc d) b l)) (same_row (value_at (layout_of (code_of a k)) (row_at d a) a k) (value_at (layout_of (code_of b l)) (row_at d b) b l)) (i + h) (j + h) (offset_of a k + (i + h)) (offset_of b l + (j + h)) m
-        (λ x lt.
-        let u : offset_of a k + (i + h) + x ≡ offset_of a k + (i + h + x) = omega arith in
-        let v : offset_of b l + (j + h) + x ≡ offset_of b l + (j + h + x) = omega arith in
-        rw (u, v) (valid_row a b k l d (i + h + x) (j + h + x) (mask_at x lt) (some x lt)))
-        ∙ by_rows (value_at (layout_of (code_of a k)) (row_at d a) a k) (value_at (layout_of (code_of b l)) (row_at d b) b l) (offset_of a k + (i + h)) (offset_of b l + (j + h)) m))
+  -- their values are compared
+  pub run_answer : range_equal (value_at (layout_of (code_of a k)) (row_at d a) a k) (value_at (layout_of (code_of b l)) (row_at d b) b l) (offset_of a k + i + h) (offset_of b l + j + h) m ≡ range_equal (row_at (suc d) a k) (row_at (suc d) b l) (i + h) (j + h) m
+  run_answer =
+      sym (sym (by_rows (row_at (suc d) a k) (row_at (suc d) b l) (i + h) (j + h) m)
+      ∙ all_moved (same_row (row_at (suc d) a k) (row_at (suc d) b l)) (same_row (value_at (layout_of (code_of a k)) (row_at d a) a k) (value_at (layout_of (code_of b l)) (row_at d b) b l)) (i + h) (j + h) (offset_of a k + i + h) (offset_of b l + j + h) m
+      (λ x lt.
+      let u : offset_of a k + i + h + x ≡ offset_of a k + (i + h + x) = omega arith in
+      let v : offset_of b l + j + h + x ≡ offset_of b l + (j + h + x) = omega arith in
+      rw (u, v) (valid_row a b k l d (i + h + x) (j + h + x) (mask_at x lt) (some x lt)))
+      ∙ by_rows (value_at (layout_of (code_of a k)) (row_at d a) a k) (value_at (layout_of (code_of b l)) (row_at d b) b l) (offset_of a k + i + h) (offset_of b l + j + h) m)
 
 -- rows are few
 pub sides_left : {a b : List ℕ} {k l i j n d : ℕ} → Sides a b k l i j n d → offset_of a k + i + n ≤ 1073741824
@@ -181,16 +178,15 @@ module _ {a b : List ℕ} {k l i j n d h m : ℕ} (r : Sides a b k l i j n (suc 
   run_within : h + m ≤ n
   run_within = omega (arith, lead.within, kept.pairs.within)
 
-  module _ {oa ob : ℕ} (ra : Read (offset_of a k) 32 oa) (rb : Read (offset_of b l) 32 ob) where
-    pub valid_requires : Parts a b k l (oa + (i + h)) (ob + (j + h)) m d
-    valid_requires = run_requires r masks h m run_within lead.holds ra rb
+  pub valid_requires : Parts a b k l (offset_of a k + i + h) (offset_of b l + j + h) m d
+  valid_requires = run_requires r masks h m run_within lead.holds
 
-    -- the run is equal, or not
-    pub valid_more : range_equal (value_at (layout_of (code_of a k)) (row_at d a) a k) (value_at (layout_of (code_of b l)) (row_at d b) b l) (oa + (i + h)) (ob + (j + h)) m ≡ true → RowsLeft (row_at (suc d) a k) (row_at (suc d) b l) i j n (h + m)
-    valid_more e = rows_jump kept m lead.within (sym (run_answer r masks h m run_within lead.holds ra rb) ∙ e)
+  -- the run is equal, or not
+  pub valid_more : range_equal (value_at (layout_of (code_of a k)) (row_at d a) a k) (value_at (layout_of (code_of b l)) (row_at d b) b l) (offset_of a k + i + h) (offset_of b l + j + h) m ≡ true → RowsLeft (row_at (suc d) a k) (row_at (suc d) b l) i j n (h + m)
+  valid_more e = rows_jump kept m lead.within (sym (run_answer r masks h m run_within lead.holds) ∙ e)
 
-    pub valid_fail : range_equal (value_at (layout_of (code_of a k)) (row_at d a) a k) (value_at (layout_of (code_of b l)) (row_at d b) b l) (oa + (i + h)) (ob + (j + h)) m ≡ false → false ≡ range_equal (row_at (suc d) a k) (row_at (suc d) b l) i j n
-    valid_fail e = rows_jump_fail kept m lead.within (sym (run_answer r masks h m run_within lead.holds ra rb) ∙ e)
+  pub valid_fail : range_equal (value_at (layout_of (code_of a k)) (row_at d a) a k) (value_at (layout_of (code_of b l)) (row_at d b) b l) (offset_of a k + i + h) (offset_of b l + j + h) m ≡ false → false ≡ range_equal (row_at (suc d) a k) (row_at (suc d) b l) i j n
+  valid_fail e = rows_jump_fail kept m lead.within (sym (run_answer r masks h m run_within lead.holds) ∙ e)
 
 -- rows of nodes without children: `value` gives the values of their layout
 module _ {a b : List ℕ} {k l i j n d : ℕ} (r : Sides a b k l i j n (suc d)) {x : Layout} (layout : layout_of (code_of a k) ≡ x) where
@@ -238,18 +234,20 @@ module _ {a b : List ℕ} {k l i j n d : ℕ} (r : Sides a b k l i j n d) (deep 
   range_masks e = masks_differ range_sides e ∙ range_rows
 
   -- no row null
-  module _ (masks : all (same_mask a k b l) i j n ≡ true) (some : every (valid a k) i n ≡ true) {oa ob : ℕ} (ra : Read (offset_of a k) 32 oa) (rb : Read (offset_of b l) 32 ob) where
+  module _ (masks : all (same_mask a k b l) i j n ≡ true) (some : every (valid a k) i n ≡ true) where
     some_at : (x : ℕ) → x < n → valid a k (i + 0 + x) ≡ true
     some_at x lt = every_at (valid a k) i n some (i + 0 + x) (omega arith) (omega arith)
 
-    pub range_requires : Parts a b k l (oa + i) (ob + j) n (d - 1)
+    pub range_requires : Parts a b k l (offset_of a k + i) (offset_of b l + j) n (d - 1)
     range_requires =
-        let zi : i + 0 ≡ i = omega arith in
-        let zj : j + 0 ≡ j = omega arith in
-        rw (zi, zj) at (run_requires range_sides masks 0 n (omega arith) some_at ra rb)
+        let xi : offset_of a k + i + 0 ≡ offset_of a k + i = omega arith in
+        let xj : offset_of b l + j + 0 ≡ offset_of b l + j = omega arith in
+        rw (xi, xj) at (run_requires range_sides masks 0 n (omega arith) some_at)
 
-    pub range_answer : range_equal (value_at (layout_of (code_of a k)) (row_at (d - 1) a) a k) (value_at (layout_of (code_of b l)) (row_at (d - 1) b) b l) (oa + i) (ob + j) n ≡ range_equal (row_at d a k) (row_at d b l) i j n
+    pub range_answer : range_equal (value_at (layout_of (code_of a k)) (row_at (d - 1) a) a k) (value_at (layout_of (code_of b l)) (row_at (d - 1) b) b l) (offset_of a k + i) (offset_of b l + j) n ≡ range_equal (row_at d a k) (row_at d b l) i j n
     range_answer =
         let zi : i + 0 ≡ i = omega arith in
         let zj : j + 0 ≡ j = omega arith in
-        rw (zi, zj) at (run_answer range_sides masks 0 n (omega arith) some_at ra rb) ∙ range_rows
+        let xi : offset_of a k + i + 0 ≡ offset_of a k + i = omega arith in
+        let xj : offset_of b l + j + 0 ≡ offset_of b l + j = omega arith in
+        rw (xi, xj, zi, zj) at (run_answer range_sides masks 0 n (omega arith) some_at) ∙ range_rows

@@ -69,8 +69,7 @@ fn equal_valid(pair: Pair, rows: Rows, depth: usize) -> bool
     if let Layout::View = layout {
         return masked_views_equal(pair, rows);
     }
-    let oa = pair.left.offset();
-    let ob = pair.right.offset();
+    let elements = pair.elements(rows);
     let mut k: usize = 0;
     // Kept: no `for`, since a step is as long as the rows that are not null follow each other.
     while k < n {
@@ -78,12 +77,7 @@ fn equal_valid(pair: Pair, rows: Rows, depth: usize) -> bool
         if run == 0 {
             k += 1;
         } else {
-            let elements = Rows {
-                left: oa + (rows.left + k),
-                right: ob + (rows.right + k),
-                count: run,
-            };
-            if !equal_values(pair, elements, depth) {
+            if !equal_values(pair, elements.part(k, run), depth) {
                 return false;
             }
             k += run;
@@ -127,12 +121,7 @@ pub fn equal_range(pair: Pair, rows: Rows, depth: usize) -> bool
     if contains_nulls(pair.left, rows.left, rows.count) {
         return equal_valid(pair, rows, depth - 1);
     }
-    let elements = Rows {
-        left: pair.left.offset() + rows.left,
-        right: pair.right.offset() + rows.right,
-        count: rows.count,
-    };
-    equal_values(pair, elements, depth - 1)
+    equal_values(pair, pair.elements(rows), depth - 1)
 }
 
 // Two ranges of rows of two tables are equal.

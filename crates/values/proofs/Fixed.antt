@@ -1,9 +1,10 @@
 -- Fixed-width elements are equal exactly where their bytes are the same as one block, and the block lies inside the image.
 -- By the law of blocks, with the offsets 0, w, 2 * w, ..
-use mathlib.Core.Path.{◌≡◌, sym, ap, ◌∙◌}
+use mathlib.Core.Path.{◌≡◌, refl, sym, ap, ◌∙◌}
 use mathlib.Core.List.{List}
-use Prim.Native.Nat.{ℕ, suc, ◌+◌, ◌*◌, ◌-◌}
+use Prim.Native.Nat.{ℕ, suc, ◌+◌, ◌*◌, ◌-◌, ◌≤◌}
 use native.Mathlib.Omega.{arith}
+use lib.ListN.{length}
 use native.Mathlib.Nat.{mul-le-mul_right, suc-mul, add-mul}
 use Rattle.image.specs.declared.type_code.Layout.TheVariants.{FixedWidth}
 use Rattle.image.specs.Bytes.{bytes_at}
@@ -15,8 +16,9 @@ use Rattle.image.specs.Row.{fixed_row}
 use Rattle.image.specs.Equality.{row_equal}
 use Rattle.laws.proofs.Alike.{same_width}
 use Rattle.values.specs.Pairs.{all, same_row, range_equal, same_byte}
-use Rattle.accepted.specs.Parts.{Spanned}
-use Rattle.values.specs.Parts.{Parts, Masked, Fixed}
+use Rattle.accepted.specs.Parts.{Elements}
+use Rattle.accepted.proofs.Fixed.{spanned}
+use Rattle.values.specs.Parts.{Parts, Masked, Blocks}
 use Rattle.values.proofs.Steps.{by_rows, by_bytes}
 use Rattle.values.proofs.Blocks.{blocks}
 
@@ -51,6 +53,31 @@ module _ (a b : List ℕ) (k l : ℕ) (same : element_width a k ≡ element_widt
       (λ h lt. row (i + h) (j + h) ∙ ap (all (same_byte a b) _ _) (sym (next (element_width a k) (i + h)))))
       ∙ by_rows (fixed_row a k) (fixed_row b l) i j n)
 
+-- a block, as it is read
+module _ (s : List ℕ) (k j n : ℕ) {w p : ℕ} (ew : w ≡ element_width s k) (ep : p ≡ buffer_place s k 0) where
+  pub block_inside : element_place s k j + n * element_width s k ≤ length s → p + j * w + n * w ≤ length s
+  unfolding element_place
+  block_inside le = rw (ew, ep) le
+
+  pub block_bytes : bytes_at s (p + j * w) (n * w) ≡ bytes_at s (element_place s k j) (n * element_width s k)
+  unfolding element_place
+  block_bytes = rw (ew, ep)
+
+-- n elements of each of two fixed-width nodes of one width
+pub record Fixed (a b : List ℕ) (k l i j n : ℕ) : Type 0 where
+  pub left : Elements a k i n
+  pub right : Elements b l j n
+  pub width : element_width a k ≡ element_width b l
+
+-- as blocks they lie inside
+pub fixed_inside : {a b : List ℕ} {k l i j n : ℕ} → Fixed a b k l i j n → Blocks a b k l i j n
+unfolding element_place
+fixed_inside r = record {
+  left = (spanned _ _ _ _ _ _ r.left refl refl).inside;
+  right = (spanned _ _ _ _ _ _ r.right refl refl).inside;
+  width = r.width;
+}
+
 -- parts of two fixed-width nodes that are alike
 pub parts_fixed : (a b : List ℕ) (k l i j n d : ℕ) → Parts a b k l i j n d → layout_of (code_of a k) ≡ FixedWidth → Fixed a b k l i j n
 parts_fixed a b k l i j n d r fixed = record {
@@ -67,7 +94,3 @@ masked_fixed {a} {b} {k} {l} r = record {
   right = record { image = r.right.image; node = r.right.node; fixed = sym (ap layout_of r.code) ∙ r.layout; high = omega (arith, r.right.rows) };
   width = same_width a b k l r.code r.p1;
 }
-
--- spans of equally many elements of one width are equally long
-pub same_length : (a b : List ℕ) (k l n : ℕ) {i j at bt x y : ℕ} → Fixed a b k l i j n → Spanned a k i n at x → Spanned b l j n bt y → x ≡ y
-same_length a b k l n r u v = u.size ∙ ap (λ (w : ℕ). n * w) r.width ∙ sym v.size

@@ -1,17 +1,23 @@
 -- Rows of two nodes without bitmaps, one pair at a time: where their elements and texts stand, and when they are equal.
 -- A row of such a node is its value, and acceptance has it inside the image.
 use mathlib.Core.Path.{◌≡◌, refl, sym, ap, ap₂, ◌∙◌}
-use mathlib.Core.Bool.{true, false}
+use mathlib.Core.Bool.{Bool, true, false, cond}
 use mathlib.Core.List.{List}
-use Prim.Native.Nat.{ℕ, suc, ◌+◌, ◌*◌, ◌-◌, ◌≤◌}
+use Prim.Native.Nat.{ℕ, suc, ◌+◌, ◌*◌, ◌-◌, ◌^◌, ◌<◌, ◌≤◌}
 use native.Mathlib.Omega.{arith}
 use native.Mathlib.Nat.{add-mul}
 use lib.ListN.{length}
+use lib.Dec.{eqb, leb}
+use borrow.Author.Tests.{eqb-true, leb-true}
 use Rattle.image.specs.declared.type_code.Layout.{Layout}
 use Rattle.image.specs.declared.type_code.Layout.TheVariants.{FixedWidth, VariableSize}
 use Rattle.image.specs.Bytes.{number_at, bytes_at}
 use Rattle.image.specs.Record.{code_of, offset_of, has_bitmap, elements_of, buffer_place}
-use Rattle.image.specs.TypeCode.{layout_of}
+use Rattle.image.specs.Ranges.{every}
+use Rattle.image.specs.TypeCode.{layout_of, entry_of, entries, integer_width, width_of, p1_fits}
+use Rattle.image.proofs.Bools.{and_right}
+use Rattle.image.proofs.Ranges.{every_below}
+use Rattle.image.proofs.Widths.{integer_width_lem}
 use Rattle.image.specs.Element.{valid, element_width, element_place, element_at}
 use Rattle.image.specs.Types.{same_bytes}
 use Rattle.image.specs.Row.{fixed, sized, range, row_at, value_at, fixed_row, variable_row}
@@ -43,28 +49,34 @@ side_part : {s : List ℕ} {k i n : ℕ} → Side s k i n → has_bitmap s k ≡
 unfolding elements_of
 side_part {s} {k} r whole = record { image = r.image; node = r.node; low = omega arith; high = omega (arith, r.rows); not_null = λ h lo hi. whole_valid s k h whole }
 
--- the element of row 0 starts inside, for each of the two layouts
-module _ {s : List ℕ} {k : ℕ} (r : Side s k 0 0) where
-  pub fixed_first : layout_of (code_of s k) ≡ FixedWidth → element_place s k (offset_of s k) ≤ length s
-  unfolding element_place
-  fixed_first e =
-      let z : offset_of s k + 0 ≡ offset_of s k = omega arith in
-      let inside = (spanned s k (offset_of s k + 0) 0 (element_width s k) (buffer_place s k 0) (side_elements r e) refl refl).inside in
-      omega (arith, rw z at inside)
+-- elements of a known code have fewer than 2 ^ 32 bytes
+own_width : (code : ℕ) → code ≤ 43 → leb (entry_of code).width 32 ≡ true
+unfolding every entry_of entries
+own_width code le = every_below (λ c. leb (entry_of c).width 32) 44 refl code (omega arith)
 
-  pub text_first : layout_of (code_of s k) ≡ VariableSize → has_bitmap s k ≡ false → element_place s k (offset_of s k) ≤ length s
-  text_first text whole =
-      let z : offset_of s k + 0 ≡ offset_of s k = omega arith in
-      omega (arith, rw z at (text_offsets s k (offset_of s k + 0) 0 (side_part r whole) text))
+given_width : (code p1 : ℕ) → code ≡ 30 → p1_fits code p1 ≡ true → p1 ≤ 16777216
+unfolding p1_fits entry_of entries
+given_width code p1 e fits = leb-true _ _ (and_right (leb 0 p1) _ (rw e at fits))
 
--- where it starts, as it is read
-pub first_read : (s : List ℕ) (k : ℕ) {w p o : ℕ} → w ≡ element_width s k → Read (buffer_place s k 0) 32 p → Read (offset_of s k) 32 o → p + o * w ≡ element_place s k (offset_of s k)
+known_width : (code p1 : ℕ) → code ≤ 43 → p1_fits code p1 ≡ true → width_of code p1 < 2 ^ 32
+unfolding width_of
+known_width code p1 le fits = cases (eqb code 30) refl (eqb code 41)
+  where
+    cases : (x : Bool) → eqb code 30 ≡ x → (y : Bool) → cond x p1 (cond y (integer_width p1) (entry_of code).width) < 2 ^ 32
+    cases true e y = omega (arith, given_width code p1 (eqb-true _ _ e) fits)
+    cases false e true = omega (arith, integer_width_lem p1)
+    cases false e false = omega (arith, leb-true _ _ (own_width code le))
+
+pub side_width : {s : List ℕ} {k i n : ℕ} → Side s k i n → element_width s k < 2 ^ 32
+unfolding element_width
+side_width {s} {k} r =
+    let known = (r.image.node k r.node).known in
+    known_width _ _ known.code known.p1
+
+-- where the element of row 0 starts
+pub first_at : (s : List ℕ) (k : ℕ) {w p : ℕ} → w ≡ element_width s k → p ≡ buffer_place s k 0 + offset_of s k * w → p ≡ element_place s k (offset_of s k)
 unfolding element_place
-first_read s k ew ep eo = rw (ew, ep.value, eo.value)
-
--- nodes of one code, as it is read, have one layout
-pub other_layout : {x y c d : ℕ} {z : Layout} → Read x 8 c → Read y 8 d → c ≡ d → layout_of x ≡ z → layout_of y ≡ z
-other_layout ec ed same e = ap layout_of (sym ed.value ∙ sym same ∙ ec.value) ∙ e
+first_at s k ew e = e ∙ rw ew
 
 module _ {s : List ℕ} {k w p : ℕ} (f : Leaf s k w p) where
   -- where the element of row i starts

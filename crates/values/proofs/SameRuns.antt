@@ -11,7 +11,6 @@ use Rattle.image.specs.Bytes.{number_at, bytes_at}
 use Rattle.image.specs.Record.{node_count, offset_of, first_child, child_count, elements_of}
 use Rattle.image.specs.TypeCode.{layout_of, entry_of, entries}
 use Rattle.image.specs.Element.{element_width, element_place, run_end_at, run_at}
-use Rattle.image.specs.Reads.{Read}
 use Rattle.image.specs.Types.{same_bytes}
 use Rattle.image.specs.Row.{fixed_row}
 use Rattle.image.specs.Equality.{row_equal}
@@ -52,8 +51,8 @@ module _ {s : List ℕ} {k i m : ℕ} (r : RunRange s k i m) where
   ends_small = omega (arith, r.high, length_small s (first_child s k) r.image ends_node)
 
   -- as they are read
-  pub ends_read : {x o : ℕ} → Read (first_child s k) 16 x → Read (offset_of s x) 32 o → Elements s x (o + i) m
-  ends_read ex eo = rw (eo.value, ex.value) ends_elements
+  pub ends_read : {x : ℕ} → x ≡ first_child s k → Elements s x (offset_of s x + i) m
+  ends_read ex = rw ex ends_elements
 
   end_is : (q : ℕ) → run_end_at s k (i + q) ≡ number_at (element_width s (first_child s k)) s (element_place s (first_child s k) (offset_of s (first_child s k) + i + q))
   unfolding run_end_at element_place
@@ -68,13 +67,13 @@ element_number a b k l x y w e =
     ap (λ (z : ℕ). number_at z a (element_place a k x)) w
     ∙ number_same (element_width b l) a b (element_place a k x) (element_place b l y) (by_bytes a b (element_place a k x) (element_place b l y) (element_width b l) ∙ ap (λ (z : ℕ). same_bytes (bytes_at a (element_place a k x) z) (bytes_at b (element_place b l y) (element_width b l))) (sym w) ∙ e)
 
-module _ {a b : List ℕ} {k l i j m : ℕ} (r : RunRange a k i m) (q : RunRange b l j m) {x y : ℕ} (ex : Read (first_child a k) 16 x) (ey : Read (first_child b l) 16 y) where
-  pub ends_same : {u v o p : ℕ} {c : Bool} → u ≡ element_width a x → v ≡ element_width b y → u ≡ v → Read (offset_of a x) 32 o → Read (offset_of b y) 32 p
-      → c ≡ range_equal (fixed_row a x) (fixed_row b y) (o + i) (p + j) m → c ≡ true → SameEnds a b k l i j m
-  ends_same {u} {v} {o} {p} eu ev e eo ep ec t =
+module _ {a b : List ℕ} {k l i j m : ℕ} (r : RunRange a k i m) (q : RunRange b l j m) {x y : ℕ} (ex : x ≡ first_child a k) (ey : y ≡ first_child b l) where
+  pub ends_same : {u v : ℕ} {c : Bool} → u ≡ element_width a x → v ≡ element_width b y → u ≡ v
+      → c ≡ range_equal (fixed_row a x) (fixed_row b y) (offset_of a x + i) (offset_of b y + j) m → c ≡ true → SameEnds a b k l i j m
+  ends_same eu ev e ec t =
       let whole : range_equal (fixed_row a (first_child a k)) (fixed_row b (first_child b l)) (offset_of a (first_child a k) + i) (offset_of b (first_child b l) + j) m ≡ true =
-      rw (← ex.value, ← ey.value, ← eo.value, ← ep.value) (sym ec ∙ t) in
-      let width : element_width a (first_child a k) ≡ element_width b (first_child b l) = rw (← ex.value, ← ey.value) (sym eu ∙ e ∙ ev) in
+      rw (← ex, ← ey) (sym ec ∙ t) in
+      let width : element_width a (first_child a k) ≡ element_width b (first_child b l) = rw (← ex, ← ey) (sym eu ∙ e ∙ ev) in
       record {
         same = λ h lt.
             end_is r h

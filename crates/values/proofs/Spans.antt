@@ -3,11 +3,9 @@
 use mathlib.Core.Path.{◌≡◌, refl, ap, ap₂, ◌∙◌}
 use mathlib.Core.Bool.{true}
 use mathlib.Core.List.{List}
-use mathlib.Core.Logic.{◌⊎◌, inl, inr}
 use Prim.Native.Nat.{ℕ, zero, suc, ◌+◌, ◌*◌, ◌-◌, ◌<◌, ◌≤◌}
 use native.Mathlib.Omega.{arith}
-use native.Mathlib.Nat.{add-mul, mul-le-mul_left, mul-le-mul_right}
-use lib.ListN.{length}
+use native.Mathlib.Nat.{add-mul, mul-le-mul_right}
 use borrow.Author.Tests.{eqb-true, eq-eqb}
 use Rattle.image.specs.Bytes.{number_at, bytes_at}
 use Rattle.image.specs.Record.{buffer_place}
@@ -23,28 +21,6 @@ use Rattle.values.proofs.Blocks.{all_at}
 pub read_element : (s : List ℕ) (k j w p : ℕ) {r : ℕ} → Read (number_at w s (p + j * w)) (8 * w) r → w ≡ element_width s k → p ≡ buffer_place s k 0 → r ≡ element_at s k j
 unfolding element_at element_place
 read_element s k j w p r ew ep = rw (← ew, ← ep) r.value
-
--- The n + 1 offsets of each side as one block of bytes: it lies inside the image.
-module _ {a b : List ℕ} {k l i j n : ℕ} (r : Spans a b k l i j n) {w p q : ℕ} (ew : w ≡ element_width a k) (ep : p ≡ buffer_place a k 0) (eq : q ≡ buffer_place b l 0) where
-  pub left_block : p + i * w + (n + 1) * w ≤ length a
-  unfolding element_place
-  left_block = rw (ew, ep) r.left_inside
-
-  pub right_block : q + j * w + (n + 1) * w ≤ length b
-  unfolding element_place
-  right_block = rw (ew, eq, r.same) r.right_inside
-
-  pub few_bytes : (x : ℕ) → x * w ≤ x * 8
-  few_bytes x = mul-le-mul_left x (cases r.whole)
-    where
-      cases : (element_width a k ≡ 4) ⊎ (element_width a k ≡ 8) → w ≤ 8
-      cases (inl e) = omega (arith, ew, e)
-      cases (inr e) = omega (arith, ew, e)
-
-  pub block_read : same_bytes (bytes_at a (p + i * w) ((n + 1) * w)) (bytes_at b (q + j * w) ((n + 1) * w))
-      ≡ same_bytes (bytes_at a (element_place a k i) ((n + 1) * element_width a k)) (bytes_at b (element_place b l j) ((n + 1) * element_width a k))
-  unfolding element_place
-  block_read = rw (ew, ep, eq, r.same)
 
 -- the same bytes make the same number
 pub number_same : (w : ℕ) (a b : List ℕ) (x y : ℕ) → all (same_byte a b) x y w ≡ true → number_at w a x ≡ number_at w b y

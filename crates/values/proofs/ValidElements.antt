@@ -12,8 +12,7 @@ use lib.Pointwise.{pointwise}
 use lib.Dec.{eqb}
 use Rattle.image.specs.declared.type_code.Layout.TheVariants.{FixedWidth}
 use Rattle.image.specs.Bytes.{bytes_at}
-use Rattle.image.specs.Record.{code_of, offset_of, has_bitmap, bitmap_place, first_bit, buffer_place}
-use Rattle.image.specs.TypeCode.{layout_of}
+use Rattle.image.specs.Record.{offset_of, has_bitmap, bitmap_place, first_bit, buffer_place}
 use Rattle.image.specs.Element.{valid, element_width, element_place}
 use Rattle.image.specs.Row.{masked, fixed_row}
 use Rattle.image.specs.Equality.{row_equal}
@@ -21,7 +20,7 @@ use borrow.Author.Tests.{eq-eqb, ne_eqb}
 use Rattle.values.specs.declared.leaf.Columns.{Columns}
 use Rattle.values.specs.Bits.{bits_at}
 use Rattle.values.specs.Pairs.{all, same_row, range_equal, same_byte, bit_of, valid_same, masked_row}
-use Rattle.accepted.specs.Parts.{Side, Elements}
+use Rattle.accepted.specs.Parts.{Elements}
 use Rattle.values.specs.Parts.{Masked, ColumnsAt}
 use Rattle.values.proofs.Steps.{by_rows, by_bytes, all_snoc, all_moved, passed_tail, front_fails}
 use Rattle.values.proofs.Slices.{part_pairs, parts_same}
@@ -29,7 +28,6 @@ use Rattle.values.proofs.WordBits.{bit_of_bits}
 use Rattle.values.proofs.MaskedRows.{mask_at}
 use Rattle.accepted.proofs.Fixed.{spanned}
 use Rattle.values.proofs.Fixed.{masked_fixed, row}
-use Rattle.values.proofs.LeafRows.{fixed_first}
 
 -- the first v bytes and the last v, where that is all of them
 pub two_ends : (p : ℕ → ℕ → Bool) (i j w v : ℕ) {x y : Bool} → v ≤ w → w ≤ 2 * v → x ≡ all p i j v → y ≡ all p (i + (w - v)) (j + (w - v)) v → x && y ≡ all p i j w
@@ -153,16 +151,6 @@ module _ {a b : List ℕ} {k l i j n : ℕ} (r : Masked FixedWidth a b k l i j n
       rw (← mask_at r h lt, none, u, t)))
       ∙ by_rows _ _ i j n
 
--- the element of row 0 starts inside
-first_inside : {s : List ℕ} {k i n : ℕ} → Side s k i n → layout_of (code_of s k) ≡ FixedWidth → element_place s k (offset_of s k) ≤ length s
-first_inside r e = fixed_first (record { image = r.image; node = r.node; rows = omega arith }) e
-
 module _ {a b : List ℕ} {k l i j n : ℕ} (r : Masked FixedWidth a b k l i j n) where
-  pub left_first : element_place a k (offset_of a k) ≤ length a
-  left_first = first_inside r.left r.layout
-
-  pub right_first : element_place b l (offset_of b l) ≤ length b
-  right_first = first_inside r.right (masked_fixed r).right.fixed
-
   pub other_width : {w : ℕ} → w ≡ element_width a k → w ≡ element_width b l
   other_width e = e ∙ (masked_fixed r).width

@@ -82,14 +82,14 @@ two_views {b = b} {l = l} ra rb views code =
 abbrev pub view_place : List ℕ → ℕ → ℕ → ℕ
 view_place s k i = buffer_place s k 0 + (offset_of s k + i) * 16
 
-pub first_view : (s : List ℕ) (k i : ℕ) {p o : ℕ} → Read (buffer_place s k 0) 32 p → Read (offset_of s k) 32 o → p + (o + i) * 16 ≡ view_place s k (i + 0)
-first_view s k i rp ro = omega (arith, rp.value, ro.value)
+pub first_view : (s : List ℕ) (k i : ℕ) {p : ℕ} → p ≡ buffer_place s k 0 + offset_of s k * 16 → p + i * 16 ≡ view_place s k (i + 0)
+first_view s k i e = omega (arith, e)
 
 pub next_view : (s : List ℕ) (k i h : ℕ) {x : ℕ} → x ≡ view_place s k (i + h) → x + 16 ≡ view_place s k (i + (h + 1))
 next_view s k i h e = omega arith
 
-pub view_small : {s : List ℕ} {k i n h x p o : ℕ} → Side s k i n → h < n → Read (buffer_place s k 0) 32 p → Read (offset_of s k) 32 o → x ≡ view_place s k (i + h) → x < 2 ^ 40
-view_small r lt rp ro e = omega (arith, lt, side_small _ _ _ _ r, rp.value, rp.small, ro.value, ro.small)
+pub view_small : {s : List ℕ} {k i n h x p : ℕ} → Side s k i n → h < n → p ≡ buffer_place s k 0 + offset_of s k * 16 → p < 2 ^ 40 → x ≡ view_place s k (i + h) → x < 2 ^ 41
+view_small r lt ep near e = omega (arith, lt, side_small _ _ _ _ r, ep, near)
 
 -- rows under null masks that agree, where one is not null
 module _ {a b : List ℕ} {k l i j n : ℕ} (r : Masked View a b k l i j n) {h : ℕ} (lt : h < n) (is : valid a k (i + h) ≡ true)

@@ -14,7 +14,7 @@ use Rattle.image.specs.Bytes.{byte_at, AllBytes, number_at, bit_at}
 use Rattle.image.specs.Reads.{Read}
 use Rattle.image.specs.Ranges.{every}
 use Rattle.image.proofs.Compare.{is_eq, is_ne}
-use Rattle.values.specs.Bits.{bits_at}
+use Rattle.values.specs.Bits.{bits_at, joined}
 use Rattle.values.specs.Pairs.{all, same_bit}
 
 -- the lowest binary digit, and the others, make the number, both cut off
@@ -44,11 +44,24 @@ low_bit b m =
     by_eight (λ r. b / 2 ^ r % 2 ≡ (b + 256 * m) / 2 ^ r % 2)
     (omega arith) (omega arith) (omega arith) (omega arith) (omega arith) (omega arith) (omega arith) (omega arith)
 
--- what a word's two reads make
-joined_reads : (low high r : ℕ) → r < 8 → low < 2 ^ 64 → low / 2 ^ r + high * 2 ^ (64 - r) % 2 ^ 64 ≡ (low + 18446744073709551616 * high) / 2 ^ r % 2 ^ 64
-joined_reads low high r lt small =
-    by_eight (λ r. low / 2 ^ r + high * 2 ^ (64 - r) % 2 ^ 64 ≡ (low + 18446744073709551616 * high) / 2 ^ r % 2 ^ 64)
+-- what a word's two reads make: they do not overlap
+joined_reads : (low next r : ℕ) → r < 8 → low < 2 ^ 64 → low / 2 ^ r + next * 2 ^ (64 - r) % 2 ^ 64 ≡ joined low next r
+unfolding joined
+joined_reads low next r lt small =
+    by_eight (λ r. low / 2 ^ r + next * 2 ^ (64 - r) % 2 ^ 64 ≡ (low + 18446744073709551616 * next) / 2 ^ r % 2 ^ 64)
     (omega arith) (omega arith) (omega arith) (omega arith) (omega arith) (omega arith) (omega arith) (omega arith) r lt
+
+module _ (low next r : ℕ) (small : low < 2 ^ 64) where
+  pub joined_whole : r ≡ 0 → low ≡ joined low next r
+  unfolding joined
+  joined_whole e = rw e (omega arith)
+
+  pub joined_split : r < 8 → low / 2 ^ r + next * 2 ^ (64 - r) % 2 ^ 64 ≡ joined low next r
+  joined_split lt = joined_reads low next r lt small
+
+  pub joined_fits : r < 8 → low / 2 ^ r + next * 2 ^ (64 - r) % 2 ^ 64 < 2 ^ 64
+  unfolding joined
+  joined_fits lt = rw (joined_split lt) (mod-lt _ (pow_pos 64))
 
 bit_number : (x : ℕ) → x < 2 → cond (eqb x 1) 1 0 ≡ x
 bit_number zero lt = refl
@@ -92,21 +105,10 @@ number_nine s i =
     rw e (omega arith)
 
 -- the 64 bits from bit i on, by a read of eight bytes and one of the byte after them
-module _ (s : List ℕ) (small : AllBytes s) (p i : ℕ) {low : ℕ} (lows : Read (number_at 8 s (p + i / 8)) 64 low) where
-  pub word_whole : i % 8 ≡ 0 → low ≡ bits_at s p i 64
-  word_whole e =
-      let x : bits_at s p i 64 ≡ number_at 8 s (p + i / 8) / 2 ^ (i % 8) % 2 ^ 64 = bits_number_lem s small p 64 i 8 (omega arith) in
-      let y : low ≡ low / 1 % 2 ^ 64 = omega (arith, lows.small) in
-      y ∙ sym (x ∙ rw (e, ← lows.value))
-
-  pub word_split : {high : ℕ} → high ≡ byte_at s (p + i / 8 + 8) → low / 2 ^ (i % 8) + high * 2 ^ (64 - i % 8) % 2 ^ 64 ≡ bits_at s p i 64
-  word_split e =
-      joined_reads _ _ (i % 8) (omega arith) lows.small
-      ∙ sym (bits_number_lem s small p 64 i 9 (omega arith) ∙ rw (number_nine s (p + i / 8), ← lows.value, ← e))
-
-  -- the two parts do not overlap
-  pub word_fits : (high : ℕ) → low / 2 ^ (i % 8) + high * 2 ^ (64 - i % 8) % 2 ^ 64 < 2 ^ 64
-  word_fits high = rw (joined_reads low high (i % 8) (omega arith) lows.small) (mod-lt _ (pow_pos 64))
+pub word_joined : (s : List ℕ) → AllBytes s → (p i : ℕ) {low next r : ℕ} → Read (number_at 8 s (p + i / 8)) 64 low → next ≡ byte_at s (p + i / 8 + 8) → r ≡ joined low next (i % 8) → r ≡ bits_at s p i 64
+unfolding joined
+word_joined s small p i lows e f =
+    f ∙ sym (bits_number_lem s small p 64 i 9 (omega arith) ∙ rw (number_nine s (p + i / 8), ← lows.value, ← e))
 
 -- Two words are the same where all their pairs of bits are.
 pub same_test : (a b c d : ℕ) → (a ≡ b → c ≡ d) → (c ≡ d → a ≡ b) → eqb a b ≡ eqb c d

@@ -1,14 +1,13 @@
 -- What contracts say of two nodes and of the rows that are compared of them.
 -- Each word here is one of Pairs, of Bits or of Parts, of the images and numbers that the structs hold.
-use Rattle.std.specs.Prelude.{◌≡◌, Bool, true, false, Option, None, Some, List, ℕ, ◌+◌, ◌*◌, ◌-◌, ◌/◌, ◌≤◌, ◌<◌, ◌^◌, length}
+use Rattle.std.specs.Prelude.{◌≡◌, Bool, true, false, Option, None, Some, List, ℕ, ◌+◌, ◌-◌, ◌/◌, ◌≤◌, ◌<◌, ◌^◌, length}
 use Rattle.image.specs.declared.record.Node.{Node}
 use Rattle.image.specs.declared.type_code.Layout.{Layout}
 use Rattle.image.specs.declared.type_code.Layout.TheVariants.{FixedWidth}
 use Rattle.image.specs.Bytes.{bytes_at}
 use Rattle.image.specs.Record.{code_of, offset_of, has_bitmap, bitmap_place, first_bit, first_child, first_buffer, entry_place}
 use Rattle.image.specs.TypeCode.{layout_of}
-use Rattle.image.specs.Element.{element_width, element_place, view_length, view_data, child_end, child_with_id}
-use Rattle.image.specs.Types.{same_bytes}
+use Rattle.image.specs.Element.{view_length, view_data, child_end, child_with_id}
 use Rattle.image.specs.Row.{Row, row_at, value_at}
 use Rattle.accepted.specs.Parts.{Viewed}
 use Rattle.values.specs.declared.pair.Pair.{Pair}
@@ -20,7 +19,7 @@ use Rattle.values.specs.declared.leaf.Leaves.{Leaves}
 use Rattle.values.specs.declared.leaf.Leaves.TheVariants.{Fixed as FixedLeaves, Texts as TextLeaves}
 use Rattle.values.specs.declared.lengths.Offsets.{Offsets}
 use Rattle.values.specs.Pairs.{all, first_unequal, range_equal, same_bit, same_mask, same_span, same_distance}
-use Rattle.values.specs.Parts.{Sides, Parts, Masked, Spans, Above, SameEnds, RunParts, Together, Fixed, ColumnsAt, LeafPair, TextPair}
+use Rattle.values.specs.Parts.{Sides, Parts, Masked, Spans, Above, SameEnds, RunParts, Together, Blocks, ColumnsAt, LeafPair, TextPair}
 
 -- the roots of two images
 pub record Roots (s t : List ℕ) (p : Pair) : Type 0 where
@@ -80,12 +79,6 @@ pub record FewRows (r : Rows) : Type 0 where
 abbrev pub same_spans : Pair → Rows → Bool
 same_spans p r = all (same_span p.left.image.now p.left.number p.right.image.now p.right.number) r.left r.right r.count
 
--- their offsets are the same
-abbrev pub same_offsets : Pair → Rows → Bool
-same_offsets p r =
-    same_bytes (bytes_at p.left.image.now (element_place p.left.image.now p.left.number r.left) ((r.count + 1) * element_width p.left.image.now p.left.number))
-    (bytes_at p.right.image.now (element_place p.right.image.now p.right.number r.right) ((r.count + 1) * element_width p.left.image.now p.left.number))
-
 -- n offsets of w bytes from the one numbered k on stand equally far above the first
 abbrev pub same_distances : ℕ → Offsets → Offsets → ℕ → ℕ → Bool
 same_distances w x y k n = all (same_distance x.bytes.now x.place y.bytes.now y.place w x.base y.base) (x.first + k) (y.first + k) n
@@ -143,8 +136,8 @@ MaskedOf x p r = Masked x p.left.image.now p.right.image.now p.left.number p.rig
 abbrev pub SpansOf : Pair → Rows → Type 0
 SpansOf p r = Spans p.left.image.now p.right.image.now p.left.number p.right.number r.left r.right r.count
 
-abbrev pub FixedOf : Pair → Rows → Type 0
-FixedOf p r = Fixed p.left.image.now p.right.image.now p.left.number p.right.number r.left r.right r.count
+abbrev pub BlocksOf : Pair → Rows → Type 0
+BlocksOf p r = Blocks p.left.image.now p.right.image.now p.left.number p.right.number r.left r.right r.count
 
 abbrev pub SameEndsOf : Pair → Rows → Type 0
 SameEndsOf p r = SameEnds p.left.image.now p.right.image.now p.left.number p.right.number r.left r.right r.count

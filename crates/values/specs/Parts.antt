@@ -8,7 +8,7 @@ use Rattle.image.specs.TypeCode.{layout_of}
 use Rattle.image.specs.Element.{element_width, element_place, element_at, run_end_at, run_at}
 use Rattle.laws.specs.Accepted.{AcceptedImage}
 use Rattle.laws.specs.Alike.{Alike}
-use Rattle.accepted.specs.Parts.{Side, Part, RunPart, Elements}
+use Rattle.accepted.specs.Parts.{Side, Part, RunPart}
 use Rattle.values.specs.declared.leaf.Columns.{Columns}
 use Rattle.values.specs.Pairs.{all, same_mask}
 
@@ -75,10 +75,10 @@ pub record Together (a b : List ℕ) (k l s t n i j m : ℕ) : Type 0 where
   pub right_last : j + m ≡ run_at b l (t + (n - 1))
   pub ends : (q : ℕ) → q < m → run_end_at a k (i + q) + t ≡ run_end_at b l (j + q) + s
 
--- n elements of each of two fixed-width nodes of one width
-pub record Fixed (a b : List ℕ) (k l i j n : ℕ) : Type 0 where
-  pub left : Elements a k i n
-  pub right : Elements b l j n
+-- n elements of one width of each of two nodes, as blocks of bytes that lie inside
+pub record Blocks (a b : List ℕ) (k l i j n : ℕ) : Type 0 where
+  pub left : element_place a k i + n * element_width a k ≤ length a
+  pub right : element_place b l j + n * element_width b l ≤ length b
   pub width : element_width a k ≡ element_width b l
 
 -- what is read once of two nodes: how wide their elements are, and where those of row 0 start

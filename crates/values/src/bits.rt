@@ -1,7 +1,7 @@
 // Bits of a slice, 64 at a time: what the Rust has in its bit iterators.
 ghost use Rattle.std.specs.Prelude.{◌≡◌, ◌≢◌, true, ◌+◌, ◌*◌, ◌/◌, ◌<◌, ◌≤◌, ◌^◌, length};
 ghost use Rattle.image.specs.Bytes.{bit_at};
-ghost use Rattle.values.specs.Bits.{bits_at, Leading};
+ghost use Rattle.values.specs.Bits.{bits_at, joined, Leading};
 ghost use Rattle.values.specs.Pairs.{first_unequal, same_bit_of};
 ghost use Rattle.values.specs.Pair.{Near, Inside, first_unequal_in, from_bit};
 
@@ -10,39 +10,31 @@ use image::bytes::{byte, le, load};
 // So many bits make a word.
 const WORD: usize = 64;
 
-// The 64 bits from bit i on, of the bits that start at a place, as a number, the first bit lowest, where their bytes and
-// one more lie inside.
-// Kept: a slice and a place here and in the next, and no `Bits`: that a byte is below 256 is known of a slice that is itself
-// an argument, and not of one inside a struct.
-fn word_inside(s: &[u8], place: usize, i: usize) -> usize
-    requires { place + i / 8 + 9 ≤ length s.now }
-    ensures { result ≡ bits_at s.now place i 64 }
+// The 64 bits from bit `shift` on of the number that eight bytes and the one after them make.
+fn joined(low: usize, next: u8, shift: usize) -> usize
+    requires { shift < 8 }
+    ensures { result ≡ joined low next shift }
 {
-    let at = place + i / 8;
-    let low = load::<8>(s, at);
-    let shift = i % 8;
     if shift == 0 {
         return low;
     }
-    (low >> shift) + (usize::from(s[at + 8]) << (64 - shift))
+    (low >> shift) + (usize::from(next) << (64 - shift))
 }
 
-// The same wherever they lie.
-// Kept: a slice and a place, as said above.
-fn word(s: &[u8], place: usize, i: usize) -> usize
-    requires { (place < 2 ^ 32) × (i < 2 ^ 35) }
+// The 64 bits from bit i on, of the bits that start at a place, as a number, the first bit lowest. INSIDE says that their
+// bytes and one more lie inside.
+// Kept: a slice and a place here, and no `Bits`: that a byte is below 256 is known of a slice that is itself an argument, and
+// not of one inside a struct.
+fn word<const INSIDE: bool>(s: &[u8], place: usize, i: usize) -> usize
+    requires near { (place < 2 ^ 32) × (i < 2 ^ 35) }
+    requires inside { INSIDE ≡ true → place + i / 8 + 9 ≤ length s.now }
     ensures { result ≡ bits_at s.now place i 64 }
 {
     let at = place + i / 8;
-    if at + 9 <= s.len() {
-        return word_inside(s, place, i);
+    if INSIDE || at + 9 <= s.len() {
+        return joined(load::<8>(s, at), s[at + 8], i % 8);
     }
-    let low = le::<8>(s, at);
-    let shift = i % 8;
-    if shift == 0 {
-        return low;
-    }
-    (low >> shift) + (usize::from(byte(s, at + 8)) << (64 - shift))
+    joined(le::<8>(s, at), byte(s, at + 8), i % 8)
 }
 
 // The bits that start at a place of a slice, from one of them on.
@@ -60,10 +52,7 @@ impl Bits<'_> {
         requires inside { INSIDE ≡ true → Inside self k 9 }
         ensures { result ≡ bits_at self.entry.bytes.now self.entry.place (self.entry.first + k) 64 }
     {
-        if INSIDE {
-            return word_inside(self.bytes, self.place, self.first + k);
-        }
-        word(self.bytes, self.place, self.first + k)
+        word::<INSIDE>(self.bytes, self.place, self.first + k)
     }
 
     // The same wherever they lie.

@@ -52,8 +52,8 @@ pub fn masked_views_equal(pair: Pair, rows: Rows) -> bool
     let bitmap = pair.left.bitmap();
     let ea = pair.left.node_entry(0);
     let eb = pair.right.node_entry(0);
-    let mut x = pair.left.buffer_place(0) + (pair.left.offset() + rows.left) * VIEW_SIZE;
-    let mut y = pair.right.buffer_place(0) + (pair.right.offset() + rows.right) * VIEW_SIZE;
+    let mut x = pair.left.first_place(VIEW_SIZE) + rows.left * VIEW_SIZE;
+    let mut y = pair.right.first_place(VIEW_SIZE) + rows.right * VIEW_SIZE;
     for k in 0..rows.count {
         if pair.left.is_kept(bitmap, rows.left + k) {
             let left = View {

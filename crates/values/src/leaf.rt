@@ -1,14 +1,11 @@
 // Rows of two nodes without bitmaps and without children, one pair at a time: what the nodes' records say is read once.
-ghost use Rattle.std.specs.Prelude.{◌≡◌, suc, ◌≤◌, length};
-ghost use Rattle.image.specs.Element.{element_width, element_place};
-ghost use Rattle.image.specs.Record.{offset_of};
+ghost use Rattle.std.specs.Prelude.{◌≡◌, suc};
 ghost use Rattle.image.specs.Row.{row_at};
 ghost use Rattle.accepted.specs.Parts.{Side};
 ghost use Rattle.values.specs.Pair.{equal_rows, one_row, SidesOf, LeavesOf, LeavesRead};
 
 use crate::pair::Pair;
 use image::bytes::Numbers;
-use image::record::Node;
 use image::type_code::{Layout, TypeCode};
 
 // How wide the elements of two nodes are, and where those of row 0 stand.
@@ -28,14 +25,6 @@ pub enum Leaves {
         left: usize,
         right: usize,
     },
-}
-
-// Where the element of a node's row 0 starts, where elements have so many bytes.
-pub fn first_place(node: Node, width: usize) -> usize
-    requires { (width ≡ element_width node.image.now node.number) × (element_place node.image.now node.number (offset_of node.image.now node.number) ≤ length node.image.now) }
-    ensures { result ≡ element_place node.entry.image.now node.entry.number (offset_of node.entry.image.now node.entry.number) }
-{
-    node.buffer_place(0) + node.offset() * width
 }
 
 // Two nodes taken apart: `None` where they have bitmaps or their layout is another.
@@ -62,14 +51,14 @@ pub fn leaves_of(pair: Pair) -> Option<Leaves>
     match layout {
         Layout::FixedWidth => Some(Leaves::Fixed(Columns {
             width: width,
-            left: first_place(left, width),
-            right: first_place(right, width),
+            left: left.first_place(width),
+            right: right.first_place(width),
         })),
         Layout::VariableSize => Some(Leaves::Texts {
             offsets: Columns {
                 width: width,
-                left: first_place(left, width),
-                right: first_place(right, width),
+                left: left.first_place(width),
+                right: right.first_place(width),
             },
             left: left.buffer_place(1),
             right: right.buffer_place(1),

@@ -1,11 +1,9 @@
 // Lengths of texts and lists. Translated from `lengths_equal` of src/equal/list.rs of arrow-data 60.1.0 (Apache-2.0).
-ghost use Rattle.std.specs.Prelude.{◌≡◌, ◌+◌, ◌*◌};
-ghost use Rattle.image.specs.Bytes.{bytes_at};
-ghost use Rattle.image.specs.Element.{element_width, element_place};
-ghost use Rattle.image.specs.Types.{same_bytes};
-ghost use Rattle.values.specs.Pair.{same_spans, same_offsets, same_distances, SpansOf, AboveOf};
+ghost use Rattle.std.specs.Prelude.{◌≡◌};
+ghost use Rattle.values.specs.Pair.{same_spans, same_distances, SpansOf, AboveOf};
 
 use crate::pair::{Pair, Rows};
+use crate::primitive::elements_equal;
 use image::bytes::load;
 
 // Offsets are compared so many at a time.
@@ -18,18 +16,6 @@ pub struct Offsets<'a> {
     pub place: usize,
     pub first: usize,
     pub base: usize,
-}
-
-// The offsets from the first element of two ranges on, and one more, are the same, as one block of bytes.
-fn offsets_same(pair: Pair, rows: Rows) -> bool
-    requires { SpansOf pair rows }
-    ensures { result ≡ same_offsets pair.entry rows }
-{
-    let width = pair.left.element_width();
-    let x = pair.left.buffer_place(0) + rows.left * width;
-    let y = pair.right.buffer_place(0) + rows.right * width;
-    let size = (rows.count + 1) * width;
-    pair.left.image[x..x + size] == pair.right.image[y..y + size]
 }
 
 // n offsets of W bytes, from the one numbered k on, stand in turn equally far above the first. There is no way out of the
@@ -68,7 +54,12 @@ pub fn lengths_equal(pair: Pair, rows: Rows) -> bool
     requires { SpansOf pair rows }
     ensures { result ≡ same_spans pair.entry rows }
 {
-    if offsets_same(pair, rows) {
+    let offsets = Rows {
+        left: rows.left,
+        right: rows.right,
+        count: rows.count + 1,
+    };
+    if elements_equal(pair, offsets) {
         return true;
     }
     let left = Offsets {

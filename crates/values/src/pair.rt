@@ -1,7 +1,7 @@
 // Two nodes whose rows are compared, and the rows of each.
 ghost use Rattle.std.specs.Prelude.{◌≡◌, Bool, ℕ, ◌+◌, ◌<◌, ◌≤◌, ◌^◌};
 ghost use Rattle.values.specs.Pairs.{all};
-ghost use Rattle.values.specs.Pair.{Roots, children, part, TellsParts};
+ghost use Rattle.values.specs.Pair.{Roots, children, from_offset, part, TellsParts};
 
 use image::record::Node;
 
@@ -38,6 +38,18 @@ impl<'a> Pair<'a> {
         Pair {
             left: self.left.child(c),
             right: self.right.child(c),
+        }
+    }
+
+    // The elements that rows of the two read.
+    pub fn elements(self, rows: Rows) -> Rows
+        requires { (rows.left < 2 ^ 63) × (rows.right < 2 ^ 63) }
+        ensures { result ≡ from_offset self.entry rows }
+    {
+        Rows {
+            left: self.left.offset() + rows.left,
+            right: self.right.offset() + rows.right,
+            count: rows.count,
         }
     }
 }

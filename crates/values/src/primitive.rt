@@ -2,16 +2,16 @@
 // for the generic type.
 ghost use Rattle.std.specs.Prelude.{◌≡◌, true, ◌+◌, ◌*◌, ◌≤◌, length};
 ghost use Rattle.image.specs.declared.type_code.Layout.TheVariants.{FixedWidth};
+ghost use Rattle.image.specs.Of.{◌of◌};
 ghost use Rattle.image.specs.Bytes.{bytes_at};
 ghost use Rattle.image.specs.Element.{element_width, element_place};
 ghost use Rattle.image.specs.Row.{fixed_row};
 ghost use Rattle.values.specs.Pairs.{all, valid_same, masked_row};
-ghost use Rattle.values.specs.Pair.{equal_rows, from_offset, PartsIn, MaskedOf, FixedOf, ColumnsOf, BitsOf};
-ghost use Rattle.accepted.specs.Parts.{Elements};
+ghost use Rattle.values.specs.Pair.{equal_rows, from_offset, PartsIn, MaskedOf, BlocksOf, ColumnsOf, BitsOf};
 
 use crate::bits::Bits;
 use crate::data::validity;
-use crate::leaf::{Columns, first_place};
+use crate::leaf::Columns;
 use crate::pair::{Pair, Rows};
 use crate::utils::number_same;
 use image::record::Node;
@@ -24,7 +24,7 @@ const WORD: usize = 64;
 
 // The bytes of n elements of a node from element j on.
 fn elements<'a>(node: Node<'a>, j: usize, n: usize) -> &'a [u8]
-    requires { Elements node.image.now node.number j n }
+    requires { (element_place of node) j + n * (element_width of node) ≤ length node.image.now }
     ensures { result.now ≡ bytes_at node.entry.image.now (element_place node.entry.image.now node.entry.number j) (n * element_width node.entry.image.now node.entry.number) }
 {
     let width = node.element_width();
@@ -34,7 +34,7 @@ fn elements<'a>(node: Node<'a>, j: usize, n: usize) -> &'a [u8]
 
 // The bytes of two ranges of elements are the same, as one block.
 pub fn elements_equal(pair: Pair, rows: Rows) -> bool
-    requires { FixedOf pair rows }
+    requires { BlocksOf pair rows }
     ensures { result ≡ equal_rows fixed_row pair.entry rows }
 {
     elements(pair.left, rows.left, rows.count) == elements(pair.right, rows.right, rows.count)
@@ -53,12 +53,7 @@ fn block_equal(pair: Pair, rows: Rows) -> bool
     requires { MaskedOf FixedWidth pair rows }
     ensures { result ≡ equal_rows fixed_row pair.entry (from_offset pair.entry rows) }
 {
-    let elements = Rows {
-        left: pair.left.offset() + rows.left,
-        right: pair.right.offset() + rows.right,
-        count: rows.count,
-    };
-    elements_equal(pair, elements)
+    elements_equal(pair, pair.elements(rows))
 }
 
 // Of n elements of W bytes, at most 64, those whose bit is set are the same. There is no way out of the loop, and its end is
@@ -119,8 +114,8 @@ pub fn columns_of(pair: Pair, rows: Rows) -> Columns
     let width = pair.left.element_width();
     Columns {
         width: width,
-        left: first_place(pair.left, width),
-        right: first_place(pair.right, width),
+        left: pair.left.first_place(width),
+        right: pair.right.first_place(width),
     }
 }
 

@@ -18,12 +18,7 @@ fn ends_same(pair: Pair, runs: Rows) -> bool
     if ends.left.element_width() != ends.right.element_width() {
         return false;
     }
-    let rows = Rows {
-        left: ends.left.offset() + runs.left,
-        right: ends.right.offset() + runs.right,
-        count: runs.count,
-    };
-    elements_equal(ends, rows)
+    elements_equal(ends, ends.elements(runs))
 }
 
 // How many runs hold the elements of two ranges, i and j the first of them, where those of both sides end together.

@@ -25,6 +25,7 @@ pub fn number_same<const W: usize>(a: &[u8], b: &[u8], at: usize, bt: usize) -> 
 }
 
 // Of the pairs of rows the number of the first of which one is null and the other is not, or their count.
+// Kept: a number and no Option, as of the first unequal bit: it is compared with the count, where none is.
 pub fn first_unequal_null(pair: Pair, rows: Rows) -> usize
     requires { FewRows rows }
     ensures { result ≡ first_null pair.entry rows }

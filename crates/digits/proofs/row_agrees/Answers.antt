@@ -2,7 +2,7 @@
 -- Numbers that are the same agree, and so do nulls; of others the stored numbers decide.
 use mathlib.Core.Path.{sym, ◌∙◌}
 use Rattle.accepted.proofs.Nodes.{side_small}
-use Rattle.digits.proofs.Agreeing.{nulls_agree, same_agree, narrow, left_room, right_room, two_numbers, read_agree}
+use Rattle.digits.proofs.Agreeing.{nulls_agree, same_agree, narrow, left_room, right_room, read_agree}
 use native.Mathlib.Omega.{arith}
 use Rattle.digits.proofs.row_agrees.Goals as goal
 
@@ -20,9 +20,6 @@ is_kept-requires g c = (rw c.requires.numbers.0.left_root c.requires.columned.ma
 
 pub returns-then-not-is_kept : goal.returns-then-not-is_kept
 returns-then-not-is_kept g c = nulls_agree c.requires.numbers.0.numbers c.requires.columned _ (sym (rw c.requires.numbers.0.left_root at c.is_kept.ensures) ∙ c.if-not-is_kept.true)
-
-pub numbers_agree-requires : goal.numbers_agree-requires
-numbers_agree-requires g c = (two_numbers c.requires.numbers.0.numbers c.requires.columned c.load-x.ensures c.load-y.ensures, c.requires.numbers.1)
 
 pub returns : goal.returns
 returns g c = read_agree c.requires.numbers.0.numbers c.requires.columned c.load-x.ensures c.load-y.ensures _ (sym (rw c.requires.numbers.0.left_root at c.is_kept.ensures) ∙ c.if-not-is_kept.false) c.numbers_agree.ensures

@@ -2,13 +2,10 @@
 -- The loop keeps that what is left to look at gives the answer; the measure is how much is left.
 use mathlib.Core.Path.{sym, ◌∙◌}
 use Rattle.accepted.proofs.Nodes.{side_small}
-use Rattle.values.proofs.Steps.{left_none, left_more, left_fails, left_done}
+use Rattle.values.proofs.Steps.{left_more, left_fails, left_done}
 use Rattle.digits.proofs.Agreeing.{row_of}
 use native.Mathlib.Omega.{arith}
 use Rattle.digits.proofs.rows_agree.Goals as goal
-
-pub loop-k-init : goal.loop-k-init
-loop-k-init g c = left_none _ _ _ _
 
 pub overflow_add-rows : goal.overflow_add-rows
 overflow_add-rows g c = omega (arith, c.loop-k-test.true, side_small _ _ _ _ c.requires.numbers.0.numbers.rows.left)

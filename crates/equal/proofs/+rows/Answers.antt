@@ -77,20 +77,17 @@ equal_range-equal_valid-requires t c = (omega arith, (range_sides c.requires c.i
 pub equal_range-returns-then-contains_nulls : goal.equal_range-returns-then-contains_nulls
 equal_range-returns-then-contains_nulls t c = c.equal_valid.ensures ∙ range_rows c.requires c.if-depth-eq0.false
 
-pub equal_range-overflow_add-elements : goal.equal_range-overflow_add-elements
-equal_range-overflow_add-elements t c = omega (arith, sides_left c.requires, c.offset.ensures.value)
-
-pub equal_range-overflow_add-elements-2 : goal.equal_range-overflow_add-elements-2
-equal_range-overflow_add-elements-2 t c = omega (arith, sides_right c.requires, c.offset-2.ensures.value)
+pub equal_range-elements-requires : goal.equal_range-elements-requires
+equal_range-elements-requires t c = (omega (arith, sides_left c.requires), omega (arith, sides_right c.requires))
 
 pub equal_range-overflow_sub-depth-2 : goal.equal_range-overflow_sub-depth-2
 equal_range-overflow_sub-depth-2 t c = omega arith
 
 pub equal_range-equal_values-requires : goal.equal_range-equal_values-requires
-equal_range-equal_values-requires t c = (omega arith, range_requires c.requires c.if-depth-eq0.false (sym c.equal_nulls.ensures ∙ c.if-not-equal_nulls.false) (not-false _ (sym c.contains_nulls.ensures ∙ c.if-contains_nulls.false)) c.offset.ensures c.offset-2.ensures)
+equal_range-equal_values-requires t c = (omega arith, rw c.elements.ensures (range_requires c.requires c.if-depth-eq0.false (sym c.equal_nulls.ensures ∙ c.if-not-equal_nulls.false) (not-false _ (sym c.contains_nulls.ensures ∙ c.if-contains_nulls.false))))
 
 pub equal_range-returns : goal.equal_range-returns
-equal_range-returns t c = c.equal_values.ensures ∙ range_answer c.requires c.if-depth-eq0.false (sym c.equal_nulls.ensures ∙ c.if-not-equal_nulls.false) (not-false _ (sym c.contains_nulls.ensures ∙ c.if-contains_nulls.false)) c.offset.ensures c.offset-2.ensures
+equal_range-returns t c = (rw c.elements.ensures at c.equal_values.ensures) ∙ range_answer c.requires c.if-depth-eq0.false (sym c.equal_nulls.ensures ∙ c.if-not-equal_nulls.false) (not-false _ (sym c.contains_nulls.ensures ∙ c.if-contains_nulls.false))
 
 pub equal_valid-masked_equal-requires : goal.equal_valid-masked_equal-requires
 equal_valid-masked_equal-requires t c = masked_requires c.requires.sides (layout_is c.code.ensures c.layout-layout.ensures (at_layouts (2 ∷ []) FixedWidth (λ l. l) refl c.layout-layout.result c.in-FixedWidth.in-FixedWidth-own.keys1)) c.requires.masks
@@ -108,16 +105,16 @@ pub equal_valid-loop-k-init : goal.equal_valid-loop-k-init
 equal_valid-loop-k-init t c = rows_none _ _ _ _ _
 
 pub equal_valid-overflow_add-rows : goal.equal_valid-overflow_add-rows
-equal_valid-overflow_add-rows t c = omega (arith, sides_left c.requires.sides, sides_right c.requires.sides, c.offset-oa.ensures.value, c.offset-ob.ensures.value, c.loop-k-test.true)
+equal_valid-overflow_add-rows t c = omega (arith, sides_left c.requires.sides, sides_right c.requires.sides, c.loop-k-test.true)
 
 pub equal_valid-overflow_sub-n : goal.equal_valid-overflow_sub-n
 equal_valid-overflow_sub-n t c = omega arith
 
 pub equal_valid-valid_rows-run-requires : goal.equal_valid-valid_rows-run-requires
-equal_valid-valid_rows-run-requires t c = omega (arith, sides_left c.requires.sides, sides_right c.requires.sides, c.offset-oa.ensures.value, c.offset-ob.ensures.value, c.loop-k-test.true)
+equal_valid-valid_rows-run-requires t c = omega (arith, sides_left c.requires.sides, sides_right c.requires.sides, c.loop-k-test.true)
 
 pub equal_valid-overflow_add-k : goal.equal_valid-overflow_add-k
-equal_valid-overflow_add-k t c = omega (arith, sides_left c.requires.sides, sides_right c.requires.sides, c.offset-oa.ensures.value, c.offset-ob.ensures.value, c.loop-k-test.true)
+equal_valid-overflow_add-k t c = omega (arith, sides_left c.requires.sides, sides_right c.requires.sides, c.loop-k-test.true)
 
 pub equal_valid-loop-k-smaller-then-run-eq0 : goal.equal_valid-loop-k-smaller-then-run-eq0
 equal_valid-loop-k-smaller-then-run-eq0 t c = omega arith
@@ -125,23 +122,19 @@ equal_valid-loop-k-smaller-then-run-eq0 t c = omega arith
 pub equal_valid-loop-k-preserved-then-run-eq0 : goal.equal_valid-loop-k-preserved-then-run-eq0
 equal_valid-loop-k-preserved-then-run-eq0 t c = null_more c.requires.sides c.requires.masks c.loop-k.invariant c.valid_rows-run.ensures c.loop-k-test.true c.if-run-eq0.true
 
-pub equal_valid-overflow_add-elements : goal.equal_valid-overflow_add-elements
-equal_valid-overflow_add-elements t c = omega (arith, sides_left c.requires.sides, sides_right c.requires.sides, c.offset-oa.ensures.value, c.offset-ob.ensures.value, c.loop-k-test.true)
+pub equal_valid-elements-elements-requires : goal.equal_valid-elements-elements-requires
+equal_valid-elements-elements-requires t c = (omega (arith, sides_left c.requires.sides), omega (arith, sides_right c.requires.sides))
 
-pub equal_valid-overflow_add-elements-else-run-eq0 : goal.equal_valid-overflow_add-elements-else-run-eq0
-equal_valid-overflow_add-elements-else-run-eq0 t c = omega (arith, sides_left c.requires.sides, sides_right c.requires.sides, c.offset-oa.ensures.value, c.offset-ob.ensures.value, c.loop-k-test.true)
-
-pub equal_valid-overflow_add-elements-else-run-eq0-2 : goal.equal_valid-overflow_add-elements-else-run-eq0-2
-equal_valid-overflow_add-elements-else-run-eq0-2 t c = omega (arith, sides_left c.requires.sides, sides_right c.requires.sides, c.offset-oa.ensures.value, c.offset-ob.ensures.value, c.loop-k-test.true)
-
-pub equal_valid-overflow_add-elements-else-run-eq0-3 : goal.equal_valid-overflow_add-elements-else-run-eq0-3
-equal_valid-overflow_add-elements-else-run-eq0-3 t c = omega (arith, sides_left c.requires.sides, sides_right c.requires.sides, c.offset-oa.ensures.value, c.offset-ob.ensures.value, c.loop-k-test.true)
+pub equal_valid-part-requires : goal.equal_valid-part-requires
+equal_valid-part-requires t c = rw c.elements-elements.ensures (omega (arith, sides_left c.requires.sides, sides_right c.requires.sides, c.loop-k-test.true))
 
 pub equal_valid-equal_values-requires : goal.equal_valid-equal_values-requires
-equal_valid-equal_values-requires t c = (search rules, valid_requires c.requires.sides c.requires.masks c.loop-k.invariant c.valid_rows-run.ensures c.offset-oa.ensures c.offset-ob.ensures)
+equal_valid-equal_values-requires t c = (search rules, rw (c.part.ensures, c.elements-elements.ensures) (valid_requires c.requires.sides c.requires.masks c.loop-k.invariant c.valid_rows-run.ensures))
 
 pub equal_valid-returns-then-not-equal_values : goal.equal_valid-returns-then-not-equal_values
-equal_valid-returns-then-not-equal_values t c = valid_fail c.requires.sides c.requires.masks c.loop-k.invariant c.valid_rows-run.ensures c.offset-oa.ensures c.offset-ob.ensures (sym c.equal_values.ensures ∙ c.if-not-equal_values.true)
+equal_valid-returns-then-not-equal_values t c =
+    let same = rw (c.part.ensures, c.elements-elements.ensures) at c.equal_values.ensures in
+    valid_fail c.requires.sides c.requires.masks c.loop-k.invariant c.valid_rows-run.ensures (sym same ∙ c.if-not-equal_values.true)
 
 pub equal_valid-overflow_add-k-else-run-eq0 : goal.equal_valid-overflow_add-k-else-run-eq0
 equal_valid-overflow_add-k-else-run-eq0 t c = omega (arith, c.valid_rows-run.ensures.within, sides_left c.requires.sides)
@@ -150,7 +143,9 @@ pub equal_valid-loop-k-smaller : goal.equal_valid-loop-k-smaller
 equal_valid-loop-k-smaller t c = omega (arith, c.valid_rows-run.ensures.within, c.if-run-eq0.false)
 
 pub equal_valid-loop-k-preserved : goal.equal_valid-loop-k-preserved
-equal_valid-loop-k-preserved t c = valid_more c.requires.sides c.requires.masks c.loop-k.invariant c.valid_rows-run.ensures c.offset-oa.ensures c.offset-ob.ensures (sym c.equal_values.ensures ∙ c.if-not-equal_values.false)
+equal_valid-loop-k-preserved t c =
+    let same = rw (c.part.ensures, c.elements-elements.ensures) at c.equal_values.ensures in
+    valid_more c.requires.sides c.requires.masks c.loop-k.invariant c.valid_rows-run.ensures (sym same ∙ c.if-not-equal_values.false)
 
 pub equal_valid-returns : goal.equal_valid-returns
 equal_valid-returns t c = rows_done c.loop-k.invariant c.loop-k-test.false

@@ -3,20 +3,11 @@
 use Rattle.digits.proofs.Sizes.{left_fits, right_fits, sizes_decide}
 use Rattle.digits.proofs.round.numbers_agree.Goals as goal
 
-pub sign_bit-sign-requires : goal.sign_bit-sign-requires
-sign_bit-sign-requires c = c.requires.0.narrow
-
 pub size_of-requires : goal.size_of-requires
 size_of-requires c = left_fits c.requires.0 c.sign_bit-sign.ensures
 
-pub to_nearest-left-requires : goal.to_nearest-left-requires
-to_nearest-left-requires c = (c.size_of.ensures.1, c.requires.1)
-
 pub size_of-requires-2 : goal.size_of-requires-2
 size_of-requires-2 c = right_fits c.requires.0 c.sign_bit-sign.ensures
-
-pub to_nearest-right-requires : goal.to_nearest-right-requires
-to_nearest-right-requires c = (c.size_of-2.ensures.1, c.requires.1)
 
 pub returns : goal.returns
 returns c = sizes_decide c.requires.0 c.sign_bit-sign.ensures c.requires.1.some c.size_of.ensures.0 c.to_nearest-left.ensures c.size_of-2.ensures.0 c.to_nearest-right.ensures

@@ -8,18 +8,6 @@ use Rattle.values.proofs.WordBits.{word_passed, word_found}
 use native.Mathlib.Omega.{arith}
 use Rattle.values.proofs.bits.first_unequal_word.Goals as goal
 
-pub word_of-u-requires : goal.word_of-u-requires
-word_of-u-requires g c = record {
-  near = record { place = c.requires.near.0.place; few = omega (arith, c.requires.near.0.few, c.loop-h-test.true) };
-  inside = λ e. omega (arith, (c.requires.inside e).0, c.loop-h-test.true);
-}
-
-pub word_of-v-requires : goal.word_of-v-requires
-word_of-v-requires g c = record {
-  near = record { place = c.requires.near.1.place; few = omega (arith, c.requires.near.1.few, c.loop-h-test.true) };
-  inside = λ e. omega (arith, (c.requires.inside e).1, c.loop-h-test.true);
-}
-
 pub loop-h-init : goal.loop-h-init
 loop-h-init g c = passed_none _ _ _ _
 

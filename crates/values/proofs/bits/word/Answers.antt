@@ -1,15 +1,12 @@
--- The 64 bits from a bit on: the eight bytes at the bit's byte, shifted, and the byte after them above.
--- Every byte of a slice is below 256; the rest are laws of Words.
-use mathlib.Core.Path.{◌∙◌}
-use Rattle.values.proofs.Words.{word_whole, word_split, word_fits}
+-- The 64 bits from a bit on: the eight bytes at the bit's byte, and the byte after them, joined.
+-- Every byte of a slice is below 256; the rest is a law of Words.
+use mathlib.Core.Path.{refl}
+use Rattle.values.proofs.Words.{word_joined}
 use native.Mathlib.Omega.{arith}
 use Rattle.values.proofs.bits.word.Goals as goal
 
-pub returns-then-shift-eq0 : goal.returns-then-shift-eq0
-returns-then-shift-eq0 c = word_whole _ (λ k. omega (arith, c.type_inv.s k)) _ _ c.le-low.ensures c.if-shift-eq0.true
-
-pub overflow_add-result : goal.overflow_add-result
-overflow_add-result c = omega (arith, word_fits _ (λ k. omega (arith, c.type_inv.s k)) _ _ c.le-low.ensures c.from.result)
+pub returns-then-this-ne0 : goal.returns-then-this-ne0
+returns-then-this-ne0 g c = word_joined _ (λ k. omega (arith, c.type_inv.s k)) _ _ c.load.ensures refl c.joined.ensures
 
 pub returns : goal.returns
-returns c = word_split _ (λ k. omega (arith, c.type_inv.s k)) _ _ c.le-low.ensures (c.from.ensures ∙ c.byte.ensures.value)
+returns g c = word_joined _ (λ k. omega (arith, c.type_inv.s k)) _ _ c.le.ensures c.byte.ensures.value c.joined-2.ensures

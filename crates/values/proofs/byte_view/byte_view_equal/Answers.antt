@@ -1,16 +1,9 @@
 -- The answer is whether the rows of views are equal in turn.
 -- Elements without nulls are compared as the rows that read them.
 use mathlib.Core.Path.{◌∙◌}
-use native.Mathlib.Omega.{arith}
 use Rattle.image.specs.Row.{view_row}
 use Rattle.values.proofs.MaskedRows.{elements_masked, elements_rows}
 use Rattle.values.proofs.byte_view.byte_view_equal.Goals as goal
-
-pub overflow_sub-rows : goal.overflow_sub-rows
-overflow_sub-rows c = omega (arith, c.offset.ensures.value, c.requires.parts.left.low)
-
-pub overflow_sub-rows-2 : goal.overflow_sub-rows-2
-overflow_sub-rows-2 c = omega (arith, c.offset-2.ensures.value, c.requires.parts.right.low)
 
 pub masked_views_equal-requires : goal.masked_views_equal-requires
 masked_views_equal-requires c = rw (c.offset.ensures.value, c.offset-2.ensures.value) (elements_masked c.requires.parts c.requires.layout)

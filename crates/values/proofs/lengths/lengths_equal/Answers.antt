@@ -1,23 +1,14 @@
 -- `values::lengths::lengths_equal` meets its contract.
 -- Offsets that are the same make the same lengths, and so do offsets that stand equally far above the first, and no others.
+use Rattle.values.proofs.Fixed.{fixed_block}
 use Rattle.values.proofs.Spans.{offsets_spans}
-use Rattle.values.proofs.Distances.{narrow_width, else_wide, both_above, distances_spans}
-use mathlib.Core.Path.{refl, sym, ◌∙◌}
+use Rattle.values.proofs.Distances.{else_wide, both_above, distances_spans}
+use mathlib.Core.Path.{sym, ◌∙◌}
 use native.Mathlib.Nat.{add-zero}
-use native.Mathlib.Omega.{arith}
 use Rattle.values.proofs.lengths.lengths_equal.Goals as goal
 
-pub offsets_same-requires : goal.offsets_same-requires
-offsets_same-requires c = c.requires
-
-pub returns-then-offsets_same : goal.returns-then-offsets_same
-returns-then-offsets_same c = sym (offsets_spans c.requires (sym c.offsets_same.ensures ∙ c.if-offsets_same.true))
-
-pub offset_at-requires : goal.offset_at-requires
-offset_at-requires c = (narrow_width c.requires.whole refl, omega (arith, c.requires.left_small))
-
-pub offset_at-requires-2 : goal.offset_at-requires-2
-offset_at-requires-2 c = (narrow_width c.requires.whole (sym c.requires.same), omega (arith, c.requires.right_small))
+pub returns-then-elements_equal : goal.returns-then-elements_equal
+returns-then-elements_equal c = sym (offsets_spans c.requires (fixed_block _ _ _ _ c.requires.same _ _ _ ∙ sym c.elements_equal.ensures ∙ c.if-elements_equal.true))
 
 pub distances_equal-requires : goal.distances_equal-requires
 distances_equal-requires c = rw (add-zero, add-zero) (both_above c.requires (record { width = sym c.if-element_width-eq4.true ∙ c.element_width.ensures; left = c.buffer_place.ensures.value; right = c.buffer_place-2.ensures.value; left_first = c.offset_at.ensures; right_first = c.offset_at-2.ensures }))

@@ -3,25 +3,11 @@
 use Rattle.values.proofs.MaskedRows.{whole_block}
 use Rattle.values.proofs.ValidElements.{whole_rows}
 use Rattle.image.specs.Row.{fixed_row}
-use Rattle.accepted.proofs.Nodes.{side_small}
-use native.Mathlib.Omega.{arith}
 use mathlib.Core.Path.{sym, ◌∙◌}
 use Rattle.values.proofs.primitive.chunk_equal.Goals as goal
-
-pub block_equal-requires : goal.block_equal-requires
-block_equal-requires c = c.requires
 
 pub returns-then-block_equal : goal.returns-then-block_equal
 returns-then-block_equal c = whole_block fixed_row c.requires (sym c.block_equal.ensures ∙ c.if-block_equal.true)
 
-pub validity-requires : goal.validity-requires
-validity-requires c = omega (arith, side_small _ _ _ _ c.requires.left, side_small _ _ _ _ c.requires.right)
-
 pub returns-in-None : goal.returns-in-None
 returns-in-None c = sym (sym (whole_rows c.requires c.in-None.ensures) ∙ sym c.block_equal.ensures ∙ c.if-block_equal.false)
-
-pub words_equal-requires : goal.words_equal-requires
-words_equal-requires c = record { masked = c.requires; mask = c.in-Some.ensures }
-
-pub returns-in-Some : goal.returns-in-Some
-returns-in-Some c = c.words_equal.ensures

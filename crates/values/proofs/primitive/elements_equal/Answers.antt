@@ -5,12 +5,6 @@ use Rattle.values.proofs.Slices.{lists_same}
 use Rattle.values.proofs.Fixed.{fixed_block}
 use Rattle.values.proofs.primitive.elements_equal.Goals as goal
 
-pub elements-requires : goal.elements-requires
-elements-requires c = c.requires.left
-
-pub elements-requires-2 : goal.elements-requires-2
-elements-requires-2 c = c.requires.right
-
 pub returns : goal.returns
 returns c =
     let right = rw (← c.requires.width) at c.elements-2.ensures in

@@ -2,14 +2,11 @@
 -- The loop keeps that the elements from number h on decide.
 use mathlib.Core.Path.{sym, ◌∙◌}
 use native.Mathlib.Nat.{zero-add}
-use Rattle.values.proofs.Steps.{left_none, left_more, left_fails, left_done}
+use Rattle.values.proofs.Steps.{left_more, left_fails, left_done}
 use borrow.Author.Tests.{not-true, not-false}
 use Rattle.values.proofs.ValidElements.{part_test, passed_over, by_its_bytes}
 use Rattle.values.proofs.primitive.valid_bytes.Goals as goal
 use Rattle.values.proofs.primitive.valid_bytes.Goals.{then-bits-h-eq1+else-ne, else-bits-h-eq1}
-
-pub loop-h-init : goal.loop-h-init
-loop-h-init c = left_none _ _ _ _
 
 pub returns-then-ne : goal.returns-then-ne
 returns-then-ne c =

@@ -1,8 +1,6 @@
 -- `word_equal` compares at most 64 rows.
 -- The bits of the word are those of the rows; the elements lie inside.
 use Rattle.image.proofs.Slices.{sliced}
-use Rattle.values.proofs.Slices.{part_length}
-use Rattle.accepted.proofs.Nodes.{side_small}
 use Rattle.values.proofs.Masks.{mask_word}
 use Rattle.values.proofs.ValidElements.{left_inside, right_inside, word_rows}
 use mathlib.Core.Path.{◌∙◌}
@@ -35,12 +33,6 @@ slice_bounds-valid_equal-end c = left_inside c.requires.masked.1 c.requires.colu
 
 pub slice_bounds-valid_equal-end-2 : goal.slice_bounds-valid_equal-end-2
 slice_bounds-valid_equal-end-2 c = right_inside c.requires.masked.1 c.requires.columns
-
-pub word-requires : goal.word-requires
-word-requires c = record { place = c.requires.mask.near; few = omega (arith, c.requires.mask.few, side_small _ _ _ _ c.requires.masked.1.left) }
-
-pub valid_equal-requires : goal.valid_equal-requires
-valid_equal-requires c = (c.requires.masked.0, rw (part_length _ _ _ (left_inside c.requires.masked.1 c.requires.columns)) (omega arith), rw (part_length _ _ _ (right_inside c.requires.masked.1 c.requires.columns)) (omega arith))
 
 pub returns : goal.returns
 returns c =

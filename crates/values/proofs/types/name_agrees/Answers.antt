@@ -1,11 +1,7 @@
 -- The answer is true where names do not count, and else whether they are the same.
 -- By the test, and by what the callees give: the right name is the bytes at its place.
-use native.Mathlib.Omega.{arith}
 use Rattle.image.specs.Types.{name_of}
 use Rattle.values.proofs.types.name_agrees.Goals as goal
-
-pub name_is-requires : goal.name_is-requires
-name_is-requires c = omega (arith, c.name_place.ensures.small)
 
 pub returns : goal.returns
 unfolding name_of

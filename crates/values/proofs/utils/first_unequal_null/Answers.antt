@@ -1,7 +1,6 @@
 -- The first pair of rows of which one alone is null: by their bits, or where one side has no bitmap by the other's.
 -- The laws of Masks.
 use Rattle.values.proofs.Masks.{masks_none, masks_left, masks_right, masks_both}
-use native.Mathlib.Omega.{arith}
 use Rattle.values.proofs.utils.first_unequal_null.Goals as goal
 
 pub returns-in-None-None : goal.returns-in-None-None
@@ -27,19 +26,3 @@ returns-in-Some-Some c =
     let left = rw c.in-Some-Some.is-0 at c.validity-left.ensures in
     let right = rw c.in-Some-Some.is-1 at c.validity-right.ensures in
     masks_both c.args.pair c.args.rows left right c.first_unequal_bit.ensures
-
-pub leading_set-requires : goal.leading_set-requires
-leading_set-requires c =
-    let right = rw c.in-None-Some.is-1 at c.validity-right.ensures in
-    record { place = right.near; few = omega (arith, right.few, c.requires.right) }
-
-pub leading_set-requires-in-Some-None : goal.leading_set-requires-in-Some-None
-leading_set-requires-in-Some-None c =
-    let left = rw c.in-Some-None.is-0 at c.validity-left.ensures in
-    record { place = left.near; few = omega (arith, left.few, c.requires.left) }
-
-pub first_unequal_bit-requires : goal.first_unequal_bit-requires
-first_unequal_bit-requires c =
-    let left = rw c.in-Some-Some.is-0 at c.validity-left.ensures in
-    let right = rw c.in-Some-Some.is-1 at c.validity-right.ensures in
-    (record { place = left.near; few = omega (arith, left.few, c.requires.left) }, record { place = right.near; few = omega (arith, right.few, c.requires.right) })

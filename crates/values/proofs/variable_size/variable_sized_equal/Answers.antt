@@ -1,9 +1,8 @@
 -- `values::variable_size::variable_sized_equal` meets its contract.
 -- The definition is rewritten by what the calls ensure and by the tests on the way.
-use Rattle.accepted.proofs.Nodes.{part_small}
 use Rattle.values.proofs.Slices.{parts_same}
 use Rattle.values.proofs.Texts.{text_spans, text_up, texts_differ, texts_block, right_end}
-use Rattle.accepted.proofs.Texts.{text_narrow, text_inside}
+use Rattle.accepted.proofs.Texts.{text_inside}
 use Rattle.image.specs.TypeCode.{layout_of}
 use mathlib.Core.Path.{sym, ap, ◌∙◌}
 use Prim.Native.Nat.{◌+◌, ◌-◌, ◌≤◌}
@@ -17,23 +16,11 @@ lengths_equal-requires c = text_spans c.requires.parts c.requires.layout
 pub returns-then-not-lengths_equal : goal.returns-then-not-lengths_equal
 returns-then-not-lengths_equal c = texts_differ _ _ _ _ _ _ _ (sym c.lengths_equal.ensures ∙ c.if-not-lengths_equal.true)
 
-pub offset_at-from-requires : goal.offset_at-from-requires
-offset_at-from-requires c = (text_narrow _ _ _ _ c.requires.parts.left c.requires.layout, omega (arith, part_small c.requires.parts.left))
-
-pub overflow_add-rows : goal.overflow_add-rows
-overflow_add-rows c = omega (arith, part_small c.requires.parts.left)
-
-pub offset_at-requires : goal.offset_at-requires
-offset_at-requires c = (text_narrow _ _ _ _ c.requires.parts.left c.requires.layout, omega (arith, part_small c.requires.parts.left))
-
 pub overflow_sub-len : goal.overflow_sub-len
 overflow_sub-len c = omega (arith, c.offset_at-from.ensures, c.offset_at.ensures, text_up _ _ _ _ c.requires.parts.left c.requires.layout)
 
 pub overflow_add-x : goal.overflow_add-x
 overflow_add-x c = omega (arith, c.buffer_place.ensures.value, c.offset_at-from.ensures, c.offset_at.ensures, text_inside _ _ _ _ c.requires.parts.left c.requires.layout, text_up _ _ _ _ c.requires.parts.left c.requires.layout, c.requires.parts.left.image.tables.size)
-
-pub offset_at-requires-2 : goal.offset_at-requires-2
-offset_at-requires-2 c = (text_narrow _ _ _ _ c.requires.parts.right (sym (ap layout_of c.requires.parts.alike.0.code) ∙ c.requires.layout), omega (arith, part_small c.requires.parts.right))
 
 pub overflow_add-y : goal.overflow_add-y
 overflow_add-y c = omega (arith, c.buffer_place.ensures.value, c.buffer_place-2.ensures.value, c.offset_at-from.ensures, c.offset_at.ensures, c.offset_at-2.ensures, text_inside _ _ _ _ c.requires.parts.left c.requires.layout, text_up _ _ _ _ c.requires.parts.left c.requires.layout, c.requires.parts.left.image.tables.size, text_inside _ _ _ _ c.requires.parts.right (sym (ap layout_of c.requires.parts.alike.0.code) ∙ c.requires.layout), right_end _ _ _ _ _ _ _ (text_spans c.requires.parts c.requires.layout) (sym c.lengths_equal.ensures ∙ c.if-not-lengths_equal.false), c.requires.parts.right.image.tables.size)
