@@ -45,37 +45,37 @@ pub measure_rows-returns-then-n-eq0 : goal.measure_rows-returns-then-n-eq0
 measure_rows-returns-then-n-eq0 t c = record { value = none_measured _ _ _ _ _ c.if-n-eq0.true _; remembered_after = c.requires.remembered }
 
 pub measure_rows-loop-k-init : goal.measure_rows-loop-k-init
-measure_rows-loop-k-init t c = (measured_start _ _ _ _ _ _ c.first_run-run.ensures, rw c.new-column.ensures.node c.requires.remembered)
+measure_rows-loop-k-init t c = (measured_start _ _ _ _ _ _ c.first_run-run.ensures, rw c.new-column.ensures c.requires.remembered)
 
 pub measure_rows-overflow_add-i : goal.measure_rows-overflow_add-i
 measure_rows-overflow_add-i t c = omega (arith, side_few c.requires.side, c.loop-k-test.true)
 
 pub measure_rows-stay-stay-requires : goal.measure_rows-stay-stay-requires
-measure_rows-stay-stay-requires t c = (record { side = (rows_from (rw c.new-column.ensures.node c.requires.side) _ c.loop-k-test.true, omega (arith, c.loop-k-test.true)); kept = row_kept (rw c.new-column.ensures.node c.requires.side) _ c.loop-k-test.true c.loop-k.invariant.0.kept })
+measure_rows-stay-stay-requires t c = (record { side = (rows_from (rw c.new-column.ensures c.requires.side) _ c.loop-k-test.true, omega (arith, c.loop-k-test.true)); kept = row_kept (rw c.new-column.ensures c.requires.side) _ c.loop-k-test.true c.loop-k.invariant.0.kept })
 
 pub measure_rows-overflow_add-i-in-loop-k : goal.measure_rows-overflow_add-i-in-loop-k
 measure_rows-overflow_add-i-in-loop-k t c = omega (arith, side_few c.requires.side, c.loop-k-test.true)
 
 pub measure_rows-measure_row-requires : goal.measure_rows-measure_row-requires
-measure_rows-measure_row-requires t c = (omega (arith, c.decreases), (side_row (rw c.new-column.ensures.node c.requires.side) c.loop-k-test.true, (row_kept (rw c.new-column.ensures.node c.requires.side) _ c.loop-k-test.true c.loop-k.invariant.0.kept, c.loop-k.invariant.1)))
+measure_rows-measure_row-requires t c = (omega (arith, c.decreases), (side_row (rw c.new-column.ensures c.requires.side) c.loop-k-test.true, (row_kept (rw c.new-column.ensures c.requires.side) _ c.loop-k-test.true c.loop-k.invariant.0.kept, c.loop-k.invariant.1)))
 
 pub measure_rows-returns-in_err-one : goal.measure_rows-returns-in_err-one
-measure_rows-returns-in_err-one t c = record { value = c.from_residual.ensures ∙ rw c.new-column.ensures.node at (row_short c.loop-k.invariant.0 c.loop-k-test.true (sym c.in_err-one.was ∙ c.measure_row.ensures.value)); remembered_after = rw c.new-column.ensures.node at (c.measure_row.ensures.remembered_after) }
+measure_rows-returns-in_err-one t c = record { value = c.from_residual.ensures ∙ rw c.new-column.ensures at (row_short c.loop-k.invariant.0 c.loop-k-test.true (sym c.in_err-one.was ∙ c.measure_row.ensures.value)); remembered_after = rw c.new-column.ensures at (c.measure_row.ensures.remembered_after) }
 
 pub measure_rows-overflow_sub-left : goal.measure_rows-overflow_sub-left
 measure_rows-overflow_sub-left t c = omega (arith, row_took c.loop-k.invariant.0 c.loop-k-test.true (sym c.in_ok-one.was ∙ c.measure_row.ensures.value))
 
 pub measure_rows-returns-in_err-left : goal.measure_rows-returns-in_err-left
-measure_rows-returns-in_err-left t c = record { value = c.from_residual-in_err-left.ensures ∙ rw c.new-column.ensures.node at (others_short c.loop-k.invariant.0 c.loop-k-test.true (sym c.in_ok-one.was ∙ c.measure_row.ensures.value) (rw c.new-column.ensures.node c.requires.side) c.stay-stay.ensures (sym c.in_err-left.was ∙ c.room_after.ensures)); remembered_after = rw c.new-column.ensures.node at (c.measure_row.ensures.remembered_after) }
+measure_rows-returns-in_err-left t c = record { value = c.from_residual-in_err-left.ensures ∙ rw c.new-column.ensures at (others_short c.loop-k.invariant.0 c.loop-k-test.true (sym c.in_ok-one.was ∙ c.measure_row.ensures.value) (rw c.new-column.ensures c.requires.side) c.stay-stay.ensures (sym c.in_err-left.was ∙ c.room_after.ensures)); remembered_after = rw c.new-column.ensures at (c.measure_row.ensures.remembered_after) }
 
 pub measure_rows-loop-k-preserved : goal.measure_rows-loop-k-preserved
-measure_rows-loop-k-preserved t c = (measured_more c.loop-k.invariant.0 c.loop-k-test.true (sym c.in_ok-one.was ∙ c.measure_row.ensures.value) (rw c.new-column.ensures.node c.requires.side) c.stay-stay.ensures (sym c.in_ok-left.was ∙ c.room_after.ensures), c.measure_row.ensures.remembered_after)
+measure_rows-loop-k-preserved t c = (measured_more c.loop-k.invariant.0 c.loop-k-test.true (sym c.in_ok-one.was ∙ c.measure_row.ensures.value) (rw c.new-column.ensures c.requires.side) c.stay-stay.ensures (sym c.in_ok-left.was ∙ c.room_after.ensures), c.measure_row.ensures.remembered_after)
 
 pub measure_rows-overflow_add-i-2 : goal.measure_rows-overflow_add-i-2
 measure_rows-overflow_add-i-2 t c = omega (arith, side_few c.requires.side, c.loop-k.invariant.0.few)
 
 pub measure_rows-remember-requires : goal.measure_rows-remember-requires
-measure_rows-remember-requires t c = (rw c.new-column.ensures.node (node_few c.requires.side), omega (arith, side_few c.requires.side, c.loop-k.invariant.0.few, c.new-column.ensures.read.offset.value))
+measure_rows-remember-requires t c = (rw c.new-column.ensures (node_few c.requires.side), omega (arith, side_few c.requires.side, c.loop-k.invariant.0.few, c.new-column.result.read.offset.value))
 
 pub measure_rows-returns : goal.measure_rows-returns
-measure_rows-returns t c = record { value = rw c.new-column.ensures.node at (measured_done c.loop-k.invariant.0 c.loop-k-test.false); remembered_after = rw c.new-column.ensures.node at (remembered_now c.remember.ensures c.loop-k.invariant.1 (rw c.new-column.ensures.node (node_few c.requires.side)) c.loop-k.invariant.0.kept) }
+measure_rows-returns t c = record { value = rw c.new-column.ensures at (measured_done c.loop-k.invariant.0 c.loop-k-test.false); remembered_after = rw c.new-column.ensures at (remembered_now c.remember.ensures c.loop-k.invariant.1 (rw c.new-column.ensures (node_few c.requires.side)) c.loop-k.invariant.0.kept) }

@@ -47,31 +47,31 @@ pub write_rows-returns-then-n-eq0 : goal.write_rows-returns-then-n-eq0
 write_rows-returns-then-n-eq0 t c = let both = none_written _ _ _ _ _ c.if-n-eq0.true c.requires.fits in record { put = record { lent = refl; long = refl; at = both.0; bytes = both.1 }; remembered_after = c.requires.remembered }
 
 pub write_rows-loop-k-init : goal.write_rows-loop-k-init
-write_rows-loop-k-init t c = (refl, (writing_start _ _ _ _ _ (rw c.new-column.ensures.node c.requires.fits) c.first_run-run.ensures, rw c.new-column.ensures.node c.requires.remembered))
+write_rows-loop-k-init t c = (refl, (writing_start _ _ _ _ _ (rw c.new-column.ensures c.requires.fits) c.first_run-run.ensures, rw c.new-column.ensures c.requires.remembered))
 
 pub write_rows-overflow_add-i : goal.write_rows-overflow_add-i
 write_rows-overflow_add-i t c = omega (arith, side_few c.requires.side, c.loop-k-test.true)
 
 pub write_rows-stay-stay-requires : goal.write_rows-stay-stay-requires
-write_rows-stay-stay-requires t c = (record { side = (rows_from (rw c.new-column.ensures.node c.requires.side) _ c.loop-k-test.true, omega (arith, c.loop-k-test.true)); kept = row_kept (rw c.new-column.ensures.node c.requires.side) _ c.loop-k-test.true c.loop-k.invariant.1.0.kept })
+write_rows-stay-stay-requires t c = (record { side = (rows_from (rw c.new-column.ensures c.requires.side) _ c.loop-k-test.true, omega (arith, c.loop-k-test.true)); kept = row_kept (rw c.new-column.ensures c.requires.side) _ c.loop-k-test.true c.loop-k.invariant.1.0.kept })
 
 pub write_rows-overflow_add-i-in-loop-k : goal.write_rows-overflow_add-i-in-loop-k
 write_rows-overflow_add-i-in-loop-k t c = omega (arith, side_few c.requires.side, c.loop-k-test.true)
 
 pub write_rows-write_row-requires : goal.write_rows-write_row-requires
-write_rows-write_row-requires t c = (omega (arith, c.decreases), (side_row (rw c.new-column.ensures.node c.requires.side) c.loop-k-test.true, (row_kept (rw c.new-column.ensures.node c.requires.side) _ c.loop-k-test.true c.loop-k.invariant.1.0.kept, (c.loop-k.invariant.1.1, row_fits c.loop-k.invariant.1.0 c.loop-k-test.true))))
+write_rows-write_row-requires t c = (omega (arith, c.decreases), (side_row (rw c.new-column.ensures c.requires.side) c.loop-k-test.true, (row_kept (rw c.new-column.ensures c.requires.side) _ c.loop-k-test.true c.loop-k.invariant.1.0.kept, (c.loop-k.invariant.1.1, row_fits c.loop-k.invariant.1.0 c.loop-k-test.true))))
 
 pub write_rows-put_times-requires : goal.write_rows-put_times-requires
-write_rows-put_times-requires t c = record { behind = others_fit c.loop-k.invariant.1.0 c.loop-k-test.true (rw c.new-column.ensures.node c.requires.side) c.stay-stay.ensures (c.write_row.ensures.put.at, c.write_row.ensures.put.bytes); times_bound = omega (arith, c.stay-stay.ensures.within, side_few c.requires.side) }
+write_rows-put_times-requires t c = record { behind = others_fit c.loop-k.invariant.1.0 c.loop-k-test.true (rw c.new-column.ensures c.requires.side) c.stay-stay.ensures (c.write_row.ensures.put.at, c.write_row.ensures.put.bytes); times_bound = omega (arith, c.stay-stay.ensures.within, side_few c.requires.side) }
 
 pub write_rows-loop-k-preserved : goal.write_rows-loop-k-preserved
-write_rows-loop-k-preserved t c = (c.put_times.ensures.lent ∙ c.write_row.ensures.put.lent ∙ c.loop-k.invariant.0, (writing_more c.loop-k.invariant.1.0 c.loop-k-test.true (rw c.new-column.ensures.node c.requires.side) c.stay-stay.ensures (c.write_row.ensures.put.at, c.write_row.ensures.put.bytes) (c.put_times.ensures.at, c.put_times.ensures.bytes), c.write_row.ensures.remembered_after))
+write_rows-loop-k-preserved t c = (c.put_times.ensures.lent ∙ c.write_row.ensures.put.lent ∙ c.loop-k.invariant.0, (writing_more c.loop-k.invariant.1.0 c.loop-k-test.true (rw c.new-column.ensures c.requires.side) c.stay-stay.ensures (c.write_row.ensures.put.at, c.write_row.ensures.put.bytes) (c.put_times.ensures.at, c.put_times.ensures.bytes), c.write_row.ensures.remembered_after))
 
 pub write_rows-overflow_add-i-2 : goal.write_rows-overflow_add-i-2
 write_rows-overflow_add-i-2 t c = omega (arith, side_few c.requires.side, c.loop-k.invariant.1.0.few)
 
 pub write_rows-remember-requires : goal.write_rows-remember-requires
-write_rows-remember-requires t c = (rw c.new-column.ensures.node (node_few c.requires.side), omega (arith, side_few c.requires.side, c.loop-k.invariant.1.0.few, c.new-column.ensures.read.offset.value))
+write_rows-remember-requires t c = (rw c.new-column.ensures (node_few c.requires.side), omega (arith, side_few c.requires.side, c.loop-k.invariant.1.0.few, c.new-column.result.read.offset.value))
 
 pub write_rows-returns : goal.write_rows-returns
-write_rows-returns t c = let both = writing_done c.loop-k.invariant.1.0 c.loop-k-test.false in let after = remembered_now c.remember.ensures c.loop-k.invariant.1.1 (rw c.new-column.ensures.node (node_few c.requires.side)) c.loop-k.invariant.1.0.kept in record { put = record { lent = c.loop-k.invariant.0; long = c.loop-k.invariant.1.0.put.put.long; at = rw c.new-column.ensures.node at both.0; bytes = rw c.new-column.ensures.node at both.1 }; remembered_after = rw c.new-column.ensures.node at after }
+write_rows-returns t c = let both = writing_done c.loop-k.invariant.1.0 c.loop-k-test.false in let after = remembered_now c.remember.ensures c.loop-k.invariant.1.1 (rw c.new-column.ensures (node_few c.requires.side)) c.loop-k.invariant.1.0.kept in record { put = record { lent = c.loop-k.invariant.0; long = c.loop-k.invariant.1.0.put.put.long; at = rw c.new-column.ensures at both.0; bytes = rw c.new-column.ensures at both.1 }; remembered_after = rw c.new-column.ensures at after }
