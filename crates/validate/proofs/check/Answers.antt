@@ -9,7 +9,7 @@ use borrow.Author.Tests.{lt-ltb, le-ltb}
 use Rattle.std.proofs.Common.{Ok, Err}
 use Rattle.image.specs.Record.{node_count}
 use Rattle.image.specs.Faults.{first_faulty, numbers_end, check_from, check_image}
-use Rattle.laws.proofs.NoneBelow.{none_yet, none_more}
+use Rattle.laws.proofs.NoneBelow.{none_more}
 use Prim.Native.Nat.{ℕ, ◌+◌, ◌-◌, ◌<◌, ◌≤◌}
 use native.Mathlib.Omega.{arith}
 use Rattle.std.specs.Prelude.{Option, None, Some}
@@ -50,12 +50,6 @@ not_found number s (Some k) some f = absurd (f k refl)
 pub returns-then-fault_10 : goal.returns-then-fault_10
 unfolding check_image
 returns-then-fault_10 c = rw (← c.fault_10.ensures, c.if-fault_10.true)
-
-pub loop-number-init : goal.loop-number-init
-loop-number-init c = (left-all _, none_yet (sym c.fault_10.ensures ∙ c.if-fault_10.false), omega arith)
-
-pub first_faulty-requires : goal.first_faulty-requires
-first_faulty-requires c = record { walks = c.start-start.ensures; none_below = (c.loop-number.invariant.1, c.loop-number.invariant.2) }
 
 pub returns-in-Some : goal.returns-in-Some
 unfolding check_image

@@ -7,29 +7,17 @@ use Prim.Native.Nat.{ℕ, ◌+◌}
 use native.Mathlib.Nat.{zero-add}
 use native.Mathlib.Omega.{arith}
 use Rattle.image.specs.Faults.{fault, first_faulty}
-use Rattle.image.proofs.Loops.{rest_none, first_more, first_found, first_done}
+use Rattle.image.proofs.Loops.{first_more, first_found, first_done}
 use Rattle.validate.proofs.first_faulty.Goals as goal
 
 at-node : (number : ℕ) (s : List ℕ) (node : ℕ) {r b : Bool} → r ≡ fault number s node → r ≡ b → fault number s (0 + node) ≡ b
 at-node number s node e q = rw (zero-add node, ← e) q
-
-pub loop-k-init : goal.loop-k-init
-loop-k-init c = (rest_none _ _ _, c.requires.walks)
-
-pub has_fault-requires : goal.has_fault-requires
-has_fault-requires c = record { walks = c.loop-k.invariant.1; none_below = (c.requires.none_below.0, c.requires.none_below.1, omega (arith, c.loop-k-test.true, c.node_count-k-end.ensures.value)) }
-
-pub overflow_cast-result : goal.overflow_cast-result
-overflow_cast-result c = omega (arith, c.loop-k-test.true, c.node_count-k-end.ensures.small)
 
 pub returns-then-has_fault : goal.returns-then-has_fault
 unfolding first_faulty
 returns-then-has_fault c =
     let found = first_found _ _ _ _ c.loop-k-test.true c.loop-k.invariant.0 (at-node _ _ _ c.has_fault.ensures c.if-has_fault.true) in
     (rw (← c.node_count-k-end.ensures.value) (sym (zero-add _) ∙ found), rw (← c.node_count-k-end.ensures.value) c.loop-k-test.true)
-
-pub next-walk-requires : goal.next-walk-requires
-next-walk-requires c = (c.loop-k.invariant.1, omega (arith, c.loop-k-test.true, c.node_count-k-end.ensures.small))
 
 pub loop-k-preserved : goal.loop-k-preserved
 loop-k-preserved c = (first_more _ _ _ _ c.loop-k-test.true c.loop-k.invariant.0 (at-node _ _ _ c.has_fault.ensures c.if-has_fault.false), c.next-walk.ensures)

@@ -7,7 +7,6 @@ use mathlib.Core.List.{[], ◌∷◌}
 use native.Mathlib.Omega.{arith}
 use Rattle.image.specs.Faults.{fault}
 use Rattle.image.proofs.CodeTable.{NoneOf}
-use Rattle.laws.proofs.NoneBelow.{none_fewer}
 use Rattle.validate.proofs.has_fault.Goals as goal
 
 past : {m n : ℕ} → (n ≡ m → ⊥) → m ≤ n → suc m ≤ n
@@ -18,15 +17,6 @@ past-18 : (n : ℕ) → 11 ≤ n → NoneOf (18 ∷ 17 ∷ 16 ∷ 15 ∷ 14 ∷ 
 past-18 n le none =
     past none.1
     (past none.0.1 (past none.0.0.1 (past none.0.0.0.1 (past none.0.0.0.0.1 (past none.0.0.0.0.0.1 (past none.0.0.0.0.0.0.1 (past none.0.0.0.0.0.0.0.1 le)))))))
-
-pub fault_17-requires : goal.fault_17-requires
-fault_17-requires c = (none_fewer 17 (omega (arith, c.in-17.is)) c.requires.none_below.0, c.requires.none_below.2)
-
-pub fault_18-requires : goal.fault_18-requires
-fault_18-requires c = (none_fewer 18 (omega (arith, c.in-18.is)) c.requires.none_below.0, c.requires.none_below.2)
-
-pub fault_19-requires : goal.fault_19-requires
-fault_19-requires c = (none_fewer 19 (past-18 _ c.requires.none_below.1 c.in_default.in_default-own.rest) c.requires.none_below.0, c.requires.none_below.2)
 
 pub returns-in-11 : goal.returns-in-11
 unfolding fault

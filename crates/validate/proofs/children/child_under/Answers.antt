@@ -7,7 +7,7 @@ use Prim.Native.Nat.{ℕ, ◌<◌, ◌≤◌}
 use borrow.Author.Tests.{lt-ltb, le-ltb}
 use Rattle.image.specs.Record.{length_of}
 use Rattle.image.specs.Faults.{rows_under, child_under}
-use Rattle.image.proofs.Loops.{rest_none, any_more, any_found, any_done}
+use Rattle.image.proofs.Loops.{any_more, any_found, any_done}
 use Rattle.validate.proofs.children.child_under.Goals as goal
 
 module _ (s : List ℕ) (n k r : ℕ) (e : r ≡ length_of s k) where
@@ -18,9 +18,6 @@ module _ (s : List ℕ) (n k r : ℕ) (e : r ≡ length_of s k) where
   enough : n ≤ r → rows_under s n k ≡ false
   unfolding rows_under
   enough le = rw (← e, le-ltb r n le)
-
-pub loop-c-init : goal.loop-c-init
-loop-c-init c = rest_none _ _ _
 
 pub returns-then-length-rows : goal.returns-then-length-rows
 unfolding child_under

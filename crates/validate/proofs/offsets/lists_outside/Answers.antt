@@ -11,8 +11,7 @@ use Rattle.image.specs.Bytes.{number_at}
 use Rattle.image.specs.Record.{length_of, first_child, buffer_place}
 use Rattle.image.specs.Element.{element_width, element_place, element_at, size_at}
 use Rattle.image.specs.Faults.{list_outside}
-use Rattle.image.proofs.Loops.{rest_none, any_more, any_found, any_done}
-use Rattle.validate.proofs.Elements.{number_inside}
+use Rattle.image.proofs.Loops.{any_more, any_found, any_done}
 use Rattle.validate.proofs.offsets.lists_outside.Goals as goal
 
 -- view j lies outside where its offset and size, as they were read, go past the child's end
@@ -21,19 +20,10 @@ listed : (s : List ℕ) (k w offsets sizes end j : ℕ) {x y : ℕ} → w ≡ el
 unfolding list_outside element_at element_place size_at
 listed s k w offsets sizes end j width first second rows offset size = rw (zero-add, ← width, ← first, ← second, ← rows, ← offset, ← size)
 
-pub loop-j-init : goal.loop-j-init
-loop-j-init c = rest_none _ _ _
-
-pub inside-offset-requires : goal.inside-offset-requires
-inside-offset-requires c = number_inside c.args.node c.numbers-offsets.result 0 _ c.requires.offsets (c.numbers-offsets.ensures.width ∙ c.element_width-width.ensures) c.numbers-offsets.ensures.bytes c.numbers-offsets.ensures.place.value (omega (arith, c.elements-j-end.ensures.value))
-
 pub returns-then-end-offset : goal.returns-then-end-offset
 returns-then-end-offset c =
     let rows = rw (c.child.ensures.image, c.child.ensures.number, add-zero) at c.length-end.ensures.value in
     rw (← c.elements-j-end.ensures.value) (any_found _ _ _ _ c.loop-j-test.true c.loop-j.invariant (listed _ _ _ _ _ _ _ c.element_width-width.ensures c.numbers-offsets.ensures.place.value c.numbers-sizes.ensures.place.value rows (rw (c.numbers-offsets.ensures.bytes, c.numbers-offsets.ensures.width) at c.inside-offset.ensures.value) (rw (c.numbers-sizes.ensures.bytes, c.numbers-sizes.ensures.width) at c.inside-size.ensures.value) ∙ lt-ltb c.length-end.result (c.inside-offset.result + c.inside-size.result) (omega arith)))
-
-pub inside-size-requires : goal.inside-size-requires
-inside-size-requires c = number_inside c.args.node c.numbers-sizes.result 1 _ c.requires.sizes (c.numbers-sizes.ensures.width ∙ c.element_width-width.ensures) c.numbers-sizes.ensures.bytes c.numbers-sizes.ensures.place.value (omega (arith, c.elements-j-end.ensures.value))
 
 pub returns-then-end-offset-2 : goal.returns-then-end-offset-2
 returns-then-end-offset-2 c =

@@ -12,7 +12,6 @@ use Rattle.image.proofs.Loops.{rises_same}
 use Rattle.validate.specs.Numbers.{Holds, number_in}
 use Prim.Native.Nat.{ℕ, ◌+◌}
 use lib.ListN.{length}
-use native.Mathlib.Omega.{arith}
 use Rattle.validate.proofs.offsets.offsets_fall.Goals as goal
 
 module _ (s : List ℕ) (k : ℕ) {place w e : ℕ} (p : place ≡ buffer_place s k 0) (q : w ≡ element_width s k) (r : e ≡ elements_of s k) where
@@ -22,9 +21,6 @@ module _ (s : List ℕ) (k : ℕ) {place w e : ℕ} (p : place ≡ buffer_place 
 
   offsets-packed : Holds s k 0 (element_width s k) (elements_of s k + 1) → Packed (length s) place w (e + 1)
   offsets-packed h = rw (p, q, r) h
-
-pub rise-requires : goal.rise-requires
-rise-requires c = (rw c.numbers-offsets.ensures.bytes (offsets-packed _ _ c.numbers-offsets.ensures.place.value (c.numbers-offsets.ensures.width ∙ c.element_width.ensures) c.elements.ensures.value c.requires), omega arith)
 
 pub returns : goal.returns
 returns c = ap not (rw c.numbers-offsets.ensures.bytes at c.rise.ensures ∙ offsets-in _ _ c.numbers-offsets.ensures.place.value (c.numbers-offsets.ensures.width ∙ c.element_width.ensures) c.elements.ensures.value _)

@@ -5,7 +5,6 @@ use mathlib.Core.Bool.{true}
 use mathlib.Core.List.{List}
 use Rattle.image.specs.Ranges.{rises}
 use Rattle.image.specs.Bytes.{number_at}
-use Rattle.image.proofs.Numbers.{packed_fewer}
 use borrow.Author.Rules.{rules}
 use Rattle.validate.specs.Numbers.{number_in, falls}
 use Rattle.validate.proofs.Rises.{first_below, last_above, by_falls}
@@ -24,20 +23,11 @@ no_number step f top least count e = rw e refl
 pub returns-then-count-eq0 : goal.returns-then-count-eq0
 returns-then-count-eq0 c = no_number _ _ _ _ _ c.if-count-eq0.true
 
-pub inside-requires : goal.inside-requires
-inside-requires c = packed_fewer _ (omega arith) c.requires.0
-
 pub returns-then-inside-least : goal.returns-then-inside-least
 returns-then-inside-least c = first_below _ _ _ _ _ _ 0 (omega arith) (numbered _ _ _ _ c.inside.ensures.value) c.if-inside-least.true
 
-pub inside-requires-2 : goal.inside-requires-2
-inside-requires-2 c = packed_fewer _ (omega arith) c.requires.0
-
 pub returns-then-top-inside : goal.returns-then-top-inside
 returns-then-top-inside c = last_above _ _ _ _ _ _ _ (omega arith) (numbered _ _ _ _ c.inside.ensures.value) c.if-inside-least.false (numbered _ _ _ _ c.inside-2.ensures.value) c.if-top-inside.true
-
-pub any_in_blocks-requires : goal.any_in_blocks-requires
-any_in_blocks-requires c = λ k lt _ _ _ _ _ _ _. (packed_fewer _ (omega arith) c.requires.0, c.requires.1)
 
 pub returns : goal.returns
 returns c =

@@ -16,7 +16,7 @@ use Rattle.image.specs.Record.{length_of, buffer_place, elements_of}
 use Rattle.image.specs.Element.{dense_offset_at}
 use Rattle.image.specs.Faults.{dense_row_fault, dense_outside}
 use Rattle.validate.proofs.Unions.{Union, named, known, unnamed_where}
-use Rattle.image.proofs.Loops.{rest_none, any_more, any_found, any_done}
+use Rattle.image.proofs.Loops.{any_more, any_found, any_done}
 use Rattle.validate.proofs.Elements.{number_inside}
 use Rattle.validate.proofs.rows.dense_fault.Goals as goal
 
@@ -29,9 +29,6 @@ module _ {s : List ℕ} {k : ℕ} {table : List (Option ℕ)} {ids from : ℕ} (
   child-row : {c offsets rows at : ℕ} → get_or table id None ≡ Some c → offsets ≡ buffer_place s k 1 → rows ≡ length_of s c → at ≡ number_at 4 s (offsets + (from + i) * 4) → dense_row_fault s k (0 + i) ≡ leb rows at
   unfolding dense_row_fault dense_outside dense_offset_at
   child-row e p q r = rw (known u i read e, ← named u i read e, ← q, zero-add, ← u.start, ← p, ← r)
-
-pub loop-i-init : goal.loop-i-init
-loop-i-init c = rest_none _ _ _
 
 pub inside-id-requires : goal.inside-id-requires
 unfolding elements_of

@@ -12,7 +12,7 @@ use Rattle.image.specs.Reads.{Read}
 use native.Mathlib.Omega.{arith}
 use Rattle.image.specs.Record.{elements_of}
 use Rattle.image.specs.Faults.{sparse_row_fault}
-use Rattle.image.proofs.Loops.{rest_none, any_more, any_found, any_done}
+use Rattle.image.proofs.Loops.{any_more, any_found, any_done}
 use Rattle.validate.proofs.Elements.{number_inside}
 use Rattle.validate.proofs.Unions.{Union, unknown_is}
 use Rattle.validate.proofs.rows.sparse_fault.Goals as goal
@@ -21,9 +21,6 @@ module _ {s : List ℕ} {k : ℕ} {table : List (Option ℕ)} {ids from : ℕ} (
   sparse-row : {none : Bool} → is_some (get_or table id None) ≡ not none → sparse_row_fault s k (0 + i) ≡ none
   unfolding sparse_row_fault
   sparse-row e = unknown_is u i read _ refl ∙ rw e (not-not _)
-
-pub loop-i-init : goal.loop-i-init
-loop-i-init c = rest_none _ _ _
 
 pub inside-id-requires : goal.inside-id-requires
 unfolding elements_of

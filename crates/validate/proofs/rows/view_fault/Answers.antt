@@ -5,7 +5,7 @@ use Rattle.image.specs.Element.{view_length, view_buffer, view_offset, view_data
 use Rattle.image.specs.Faults.{view_fault, long_view_fault}
 use mathlib.Core.Path.{◌∙◌}
 use Rattle.validate.proofs.Padding.{padded}
-use Rattle.validate.proofs.ViewRows.{place_at, length_at, entry_inside, data_inside}
+use Rattle.validate.proofs.ViewRows.{place_at, length_at, data_inside}
 use native.Mathlib.Omega.{arith}
 use Rattle.validate.proofs.rows.view_fault.Goals as goal
 
@@ -17,24 +17,9 @@ pub returns-then-count-buffer : goal.returns-then-count-buffer
 unfolding view_fault view_length long_view_fault view_buffer
 returns-then-count-buffer c = rw (← c.load-len.ensures.value, lt-leb _ _ c.if-len-le-INLINE_LENGTH.false, ← c.requires.known.number.value, ← c.load-buffer.ensures.value, le-leb _ _ c.if-count-buffer.true)
 
-pub overflow_mul-entry : goal.overflow_mul-entry
-overflow_mul-entry c = omega (arith, c.requires.known.number.small, c.if-count-buffer.false)
-
-pub overflow_add-entry : goal.overflow_add-entry
-overflow_add-entry c = omega (arith, entry_inside c.requires.known _ c.if-count-buffer.false)
-
-pub overflow_add-entry-2 : goal.overflow_add-entry-2
-overflow_add-entry-2 c = omega (arith, entry_inside c.requires.known _ c.if-count-buffer.false)
-
-pub load-requires : goal.load-requires
-load-requires c = omega (arith, entry_inside c.requires.known _ c.if-count-buffer.false)
-
 pub returns-then-load-at : goal.returns-then-load-at
 unfolding view_fault view_length long_view_fault view_buffer view_offset view_data
 returns-then-load-at c = rw (← c.load-len.ensures.value, lt-leb _ _ c.if-len-le-INLINE_LENGTH.false, ← c.requires.known.number.value, ← c.load-buffer.ensures.value, lt-leb _ _ c.if-count-buffer.false, length_at c.requires.known _, ← c.load.ensures.value, ← c.load-at.ensures.value, lt-ltb _ _ c.if-load-at.true)
-
-pub load-requires-3 : goal.load-requires-3
-load-requires-3 c = omega (arith, entry_inside c.requires.known _ c.if-count-buffer.false)
 
 pub load-requires-4 : goal.load-requires-4
 load-requires-4 c = (omega arith, data_inside c.requires.known _ _ _ c.if-count-buffer.false c.if-len-le-INLINE_LENGTH.false c.load-3.ensures.value c.load.ensures.value c.if-load-at.false)

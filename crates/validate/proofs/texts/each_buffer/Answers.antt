@@ -1,12 +1,9 @@
 -- Where `each_buffer` says yes, every data buffer passes the test.
 -- Each buffer lies inside, and the test says of its bytes what it says of those at its place.
 use Rattle.image.proofs.Slices.{sliced}
-use Rattle.validate.proofs.TextRows.{buffer_none, buffer_more, buffer_all, told_here, data_inside}
+use Rattle.validate.proofs.TextRows.{buffer_more, buffer_all, told_here, data_inside}
 use native.Mathlib.Omega.{arith}
 use Rattle.validate.proofs.texts.each_buffer.Goals as goal
-
-pub loop-j-init : goal.loop-j-init
-loop-j-init g c = (omega arith, λ p h. buffer_none _)
 
 pub slice_bounds-test-end : goal.slice_bounds-test-end
 slice_bounds-test-end g c = data_inside c.requires.node (omega (arith, c.buffer_count-j-end.ensures.value)) c.buffer_place-place.ensures.value c.buffer_length-len.ensures.value

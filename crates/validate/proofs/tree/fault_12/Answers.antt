@@ -28,9 +28,6 @@ pub returns-then-ids_fall : goal.returns-then-ids_fall
 unfolding fault12
 returns-then-ids_fall c = let allowed = rw (c.children.ensures, c.code.ensures.value, c.child_count.ensures.value) at c.allows.ensures in let total = rw c.node_count.ensures.value at c.total_wrong.ensures in rw (← allowed, c.if-not-allows.false, ← c.first_child-first.ensures.value, ← c.requires.children.value, eq-eqb _ _ c.if-first-walk.false, lt-leb _ _ c.if-first-node.false, ← c.requires.all_children, ← total, c.if-total_wrong.false, ← c.requires.shallow, lt-leb _ _ c.if-walk-node.false, ← c.ids_fall.ensures, c.if-ids_fall.true)
 
-pub id_alone-requires : goal.id_alone-requires
-id_alone-requires c = c.requires.parent
-
 pub returns-then-id_alone : goal.returns-then-id_alone
 unfolding fault12
 returns-then-id_alone c = let allowed = rw (c.children.ensures, c.code.ensures.value, c.child_count.ensures.value) at c.allows.ensures in let total = rw c.node_count.ensures.value at c.total_wrong.ensures in rw (← allowed, c.if-not-allows.false, ← c.first_child-first.ensures.value, ← c.requires.children.value, eq-eqb _ _ c.if-first-walk.false, lt-leb _ _ c.if-first-node.false, ← c.requires.all_children, ← total, c.if-total_wrong.false, ← c.requires.shallow, lt-leb _ _ c.if-walk-node.false, ← c.ids_fall.ensures, c.if-ids_fall.false, ← c.id_alone.ensures, c.if-id_alone.true)

@@ -2,11 +2,8 @@
 -- The loop keeps what is left of the rise; each turn takes one id off, which a test has told to be in its bounds.
 use mathlib.Core.Path.{◌∙◌}
 use Rattle.image.specs.Faults.{ids_rise}
-use Rattle.image.proofs.Loops.{rising_none, rising_more, rising_below, rising_above, rising_done}
+use Rattle.image.proofs.Loops.{rising_more, rising_below, rising_above, rising_done}
 use Rattle.validate.proofs.tree.ids_rise.Goals as goal
-
-pub loop-c-init : goal.loop-c-init
-loop-c-init c = rising_none _ _ _ _ _ _
 
 pub returns-then-id-least : goal.returns-then-id-least
 unfolding ids_rise

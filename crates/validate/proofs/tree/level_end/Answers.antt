@@ -21,12 +21,5 @@ pub loop-d-init : goal.loop-d-init
 unfolding level_end
 loop-d-init c = (refl, omega arith)
 
-pub overflow_cast-end : goal.overflow_cast-end
-overflow_cast-end c = omega (arith, at_most _ _ _ c.min-end.ensures, c.requires.1)
-
 pub loop-d-preserved : goal.loop-d-preserved
 loop-d-preserved c = (level-more _ _ c.loop-d.invariant.0 c.requires.0 c.child_start.ensures.value c.min-end.ensures, omega (arith, at_most _ _ _ c.min-end.ensures, c.requires.1))
-
-pub returns : goal.returns
-returns c = let e : c.loop-d.d ≡ 16 = omega arith in
-    rw e at c.loop-d.invariant.0

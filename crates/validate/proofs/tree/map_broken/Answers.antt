@@ -5,9 +5,6 @@ use borrow.Author.Tests.{eq-eqb, ne_eqb}
 use Rattle.image.specs.Faults.{map_entries}
 use Rattle.validate.proofs.tree.map_broken.Goals as goal
 
-pub returns-then-code-ne-MAP : goal.returns-then-code-ne-MAP
-returns-then-code-ne-MAP c = rw (← c.code.ensures.value, ne_eqb _ _ c.if-code-ne-MAP.true)
-
 pub returns-then-code-ne-STRUCT : goal.returns-then-code-ne-STRUCT
 unfolding map_entries
 returns-then-code-ne-STRUCT c =

@@ -3,12 +3,9 @@
 use mathlib.Core.Path.{sym}
 use mathlib.Core.Bool.{not-not}
 use native.Mathlib.Nat.{add-zero}
-use borrow.Author.Tests.{eq-eqb, ne_eqb, le-leb, lt-leb}
+use borrow.Author.Tests.{eq-eqb, le-leb, lt-leb}
 use Rattle.image.specs.Faults.{run_ends}
 use Rattle.validate.proofs.tree.runs_broken.Goals as goal
-
-pub returns-then-code-ne-RUN_END_ENCODED : goal.returns-then-code-ne-RUN_END_ENCODED
-returns-then-code-ne-RUN_END_ENCODED c = rw (← c.code.ensures.value, ne_eqb _ _ c.if-code-ne-RUN_END_ENCODED.true)
 
 pub returns-then-c-lt-INT16 : goal.returns-then-c-lt-INT16
 unfolding run_ends

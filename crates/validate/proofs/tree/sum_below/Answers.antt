@@ -7,9 +7,6 @@ use Rattle.validate.proofs.tree.sum_below.Goals as goal
 pub loop-k-init : goal.loop-k-init
 loop-k-init g c = (omega arith, λ f h. sum_none f)
 
-pub overflow_add-sum : goal.overflow_add-sum
-overflow_add-sum g c = omega (arith, c.loop-k.invariant.0)
-
 pub loop-k-preserved : goal.loop-k-preserved
 loop-k-preserved g c = (omega (arith, c.loop-k.invariant.0), λ f h. sum_next f _ (c.loop-k.invariant.1 f h) (h _ _ c.loop-k-test.true c.count.ensures))
 

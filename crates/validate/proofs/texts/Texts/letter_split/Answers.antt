@@ -1,14 +1,11 @@
 -- `letter_split` tells whether a row's text starts with a tail.
 -- The loop keeps what is left of the test.
 use mathlib.Core.Path.{◌∙◌}
-use Rattle.image.proofs.Loops.{rest_none, any_more, any_found, any_done}
+use Rattle.image.proofs.Loops.{any_more, any_found, any_done}
 use Rattle.validate.proofs.TextRows.{small_image, offset_inside, starts_inside, start_read, split, not_split}
 use native.Mathlib.Omega.{arith}
 use Rattle.validate.proofs.texts.Texts.letter_split.Goals as goal
 use Rattle.validate.proofs.texts.Texts.letter_split.Goals.{then-start-end+else-is_tail, else-start-end}
-
-pub loop-i-init : goal.loop-i-init
-loop-i-init c = rest_none _ _ _
 
 pub inside-requires : goal.inside-requires
 inside-requires c = offset_inside c.args.self.texts c.args.self.read _ (omega (arith, c.length-i-end.ensures.value))

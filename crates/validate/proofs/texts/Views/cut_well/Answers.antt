@@ -1,7 +1,6 @@
 -- Where `cut_well` says yes and the data buffers are well-formed, the view's text is.
 -- It is a part of its buffer, and no tail stands where it begins and where it ends, unless the buffer ends there.
 use mathlib.Core.Path.{sym, ◌∙◌}
-use mathlib.Core.Bool.{false≢true}
 use borrow.Author.Tests.{not-true}
 use Rattle.validate.proofs.TextRows.{small_image, view_fits, viewed, few_buffers, buffer_inside, cut_view}
 use native.Mathlib.Omega.{arith}
@@ -16,35 +15,17 @@ overflow_add-view c = omega (arith, view_fits c.args.self.views c.args.self.read
 pub load-len-requires : goal.load-len-requires
 load-len-requires c = (omega arith, omega (arith, view_fits c.args.self.views c.args.self.read _ c.requires.row))
 
-pub returns-then-len-le-INLINE_LENGTH : goal.returns-then-len-le-INLINE_LENGTH
-returns-then-len-le-INLINE_LENGTH c = λ e formed. absurd (false≢true e)
-
 pub overflow_add-view-2 : goal.overflow_add-view-2
 overflow_add-view-2 c = omega (arith, view_fits c.args.self.views c.args.self.read _ c.requires.row, small_image c.args.self.views.text)
 
 pub load-requires : goal.load-requires
 load-requires c = (omega arith, omega (arith, view_fits c.args.self.views c.args.self.read _ c.requires.row))
 
-pub overflow_add-buffer : goal.overflow_add-buffer
-overflow_add-buffer c = omega (arith, few_buffers c.args.self.views c.args.self.read _ c.load-len.ensures.value c.requires c.if-len-le-INLINE_LENGTH.false c.load.ensures.value)
-
 pub overflow_cast-buffer : goal.overflow_cast-buffer
 overflow_cast-buffer c = omega (arith, few_buffers c.args.self.views c.args.self.read _ c.load-len.ensures.value c.requires c.if-len-le-INLINE_LENGTH.false c.load.ensures.value)
 
 pub view_bytes-start-requires : goal.view_bytes-start-requires
 view_bytes-start-requires c = viewed c.args.self.views c.args.self.read _ c.load-len.ensures.value c.requires
-
-pub bounds-node-start : goal.bounds-node-start
-bounds-node-start c = omega (arith, c.view_bytes-start.ensures.inside, c.if-len-le-INLINE_LENGTH.false)
-
-pub returns-then-is_tail : goal.returns-then-is_tail
-returns-then-is_tail c = λ e formed. absurd (false≢true e)
-
-pub overflow_add-start : goal.overflow_add-start
-overflow_add-start c = omega (arith, c.view_bytes-start.ensures.inside, small_image c.args.self.views.text)
-
-pub overflow_add-start-then-start-len : goal.overflow_add-start-then-start-len
-overflow_add-start-then-start-len c = omega (arith, c.view_bytes-start.ensures.inside, small_image c.args.self.views.text)
 
 pub bounds-node-start-then-start-len : goal.bounds-node-start-then-start-len
 bounds-node-start-then-start-len c = omega (arith, c.if-start-len.true, c.buffer_place.ensures.value, c.buffer_length.ensures.value, buffer_inside c.args.self.views c.args.self.read _ c.load-len.ensures.value c.requires c.if-len-le-INLINE_LENGTH.false c.load.ensures.value)

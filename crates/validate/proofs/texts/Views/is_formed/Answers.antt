@@ -1,17 +1,11 @@
 -- The text of the row's view is well-formed exactly where its bytes are.
 -- A view without a byte above 7F is, and one that is cut well out of a well-formed buffer; else the text's bytes are looked at.
-use mathlib.Core.Path.{ap, sym, ◌∙◌}
+use mathlib.Core.Path.{ap, ◌∙◌}
 use Rattle.image.specs.Utf8.{well_formed}
 use Rattle.image.proofs.Slices.{sliced}
 use Rattle.validate.proofs.TextRows.{small_image, view_fits, viewed, view_text}
 use native.Mathlib.Omega.{arith}
 use Rattle.validate.proofs.texts.Views.is_formed.Goals as goal
-
-pub returns-then-is_plain : goal.returns-then-is_plain
-returns-then-is_plain c = sym (c.is_plain.ensures c.if-is_plain.true)
-
-pub returns-then-cut_well : goal.returns-then-cut_well
-returns-then-cut_well c = sym (c.cut_well.ensures c.if-cut_well.true (c.args.self.found.formed c.in-Formed.is))
 
 pub overflow_mul-view : goal.overflow_mul-view
 overflow_mul-view c = omega (arith, view_fits c.args.self.views c.args.self.read _ c.requires.row, small_image c.args.self.views.text)
@@ -24,12 +18,6 @@ load-len-requires c = (omega arith, omega (arith, view_fits c.args.self.views c.
 
 pub view_bytes-start-requires : goal.view_bytes-start-requires
 view_bytes-start-requires c = viewed c.args.self.views c.args.self.read _ c.load-len.ensures.value c.requires
-
-pub overflow_add-start : goal.overflow_add-start
-overflow_add-start c = omega (arith, c.view_bytes-start.ensures.inside, small_image c.args.self.views.text)
-
-pub slice_bounds-is_utf8-end : goal.slice_bounds-is_utf8-end
-slice_bounds-is_utf8-end c = c.view_bytes-start.ensures.inside
 
 pub returns : goal.returns
 returns c = c.is_utf8.ensures ∙ ap well_formed (sliced _ _ _ c.view_bytes-start.ensures.inside ∙ view_text c.args.self.views c.args.self.read _ c.load-len.ensures.value c.view_bytes-start.ensures)
