@@ -8,6 +8,7 @@ use image::record::Node;
 const LONGEST_NAME: usize = 64;
 
 // A part of an image, by its place and length, does not lie inside it.
+// Kept: a place and a length: what may lie outside is no slice.
 pub fn is_outside(image: &[u8], place: usize, len: usize) -> bool
     requires { (place < 2 ^ 32) × (len < 2 ^ 32) }
     ensures { result ≡ outside image.now place len }
