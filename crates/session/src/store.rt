@@ -6,6 +6,7 @@ use crate::sizes::STORE;
 use api::{check, write};
 use image::answer::Side;
 
+// Kept: an array of its own, as the documents have it; `Line` says why the two are not one struct.
 #[derive(Drop)]
 pub struct Store {
     bytes: [u8; STORE],

@@ -20,10 +20,10 @@ pub loop-left-init : goal.loop-left-init
 loop-left-init c = read_chunk _ _ c.loop.invariant
 
 pub slice_bounds-left-count : goal.slice_bounds-left-count
-slice_bounds-left-count c = turned_within _ _ _ _ _ _ c.turn-taken.ensures
+slice_bounds-left-count c = omega (arith, turned_within _ _ _ _ _ _ c.turn-taken.ensures)
 
 pub slice_bounds-left-start : goal.slice_bounds-left-start
-slice_bounds-left-start c = turned_within _ _ _ _ _ _ c.turn-taken.ensures
+slice_bounds-left-start c = omega (arith, turned_within _ _ _ _ _ _ c.turn-taken.ensures)
 
 pub loop-left-smaller : goal.loop-left-smaller
 loop-left-smaller c =

@@ -2,7 +2,6 @@
 -- The loop keeps that they are those in the frame so far, with what is found from the place on.
 use mathlib.Core.Path.{refl, sym, ◌∙◌}
 use Rattle.session.proofs.Lines.{decoded_none, decoded_bad, decoded_full, decoded_more, decoded_nothing, decoded_bytes, none_decoded, rest_short, rest_high, rest_low, digit_found, no_digit}
-use native.Mathlib.Omega.{arith}
 use borrow.Author.Rules.{rules}
 use Rattle.session.proofs.line.decode.Goals as goal
 
@@ -25,21 +24,6 @@ returns-then-n-eq-LONGEST_FRAME c =
     let high = digit_found _ _ (sym c.digit.ensures ∙ c.in_ok-high.was) in
     let low = digit_found _ _ (sym c.digit-in-loop-at.ensures ∙ c.in_ok-low.was) in
     none_decoded _ (decoded_full _ _ _ _ c.loop-at.invariant _ _ (record { more = c.if-line-at-lt2.false; first = high.0; second = low.0; high_small = high.1; low_small = low.1 }) c.if-n-eq-LONGEST_FRAME.true)
-
-pub overflow_mul-bytes : goal.overflow_mul-bytes
-overflow_mul-bytes c = record { fits = omega (arith, (digit_found _ _ (sym c.digit.ensures ∙ c.in_ok-high.was)).1) }
-
-pub overflow_add-bytes : goal.overflow_add-bytes
-overflow_add-bytes c = record { fits = omega (arith, (digit_found _ _ (sym c.digit.ensures ∙ c.in_ok-high.was)).1, (digit_found _ _ (sym c.digit-in-loop-at.ensures ∙ c.in_ok-low.was)).1) }
-
-pub bounds-bytes-n : goal.bounds-bytes-n
-bounds-bytes-n c = omega (arith, c.loop-at.invariant.few, c.loop-at.invariant.sized, c.if-n-eq-LONGEST_FRAME.false)
-
-pub overflow_add-n : goal.overflow_add-n
-overflow_add-n c = record { fits = omega (arith, c.loop-at.invariant.few) }
-
-pub loop-at-smaller : goal.loop-at-smaller
-loop-at-smaller c = omega (arith, c.after_byte-at.ensures.from)
 
 pub loop-at-preserved : goal.loop-at-preserved
 loop-at-preserved c =

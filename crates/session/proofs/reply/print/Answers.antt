@@ -9,17 +9,8 @@ use Rattle.session.proofs.reply.print.Goals as goal
 pub loop-k-init : goal.loop-k-init
 loop-k-init c = printed_none _ _
 
-pub bounds-text-k : goal.bounds-text-k
-bounds-text-k c = omega (arith, c.requires)
-
-pub bounds-text-k-in-loop-k : goal.bounds-text-k-in-loop-k
-bounds-text-k-in-loop-k c = omega (arith, c.requires)
-
 pub loop-k-preserved : goal.loop-k-preserved
 loop-k-preserved c = printed_more _ _ _ _ c.loop-k.invariant _ _ c.loop-k-test.true (omega (arith, c.requires)) c.digit_text.ensures c.digit_text-in-loop-k.ensures
-
-pub bounds-text-n : goal.bounds-text-n
-bounds-text-n c = omega (arith, c.requires)
 
 pub returns : goal.returns
 returns c =
