@@ -1,21 +1,9 @@
 -- `build` answers what the rows are, and puts their image where it fits.
 -- The string is no rows, or the plan answers; the image is then laid out as rows make it.
-use mathlib.Core.Path.{sym, refl, ◌∙◌}
-use Rattle.builder.proofs.Tables.{build_not_rows, build_too_long, build_laid, build_bytes}
+use mathlib.Core.Path.{sym, ◌∙◌}
+use Rattle.builder.proofs.Tables.{build_too_long, build_laid, build_bytes}
 use native.Mathlib.Omega.{arith}
 use Rattle.builder.proofs.build.Goals as goal
-
-pub is_rows-requires : goal.is_rows-requires
-is_rows-requires c = record { accepted = c.requires; spans = refl }
-
-pub returns-then-not-is_rows : goal.returns-then-not-is_rows
-returns-then-not-is_rows c = let both = build_not_rows _ _ _ _ (sym c.is_rows.ensures.value ∙ c.if-not-is_rows.true) in record { value = both.0; out_after = both.1 }
-
-pub give_lengths-requires : goal.give_lengths-requires
-give_lengths-requires c = c.requires.0
-
-pub give_places-requires : goal.give_places-requires
-give_places-requires c = c.requires.0
 
 pub returns-in_default : goal.returns-in_default
 returns-in_default c = let both = build_too_long _ _ _ _ c.requires (λ k. omega (arith, c.shared_slice_known-2-1.given k)) (sym c.is_rows.ensures.value ∙ c.if-not-is_rows.false) c.is_rows.ensures.spanned c.give_lengths.ensures.lengths (sym c.in_default.is ∙ (rw c.give_lengths.ensures.spans at c.give_places.ensures.places.answer)) in record { value = both.0; out_after = both.1 }

@@ -7,12 +7,6 @@ use Rattle.builder.proofs.put_table.Goals as goal
 pub put_front-parts-requires : goal.put_front-parts-requires
 put_front-parts-requires c = record { accepted = (c.requires.accepted, c.requires.coded); rise = laid_rise c.requires; fits = laid_front c.requires }
 
-pub slice_bounds-fill-end : goal.slice_bounds-fill-end
-slice_bounds-fill-end c = (laid_clear c.requires (c.put_front-parts.ensures.value, c.put_front-parts.ensures.out_after)).1
-
-pub slice_bounds-fill-start : goal.slice_bounds-fill-start
-slice_bounds-fill-start c = (laid_clear c.requires (c.put_front-parts.ensures.value, c.put_front-parts.ensures.out_after)).0
-
 pub fill-requires-2 : goal.fill-requires-2
 fill-requires-2 c = laid_fill c.requires (c.put_front-parts.ensures.value, c.put_front-parts.ensures.out_after) (zeros_over _ _ _ (laid_clear c.requires (c.put_front-parts.ensures.value, c.put_front-parts.ensures.out_after)) (c.fill.ensures.after (λ y e. e)))
 

@@ -6,18 +6,9 @@ use Rattle.builder.specs.Front.{entries_from}
 use native.Mathlib.Omega.{arith}
 use Rattle.builder.proofs.front.put_entries.Goals as goal
 
-pub overflow_mul-first : goal.overflow_mul-first
-overflow_mul-first c = omega (arith, c.requires.rise.1, c.requires.rise.2)
-
-pub overflow_add-first : goal.overflow_add-first
-overflow_add-first c = omega (arith, c.requires.rise.1, c.requires.rise.2)
-
 pub loop-j-init : goal.loop-j-init
 unfolding entries_from
 loop-j-init c = (refl, pieces_start _ _ _ c.requires.fits)
-
-pub overflow_add-first-in-loop-j : goal.overflow_add-first-in-loop-j
-overflow_add-first-in-loop-j c = omega (arith, c.requires.rise.1, c.requires.rise.2, c.loop-j-test.true, c.buffer_count-n.ensures.small)
 
 pub put_entry-requires : goal.put_entry-requires
 put_entry-requires c = record { rise = (c.requires.rise.0, omega (arith, c.requires.rise.1, c.requires.node_bound, c.loop-j-test.true, c.buffer_count-n.ensures.value), omega (arith, c.requires.rise.1, c.requires.rise.2, c.requires.node_bound, c.loop-j-test.true, c.buffer_count-n.ensures.value)); fits = pieces_fit c.loop-j.invariant.1 (omega (arith, c.loop-j-test.true, c.buffer_count-n.ensures.value)) }

@@ -10,17 +10,8 @@ use Rattle.builder.proofs.Fronts.{entry_length}
 use native.Mathlib.Omega.{arith}
 use Rattle.builder.proofs.front.put_entry.Goals as goal
 
-pub offset_bounds-plan-q : goal.offset_bounds-plan-q
-offset_bounds-plan-q c = omega (arith, c.requires.rise.2)
-
-pub bounds-plan-q : goal.bounds-plan-q
-bounds-plan-q c = omega (arith, c.requires.rise.2)
-
 pub put_number-requires : goal.put_number-requires
 put_number-requires c = omega (arith, fits_sized (entry_length _ _) c.requires.fits)
-
-pub length_from-requires : goal.length_from-requires
-length_from-requires c = c.requires.rise
 
 pub put_number-requires-2 : goal.put_number-requires-2
 put_number-requires-2 c = omega (arith, fits_sized (entry_length _ _) c.requires.fits, number_at _ _ c.put_number.ensures)

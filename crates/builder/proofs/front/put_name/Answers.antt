@@ -10,12 +10,6 @@ use Rattle.builder.proofs.front.put_name.Goals as goal
 pub returns-then-n-eq0 : goal.returns-then-n-eq0
 returns-then-n-eq0 c = let both = name_none _ _ c.requires.fits c.name_length-n.ensures.value c.if-n-eq0.true in record { lent = refl; long = refl; at = both.0; bytes = both.1 }
 
-pub overflow_add-place : goal.overflow_add-place
-overflow_add-place c = omega (arith, c.name_length-n.ensures.small, c.name_place-place.ensures.small)
-
-pub slice_bounds-put_bytes-end : goal.slice_bounds-put_bytes-end
-slice_bounds-put_bytes-end c = omega (arith, c.requires.named.inside (omega (arith, c.if-n-eq0.false, c.name_length-n.ensures.value)), c.name_length-n.ensures.value, c.name_place-place.ensures.value)
-
 pub put_bytes-requires : goal.put_bytes-requires
 put_bytes-requires c = rw (sliced c.args.node.image.now c.name_place-place.result c.name_length-n.result (omega (arith, c.requires.named.inside (omega (arith, c.if-n-eq0.false, c.name_length-n.ensures.value)), c.name_length-n.ensures.value, c.name_place-place.ensures.value)), bytes_length) (name_fits _ _ c.requires.fits c.name_length-n.ensures.value)
 

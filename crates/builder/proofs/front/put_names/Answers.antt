@@ -1,14 +1,11 @@
 -- `put_names` puts the names of all nodes.
 -- The loop keeps the names that are still to be put.
-use mathlib.Core.Path.{refl, ◌∙◌}
+use mathlib.Core.Path.{◌∙◌}
 use Rattle.laws.proofs.Accepted.{accepted}
-use Rattle.rows.proofs.Over.{pieces_start, pieces_place, pieces_done}
+use Rattle.rows.proofs.Over.{pieces_place, pieces_done}
 use Rattle.builder.proofs.Fields.{piece_fits, piece_put}
 use native.Mathlib.Omega.{arith}
 use Rattle.builder.proofs.front.put_names.Goals as goal
-
-pub loop-k-init : goal.loop-k-init
-loop-k-init c = (refl, pieces_start _ _ _ c.requires.fits)
 
 pub put_name-requires : goal.put_name-requires
 put_name-requires c = record { named = ((accepted _ c.requires.accepted).node c.loop-k.k (omega (arith, c.loop-k-test.true, c.node_count-n.ensures.value))).named; fits = piece_fits c.loop-k.invariant.1 (omega (arith, c.loop-k-test.true, c.node_count-n.ensures.value)) }

@@ -13,9 +13,6 @@ loop-k-init c = (refl, (pieces_start _ _ _ c.requires.fits, names_start _ c.requ
 pub put_record-requires : goal.put_record-requires
 put_record-requires c = record { node_from = record { node = omega (arith, c.loop-k-test.true, c.node_count-n.ensures.value); few = c.requires.tables.few_nodes; risen = c.requires.rise }; name = c.loop-k.invariant.1.1.start; fits = piece_fits c.loop-k.invariant.1.0 (omega (arith, c.loop-k-test.true, c.node_count-n.ensures.value)) }
 
-pub overflow_add-name : goal.overflow_add-name
-overflow_add-name c = omega (arith, c.loop-k.invariant.1.1.near, c.loop-k-test.true, c.node_count-n.ensures.small, c.name_length-name.ensures.small)
-
 pub loop-k-preserved : goal.loop-k-preserved
 loop-k-preserved c = (c.put_record.ensures.lent ∙ c.loop-k.invariant.0, (piece_put c.loop-k.invariant.1.0 (omega (arith, c.loop-k-test.true, c.node_count-n.ensures.value)) (c.put_record.ensures.at, c.put_record.ensures.bytes), names_more c.loop-k.invariant.1.1 c.name_length-name.ensures))
 

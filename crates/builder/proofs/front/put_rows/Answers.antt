@@ -10,35 +10,17 @@ use Rattle.builder.proofs.Fronts.{row_length}
 use native.Mathlib.Omega.{arith}
 use Rattle.builder.proofs.front.put_rows.Goals as goal
 
-pub offset_bounds-plan-k : goal.offset_bounds-plan-k
-offset_bounds-plan-k c = omega (arith, c.requires.node_from.node, c.requires.node_from.few)
-
-pub bounds-plan-k : goal.bounds-plan-k
-bounds-plan-k c = omega (arith, c.requires.node_from.node, c.requires.node_from.few)
-
 pub put_number-requires : goal.put_number-requires
 put_number-requires c = omega (arith, fits_sized (row_length _ _ _ _) c.requires.fits)
 
 pub put_number-requires-2 : goal.put_number-requires-2
 put_number-requires-2 c = omega (arith, fits_sized (row_length _ _ _ _) c.requires.fits, number_at _ _ c.put_number.ensures)
 
-pub built_name-requires : goal.built_name-requires
-built_name-requires c = c.requires.name
-
 pub put_number-requires-3 : goal.put_number-requires-3
 put_number-requires-3 c = omega (arith, fits_sized (row_length _ _ _ _) c.requires.fits, number_at _ _ c.put_number.ensures, number_at _ _ c.put_number-2.ensures)
 
-pub bitmap_from-requires : goal.bitmap_from-requires
-bitmap_from-requires c = omega (arith, c.requires.node_from.node, c.requires.node_from.few)
-
 pub put_number-requires-4 : goal.put_number-requires-4
 put_number-requires-4 c = omega (arith, fits_sized (row_length _ _ _ _) c.requires.fits, number_at _ _ c.put_number.ensures, number_at _ _ c.put_number-2.ensures, number_at _ _ c.put_number-3.ensures)
-
-pub overflow_mul-k : goal.overflow_mul-k
-overflow_mul-k c = omega (arith, c.requires.node_from.node, c.requires.node_from.few)
-
-pub length_from-requires : goal.length_from-requires
-length_from-requires c = (c.requires.node_from.risen, omega (arith, c.requires.node_from.node), omega (arith, c.requires.node_from.node, c.requires.node_from.few))
 
 pub put_number-requires-5 : goal.put_number-requires-5
 put_number-requires-5 c = omega (arith, fits_sized (row_length _ _ _ _) c.requires.fits, number_at _ _ c.put_number.ensures, number_at _ _ c.put_number-2.ensures, number_at _ _ c.put_number-3.ensures, number_at _ _ c.put_number-4.ensures)

@@ -1,17 +1,10 @@
 -- `names_end` answers where the names end.
 -- The loop keeps where the name of node k would stand, and that it is near.
-use Rattle.builder.proofs.Planning.{names_start, names_more, names_done}
-use native.Mathlib.Omega.{arith}
+use Rattle.builder.proofs.Planning.{names_start, names_more}
 use Rattle.builder.proofs.plan.names_end.Goals as goal
 
 pub loop-k-init : goal.loop-k-init
 loop-k-init c = names_start _ c.requires c.tables_end-end.ensures.value
 
-pub overflow_add-end : goal.overflow_add-end
-overflow_add-end c = omega (arith, c.loop-k.invariant.near, c.name_length-end.ensures.small)
-
 pub loop-k-preserved : goal.loop-k-preserved
 loop-k-preserved c = names_more c.loop-k.invariant c.name_length-end.ensures
-
-pub returns : goal.returns
-returns c = names_done c.loop-k.invariant c.requires c.node_count-k-end.ensures.value c.loop-k.auto.k-end c.loop-k-test.false

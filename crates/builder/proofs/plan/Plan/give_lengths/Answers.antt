@@ -1,13 +1,9 @@
 -- `Plan::give_lengths` gives the length of each node.
 -- The loop keeps the lengths of the children of the nodes before node k.
-use mathlib.Core.Path.{refl}
 use Rattle.laws.proofs.Accepted.{accepted}
-use Rattle.builder.proofs.Children.{lengths_start, children_fit, filled_by, lengths_more, lengths_done}
+use Rattle.builder.proofs.Children.{children_fit, filled_by, lengths_more}
 use native.Mathlib.Omega.{arith}
 use Rattle.builder.proofs.plan.Plan.give_lengths.Goals as goal
-
-pub loop-k-init : goal.loop-k-init
-loop-k-init c = (refl, refl, lengths_start _ _ _ _ (omega (arith, c.well_formed)))
 
 pub child_rows-rows-requires : goal.child_rows-rows-requires
 child_rows-rows-requires c = omega (arith, c.loop-k-test.true, c.node_count-k-end.ensures.value, (accepted _ c.requires).tables.few_nodes)
@@ -17,6 +13,3 @@ slice_bounds-fill-end c = (children_fit (accepted _ c.requires) _ (omega (arith,
 
 pub loop-k-preserved : goal.loop-k-preserved
 loop-k-preserved c = (c.loop-k.invariant.0, c.loop-k.invariant.1, lengths_more (accepted _ c.requires) _ (omega (arith, c.loop-k-test.true, c.node_count-k-end.ensures.value)) c.loop-k.invariant.2 c.first_child-first.ensures.value c.child_count.ensures.value (rw c.loop-k.invariant.0 at c.child_rows-rows.ensures) (filled_by (children_fit (accepted _ c.requires) _ (omega (arith, c.loop-k-test.true, c.node_count-k-end.ensures.value)) c.first_child-first.ensures.value c.child_count.ensures.value (omega (arith, c.well_formed))) (c.fill.ensures.after (λ y e. e))))
-
-pub returns : goal.returns
-returns c = record { spans = c.loop-k.invariant.0; places = c.loop-k.invariant.1; lengths = lengths_done c.loop-k.invariant.2 c.node_count-k-end.ensures.value c.loop-k.auto.k-end c.loop-k-test.false }

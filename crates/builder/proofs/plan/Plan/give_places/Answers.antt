@@ -21,14 +21,8 @@ loop-q-init c = (refl, refl, planning_start _ _ _ _ _ (omega (arith, c.well_form
 pub part_size-size-requires : goal.part_size-size-requires
 part_size-size-requires c = record { accepted = (accepted _ c.requires, (omega (arith, c.loop-q-test.true, c.node_count.ensures.value))); q_bound = rw c.loop-q.invariant.0 (few_rows _ _ (sym c.too_many.ensures ∙ c.if-too_many.false) _ (omega (arith, c.loop-q-test.true, c.node_count.ensures.value))) }
 
-pub overflow_sub-place : goal.overflow_sub-place
-overflow_sub-place c = omega (arith, c.loop-q.invariant.2.short)
-
 pub returns-then-size-place : goal.returns-then-size-place
 returns-then-size-place c = record { lengths = c.loop-q.invariant.0; spans = c.loop-q.invariant.1; places = planning_long c.loop-q.invariant.2 (omega (arith, c.loop-q-test.true, c.node_count.ensures.value)) (rw (c.loop-q.invariant.0, c.loop-q.invariant.1) at c.part_size-size.ensures) c.if-size-place.true }
-
-pub overflow_add-place : goal.overflow_add-place
-overflow_add-place c = omega (arith, c.loop-q.invariant.2.short, c.if-size-place.false)
 
 pub bounds-self-q : goal.bounds-self-q
 bounds-self-q c = omega (arith, c.loop-q-test.true, c.node_count.ensures.value, (accepted _ c.requires).tables.few_nodes)
