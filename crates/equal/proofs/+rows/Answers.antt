@@ -54,7 +54,7 @@ use Rattle.accepted.proofs.RunEnds.{run_first, end_nth, end_is}
 use Rattle.equal.proofs.Structs.{columns_start, struct_requires, columns_more_left, columns_fail, columns_done}
 use Rattle.equal.proofs.Unions.{sparse_differs, sparse_never, sparse_child, sparse_row_lem, sparse_inside, whole_children, dense_differs, dense_never, dense_child, dense_row_lem}
 use Rattle.equal.proofs.+rows.Goals as goal
-use Rattle.equal.proofs.+rows.Goals.{dictionary::long_equal-then-kept-place+else-not-equal_row, dictionary::long_equal-else-kept-place}
+use Rattle.equal.proofs.+rows.Goals.{dictionary::long_equal-then-ne+else-not-equal_row, dictionary::long_equal-else-ne}
 
 pub equal_range-returns-then-depth-eq0 : goal.equal_range-returns-then-depth-eq0
 equal_range-returns-then-depth-eq0 t c = range_none _ _ _ _ _ _ _ _ c.if-depth-eq0.true
@@ -373,22 +373,19 @@ dictionary::long_equal-overflow_mul-keys t c = omega (arith, key_small c.require
 pub dictionary::long_equal-overflow_add-keys : goal.dictionary::long_equal-overflow_add-keys
 dictionary::long_equal-overflow_add-keys t c = omega (arith, key_small c.requires.parts c.requires.layout c.loop-row.row c.loop-row-test.true (add-zero _) (add-zero _) (element_from c.args.pair.left c.numbers-left.result _ (c.numbers-left.ensures.width ∙ c.element_width-width.ensures) c.numbers-left.ensures.bytes c.numbers-left.ensures.place c.at-x.ensures) (element_from c.args.pair.right c.numbers-right.result _ (c.numbers-right.ensures.width ∙ (c.element_width-width.ensures ∙ widths_same c.requires.parts)) c.numbers-right.ensures.bytes c.numbers-right.ensures.place c.at-y.ensures))
 
-pub dictionary::long_equal-overflow_add-keys-in-loop-row : goal.dictionary::long_equal-overflow_add-keys-in-loop-row
-dictionary::long_equal-overflow_add-keys-in-loop-row t c = omega (arith, key_small c.requires.parts c.requires.layout c.loop-row.row c.loop-row-test.true (add-zero _) (add-zero _) (element_from c.args.pair.left c.numbers-left.result _ (c.numbers-left.ensures.width ∙ c.element_width-width.ensures) c.numbers-left.ensures.bytes c.numbers-left.ensures.place c.at-x.ensures) (element_from c.args.pair.right c.numbers-right.result _ (c.numbers-right.ensures.width ∙ (c.element_width-width.ensures ∙ widths_same c.requires.parts)) c.numbers-right.ensures.bytes c.numbers-right.ensures.place c.at-y.ensures))
-
 pub dictionary::long_equal-returns : goal.dictionary::long_equal-returns
 dictionary::long_equal-returns t c = rows_done c.loop-row.invariant.1 c.loop-row-test.false
 
 pub dictionary::long_equal-loop-row-preserved : goal.dictionary::long_equal-loop-row-preserved
 dictionary::long_equal-loop-row-preserved t c =
-    elim c.if-kept-place.branch [
-      | dictionary::long_equal-then-kept-place+else-not-equal_row w ↦
+    elim c.if-ne.branch [
+      | dictionary::long_equal-then-ne+else-not-equal_row w ↦
           let same = rw c.child-child.ensures.same at w.equal_row.ensures in
           rw w.kept-is
           (kept_more c.loop-row.invariant.0 _ _ (omega (arith, key_small c.requires.parts c.requires.layout c.loop-row.row c.loop-row-test.true (add-zero _) (add-zero _) (element_from c.args.pair.left c.numbers-left.result _ (c.numbers-left.ensures.width ∙ c.element_width-width.ensures) c.numbers-left.ensures.bytes c.numbers-left.ensures.place c.at-x.ensures) (element_from c.args.pair.right c.numbers-right.result _ (c.numbers-right.ensures.width ∙ (c.element_width-width.ensures ∙ widths_same c.requires.parts)) c.numbers-right.ensures.bytes c.numbers-right.ensures.place c.at-y.ensures))) (sym (one_row _ _ _ _) ∙ sym same ∙ w.if-not-equal_row.false), rows_more c.loop-row.invariant.1 c.loop-row-test.true (sym (key_answer c.requires.parts c.requires.layout c.loop-row.row c.loop-row-test.true (add-zero _) (add-zero _) (element_from c.args.pair.left c.numbers-left.result _ (c.numbers-left.ensures.width ∙ c.element_width-width.ensures) c.numbers-left.ensures.bytes c.numbers-left.ensures.place c.at-x.ensures) (element_from c.args.pair.right c.numbers-right.result _ (c.numbers-right.ensures.width ∙ (c.element_width-width.ensures ∙ widths_same c.requires.parts)) c.numbers-right.ensures.bytes c.numbers-right.ensures.place c.at-y.ensures)) ∙ sym same ∙ w.if-not-equal_row.false))
-      | dictionary::long_equal-else-kept-place w ↦
+      | dictionary::long_equal-else-ne w ↦
           rw w.kept-is
-          (c.loop-row.invariant.0, rows_more c.loop-row.invariant.1 c.loop-row-test.true (sym (key_same c.requires.parts c.requires.layout c.loop-row.row c.loop-row-test.true (add-zero _) (add-zero _) (element_from c.args.pair.left c.numbers-left.result _ (c.numbers-left.ensures.width ∙ c.element_width-width.ensures) c.numbers-left.ensures.bytes c.numbers-left.ensures.place c.at-x.ensures) (element_from c.args.pair.right c.numbers-right.result _ (c.numbers-right.ensures.width ∙ (c.element_width-width.ensures ∙ widths_same c.requires.parts)) c.numbers-right.ensures.bytes c.numbers-right.ensures.place c.at-y.ensures)) ∙ kept_equal c.loop-row.invariant.0 _ _ (omega (arith, key_small c.requires.parts c.requires.layout c.loop-row.row c.loop-row-test.true (add-zero _) (add-zero _) (element_from c.args.pair.left c.numbers-left.result _ (c.numbers-left.ensures.width ∙ c.element_width-width.ensures) c.numbers-left.ensures.bytes c.numbers-left.ensures.place c.at-x.ensures) (element_from c.args.pair.right c.numbers-right.result _ (c.numbers-right.ensures.width ∙ (c.element_width-width.ensures ∙ widths_same c.requires.parts)) c.numbers-right.ensures.bytes c.numbers-right.ensures.place c.at-y.ensures))) w.if-kept-place.false))
+          (c.loop-row.invariant.0, rows_more c.loop-row.invariant.1 c.loop-row-test.true (sym (key_same c.requires.parts c.requires.layout c.loop-row.row c.loop-row-test.true (add-zero _) (add-zero _) (element_from c.args.pair.left c.numbers-left.result _ (c.numbers-left.ensures.width ∙ c.element_width-width.ensures) c.numbers-left.ensures.bytes c.numbers-left.ensures.place c.at-x.ensures) (element_from c.args.pair.right c.numbers-right.result _ (c.numbers-right.ensures.width ∙ (c.element_width-width.ensures ∙ widths_same c.requires.parts)) c.numbers-right.ensures.bytes c.numbers-right.ensures.place c.at-y.ensures)) ∙ kept_equal c.loop-row.invariant.0 _ _ (omega (arith, key_small c.requires.parts c.requires.layout c.loop-row.row c.loop-row-test.true (add-zero _) (add-zero _) (element_from c.args.pair.left c.numbers-left.result _ (c.numbers-left.ensures.width ∙ c.element_width-width.ensures) c.numbers-left.ensures.bytes c.numbers-left.ensures.place c.at-x.ensures) (element_from c.args.pair.right c.numbers-right.result _ (c.numbers-right.ensures.width ∙ (c.element_width-width.ensures ∙ widths_same c.requires.parts)) c.numbers-right.ensures.bytes c.numbers-right.ensures.place c.at-y.ensures))) c.ne.ensures w.if-ne.false))
     ]
 
 pub fixed_list::equal-overflow_mul-items : goal.fixed_list::equal-overflow_mul-items
