@@ -16,37 +16,37 @@ const KEPT: usize = 1024;
 // A long range: a pair of keys whose values are equal is kept, as one number, at the place that its left key gives, and is
 // not compared again while it stands there.
 #[cycle(rows)]
-fn long_equal(pair: Pair, rows: Rows, depth: usize) -> bool
-    requires { PartsIn Dictionary pair rows depth }
-    ensures { result ≡ equal_rows (nested dictionary_row depth) pair.entry rows }
+fn long_equal(pair: &Pair, rows: Rows, depth: usize) -> bool
+    requires { PartsIn Dictionary pair.now rows depth }
+    ensures { result ≡ equal_rows (nested dictionary_row depth) pair.now rows }
 {
     let width = pair.left.element_width();
     let left = pair.left.numbers(0, width);
     let right = pair.right.numbers(0, width);
     let child = pair.child(0);
     let leaves = leaves_of(child);
-    let mut kept = [0usize; 1024];
+    let mut kept = [None; KEPT];
     for row in 0..rows.count {
         let x = left.at(rows.left + row);
         let y = right.at(rows.right + row);
-        let keys = x * 4294967296 + y + 1;
+        let keys = x * 4294967296 + y;
         let place = x % KEPT;
-        if kept[place] != keys {
-            if !equal_row(child, leaves, x, y, depth) {
+        if kept[place] != Some(keys) {
+            if !equal_row(&child, leaves, x, y, depth) {
                 return false;
             }
-            kept[place] = keys;
+            kept[place] = Some(keys);
         }
     }
     true
 }
 
 // Dictionaries without null keys: the values that the keys name, row by row. A short range has no table, which would take
-// longer to fill with zeros than the rows take.
+// longer to fill than the rows take.
 #[cycle(rows)]
-pub fn equal(pair: Pair, rows: Rows, depth: usize) -> bool
-    requires { PartsIn Dictionary pair rows depth }
-    ensures { result ≡ equal_rows (nested dictionary_row depth) pair.entry rows }
+pub fn equal(pair: &Pair, rows: Rows, depth: usize) -> bool
+    requires { PartsIn Dictionary pair.now rows depth }
+    ensures { result ≡ equal_rows (nested dictionary_row depth) pair.now rows }
 {
     if LONG <= rows.count {
         return long_equal(pair, rows, depth);
@@ -59,7 +59,7 @@ pub fn equal(pair: Pair, rows: Rows, depth: usize) -> bool
     for k in 0..rows.count {
         let x = left.at(rows.left + k);
         let y = right.at(rows.right + k);
-        if !equal_row(child, leaves, x, y, depth) {
+        if !equal_row(&child, leaves, x, y, depth) {
             return false;
         }
     }

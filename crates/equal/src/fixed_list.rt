@@ -9,9 +9,9 @@ use values::pair::{Pair, Rows};
 
 // Fixed-size lists without nulls: all their child rows as one range.
 #[cycle(rows)]
-pub fn equal(pair: Pair, rows: Rows, depth: usize) -> bool
-    requires { PartsIn FixedList pair rows depth }
-    ensures { result ≡ equal_rows (nested fixed_list_row depth) pair.entry rows }
+pub fn equal(pair: &Pair, rows: Rows, depth: usize) -> bool
+    requires { PartsIn FixedList pair.now rows depth }
+    ensures { result ≡ equal_rows (nested fixed_list_row depth) pair.now rows }
 {
     let size = pair.left.p1();
     let items = Rows {
@@ -19,5 +19,5 @@ pub fn equal(pair: Pair, rows: Rows, depth: usize) -> bool
         right: rows.right * size,
         count: rows.count * size,
     };
-    equal_range(pair.child(0), items, depth)
+    equal_range(&pair.child(0), items, depth)
 }

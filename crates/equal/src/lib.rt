@@ -31,17 +31,17 @@ use values::variable_size::variable_sized_equal;
 
 // The elements of two ranges are equal, none of them null: the rule of their layout.
 #[cycle(rows)]
-fn equal_values(pair: Pair, rows: Rows, depth: usize) -> bool
-    requires { PartsOf pair rows depth }
-    ensures { result ≡ equal_rows (values_at depth) pair.entry rows }
+fn equal_values(pair: &Pair, rows: Rows, depth: usize) -> bool
+    requires { PartsOf pair.now rows depth }
+    ensures { result ≡ equal_rows (values_at depth) pair.now rows }
 {
     let layout = TypeCode::layout(pair.left.code());
     match layout {
         Layout::Null => null_equal(),
-        Layout::Boolean => boolean_equal(pair, rows),
-        Layout::FixedWidth => primitive_equal(pair, rows),
-        Layout::VariableSize => variable_sized_equal(pair, rows),
-        Layout::View => byte_view_equal(pair, rows),
+        Layout::Boolean => boolean_equal(*pair, rows),
+        Layout::FixedWidth => primitive_equal(*pair, rows),
+        Layout::VariableSize => variable_sized_equal(*pair, rows),
+        Layout::View => byte_view_equal(*pair, rows),
         Layout::List => list::equal(pair, rows, depth),
         Layout::ListView => list_view::equal(pair, rows, depth),
         Layout::FixedList => fixed_list::equal(pair, rows, depth),
@@ -56,18 +56,18 @@ fn equal_values(pair: Pair, rows: Rows, depth: usize) -> bool
 // Two ranges of rows are equal, some of them null, where the null masks agree: rows that are not null are compared as far
 // as they follow each other, and null rows are passed over.
 #[cycle(rows)]
-fn equal_valid(pair: Pair, rows: Rows, depth: usize) -> bool
-    requires sides { SidesOf pair rows (suc depth) }
-    requires masks { same_masks pair rows ≡ true }
-    ensures { result ≡ equal_rows (row_at (suc depth)) pair.entry rows }
+fn equal_valid(pair: &Pair, rows: Rows, depth: usize) -> bool
+    requires sides { SidesOf pair.now rows (suc depth) }
+    requires masks { same_masks pair.now rows ≡ true }
+    ensures { result ≡ equal_rows (row_at (suc depth)) pair.now rows }
 {
     let n = rows.count;
     let layout = TypeCode::layout(pair.left.code());
     if let Layout::FixedWidth = layout {
-        return masked_equal(pair, rows);
+        return masked_equal(*pair, rows);
     }
     if let Layout::View = layout {
-        return masked_views_equal(pair, rows);
+        return masked_views_equal(*pair, rows);
     }
     let elements = pair.elements(rows);
     let mut k: usize = 0;
@@ -88,14 +88,14 @@ fn equal_valid(pair: Pair, rows: Rows, depth: usize) -> bool
 
 // Row s of one node and row t of another are equal, by what was read of the nodes if there is such.
 #[cycle(rows)]
-fn equal_row(pair: Pair, leaves: Option<Leaves>, s: usize, t: usize, depth: usize) -> bool
-    requires sides { SidesOf pair (one_row s t) depth }
-    requires leaves { LeavesOf pair leaves }
-    ensures { result ≡ equal_rows (row_at depth) pair.entry (one_row s t) }
+fn equal_row(pair: &Pair, leaves: Option<Leaves>, s: usize, t: usize, depth: usize) -> bool
+    requires sides { SidesOf pair.now (one_row s t) depth }
+    requires leaves { LeavesOf pair.now leaves }
+    ensures { result ≡ equal_rows (row_at depth) pair.now (one_row s t) }
 {
     if 0 < depth {
         if let Some(read) = leaves {
-            return leaf_equal(pair, read, s, t, depth - 1);
+            return leaf_equal(*pair, read, s, t, depth - 1);
         }
     }
     let row = Rows {
@@ -108,14 +108,14 @@ fn equal_row(pair: Pair, leaves: Option<Leaves>, s: usize, t: usize, depth: usiz
 
 // Two ranges of rows are equal.
 #[cycle(rows)]
-pub fn equal_range(pair: Pair, rows: Rows, depth: usize) -> bool
-    requires { SidesOf pair rows depth }
-    ensures { result ≡ equal_rows (row_at depth) pair.entry rows }
+pub fn equal_range(pair: &Pair, rows: Rows, depth: usize) -> bool
+    requires { SidesOf pair.now rows depth }
+    ensures { result ≡ equal_rows (row_at depth) pair.now rows }
 {
     if depth == 0 {
         return true;
     }
-    if !equal_nulls(pair, rows) {
+    if !equal_nulls(*pair, rows) {
         return false;
     }
     if contains_nulls(pair.left, rows.left, rows.count) {
@@ -129,5 +129,5 @@ pub fn rows_equal(a: &[u8], b: &[u8], rows: Rows) -> bool
     requires { Sides a.now b.now 0 0 rows.left rows.right rows.count max_depth }
     ensures { result ≡ range_equal (row_at max_depth a.now 0) (row_at max_depth b.now 0) rows.left rows.right rows.count }
 {
-    equal_range(Pair::roots(a, b), rows, MAX_DEPTH)
+    equal_range(&Pair::roots(a, b), rows, MAX_DEPTH)
 }

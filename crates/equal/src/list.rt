@@ -10,11 +10,11 @@ use values::pair::{Pair, Rows};
 
 // Lists without nulls: their lengths, and then all their child rows as one range.
 #[cycle(rows)]
-pub fn equal(pair: Pair, rows: Rows, depth: usize) -> bool
-    requires { PartsIn Lists pair rows depth }
-    ensures { result ≡ equal_rows (nested list_row depth) pair.entry rows }
+pub fn equal(pair: &Pair, rows: Rows, depth: usize) -> bool
+    requires { PartsIn Lists pair.now rows depth }
+    ensures { result ≡ equal_rows (nested list_row depth) pair.now rows }
 {
-    if !lengths_equal(pair, rows) {
+    if !lengths_equal(*pair, rows) {
         return false;
     }
     let from = pair.left.offset_at(rows.left);
@@ -25,5 +25,5 @@ pub fn equal(pair: Pair, rows: Rows, depth: usize) -> bool
         right: start,
         count: to - from,
     };
-    equal_range(pair.child(0), items, depth)
+    equal_range(&pair.child(0), items, depth)
 }

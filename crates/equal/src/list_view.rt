@@ -9,9 +9,9 @@ use values::pair::{Pair, Rows};
 
 // List views without nulls: their sizes and child rows, view by view.
 #[cycle(rows)]
-pub fn equal(pair: Pair, rows: Rows, depth: usize) -> bool
-    requires { PartsIn ListView pair rows depth }
-    ensures { result ≡ equal_rows (nested list_view_row depth) pair.entry rows }
+pub fn equal(pair: &Pair, rows: Rows, depth: usize) -> bool
+    requires { PartsIn ListView pair.now rows depth }
+    ensures { result ≡ equal_rows (nested list_view_row depth) pair.now rows }
 {
     let width = pair.left.element_width();
     let left = pair.left.numbers(0, width);
@@ -29,7 +29,7 @@ pub fn equal(pair: Pair, rows: Rows, depth: usize) -> bool
             right: right.at(rows.right + k),
             count: size,
         };
-        if !equal_range(child, items, depth) {
+        if !equal_range(&child, items, depth) {
             return false;
         }
     }

@@ -13,9 +13,9 @@ use values::runs::same_runs;
 // Runs: where the runs of both sides end together, their values as one range; else the values of overlapping runs, stepping
 // over the shorter of the two; the stepping ends as soon as one pair differs.
 #[cycle(rows)]
-pub fn equal(pair: Pair, rows: Rows, depth: usize) -> bool
-    requires { PartsIn Runs pair rows depth }
-    ensures { result ≡ equal_rows (nested run_row depth) pair.entry rows }
+pub fn equal(pair: &Pair, rows: Rows, depth: usize) -> bool
+    requires { PartsIn Runs pair.now rows depth }
+    ensures { result ≡ equal_rows (nested run_row depth) pair.now rows }
 {
     let (s, t, n) = (rows.left, rows.right, rows.count);
     let values = pair.child(1);
@@ -26,20 +26,20 @@ pub fn equal(pair: Pair, rows: Rows, depth: usize) -> bool
     }
     let mut i = run_of(pair.left, s);
     let mut j = run_of(pair.right, t);
-    if let Some(runs) = same_runs(pair, rows, i, j) {
+    if let Some(runs) = same_runs(*pair, rows, i, j) {
         let whole = Rows {
             left: i,
             right: j,
             count: runs,
         };
-        return equal_range(values, whole, depth);
+        return equal_range(&values, whole, depth);
     }
     let leaves = leaves_of(values);
     let left = pair.left.ends();
     let right = pair.right.ends();
     // Kept: no `for`, since a step is as long as the shorter run goes on; a loop with a label, as document 01 has it here.
     'runs: while k < n {
-        if !equal_row(values, leaves, i, j, depth) {
+        if !equal_row(&values, leaves, i, j, depth) {
             equal = false;
             break 'runs;
         }

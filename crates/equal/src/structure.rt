@@ -11,13 +11,13 @@ use values::pair::{Pair, Rows};
 
 // Structs without nulls: child by child over the whole range.
 #[cycle(rows)]
-pub fn equal(pair: Pair, rows: Rows, depth: usize) -> bool
-    requires parts { PartsOf pair rows depth }
-    requires layout { (layout_of (code_of pair.left.image.now pair.left.number) ≡ Struct) ⊎ (layout_of (code_of pair.left.image.now pair.left.number) ≡ SparseUnion) }
-    ensures { result ≡ equal_rows (nested struct_row depth) pair.entry rows }
+pub fn equal(pair: &Pair, rows: Rows, depth: usize) -> bool
+    requires parts { PartsOf pair.now rows depth }
+    requires layout { (layout_of (code_of pair.now.left.image.now pair.now.left.number) ≡ Struct) ⊎ (layout_of (code_of pair.now.left.image.now pair.now.left.number) ≡ SparseUnion) }
+    ensures { result ≡ equal_rows (nested struct_row depth) pair.now rows }
 {
     for c in 0..pair.left.child_count() {
-        if !equal_range(pair.child(c), rows, depth) {
+        if !equal_range(&pair.child(c), rows, depth) {
             return false;
         }
     }

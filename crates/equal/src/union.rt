@@ -25,9 +25,9 @@ fn named(pair: Pair, id: u8) -> Option<Pair>
 
 // Dense unions: the type ids, and the row of the child that each id names, at its offset.
 #[cycle(rows)]
-pub fn dense(pair: Pair, rows: Rows, depth: usize) -> bool
-    requires { PartsIn DenseUnion pair rows depth }
-    ensures { result ≡ equal_rows (nested dense_row depth) pair.entry rows }
+pub fn dense(pair: &Pair, rows: Rows, depth: usize) -> bool
+    requires { PartsIn DenseUnion pair.now rows depth }
+    ensures { result ≡ equal_rows (nested dense_row depth) pair.now rows }
 {
     let (a, b) = (pair.left, pair.right);
     let ia = a.buffer_place(0);
@@ -39,7 +39,7 @@ pub fn dense(pair: Pair, rows: Rows, depth: usize) -> bool
         if id != byte(b.image, ib + (rows.right + k)) {
             return false;
         }
-        let Some(child) = named(pair, id) else {
+        let Some(child) = named(*pair, id) else {
             return false;
         };
         let row = Rows {
@@ -47,7 +47,7 @@ pub fn dense(pair: Pair, rows: Rows, depth: usize) -> bool
             right: right.at(rows.right + k),
             count: 1,
         };
-        if !equal_range(child, row, depth) {
+        if !equal_range(&child, row, depth) {
             return false;
         }
     }
@@ -57,9 +57,9 @@ pub fn dense(pair: Pair, rows: Rows, depth: usize) -> bool
 // A block of a sparse union: the type ids, and the row of the child that each id names; the other children do not count.
 // Where all rows of all children are equal, those are. A single row is not tried so, which bounds what unions in unions cost.
 #[cycle(rows)]
-fn block(pair: Pair, rows: Rows, depth: usize) -> bool
-    requires { PartsIn SparseUnion pair rows depth }
-    ensures { result ≡ equal_rows (nested sparse_row depth) pair.entry rows }
+fn block(pair: &Pair, rows: Rows, depth: usize) -> bool
+    requires { PartsIn SparseUnion pair.now rows depth }
+    ensures { result ≡ equal_rows (nested sparse_row depth) pair.now rows }
 {
     let (a, b) = (pair.left, pair.right);
     let ia = a.buffer_place(0);
@@ -79,10 +79,10 @@ fn block(pair: Pair, rows: Rows, depth: usize) -> bool
         if type_id != byte(b.image, ib + (rows.right + k)) {
             return false;
         }
-        let Some(child) = named(pair, type_id) else {
+        let Some(child) = named(*pair, type_id) else {
             return false;
         };
-        if !equal_range(child, rows.part(k, 1), depth) {
+        if !equal_range(&child, rows.part(k, 1), depth) {
             return false;
         }
     }
@@ -93,9 +93,9 @@ fn block(pair: Pair, rows: Rows, depth: usize) -> bool
 // Kept: no `Rows::each_block`, since a closure that calls a function of the cycle is one of the cycle itself, with a contract
 // and a measure of its own: that is no plainer.
 #[cycle(rows)]
-pub fn sparse(pair: Pair, rows: Rows, depth: usize) -> bool
-    requires { PartsIn SparseUnion pair rows depth }
-    ensures { result ≡ equal_rows (nested sparse_row depth) pair.entry rows }
+pub fn sparse(pair: &Pair, rows: Rows, depth: usize) -> bool
+    requires { PartsIn SparseUnion pair.now rows depth }
+    ensures { result ≡ equal_rows (nested sparse_row depth) pair.now rows }
 {
     let n = rows.count;
     for h in 0..n / BLOCK {

@@ -54,7 +54,7 @@ use Rattle.accepted.proofs.RunEnds.{run_first, end_nth, end_is}
 use Rattle.equal.proofs.Structs.{columns_start, struct_requires, columns_more_left, columns_fail, columns_done}
 use Rattle.equal.proofs.Unions.{sparse_differs, sparse_never, sparse_child, sparse_row_lem, sparse_inside, whole_children, dense_differs, dense_never, dense_child, dense_row_lem}
 use Rattle.equal.proofs.+rows.Goals as goal
-use Rattle.equal.proofs.+rows.Goals.{dictionary::long_equal-then-kept-place+else-not-equal_row, dictionary::long_equal-else-kept-place}
+use Rattle.equal.proofs.+rows.Goals.{dictionary::long_equal-then-ne+else-not-equal_row, dictionary::long_equal-else-ne}
 
 pub equal_range-returns-then-depth-eq0 : goal.equal_range-returns-then-depth-eq0
 equal_range-returns-then-depth-eq0 t c = range_none _ _ _ _ _ _ _ _ c.if-depth-eq0.true
@@ -320,17 +320,17 @@ pub dictionary::equal-at-y-requires : goal.dictionary::equal-at-y-requires
 dictionary::equal-at-y-requires t c = part_nth c.requires.parts.right c.loop-k.k (omega (arith, c.loop-k-test.true)) c.numbers-right.ensures.place (omega (arith, c.numbers-right.ensures.width, c.element_width-width.ensures, key_narrow c.requires.parts c.requires.layout))
 
 pub dictionary::equal-equal_row-requires : goal.dictionary::equal-equal_row-requires
-dictionary::equal-equal_row-requires t c = (search rules, (rw c.child-child.ensures.same (key_requires c.requires.parts c.requires.layout c.loop-k.k c.loop-k-test.true (add-zero _) (add-zero _) (element_from c.args.pair.left c.numbers-left.result _ (c.numbers-left.ensures.width ∙ c.element_width-width.ensures) c.numbers-left.ensures.bytes c.numbers-left.ensures.place c.at-x.ensures) (element_from c.args.pair.right c.numbers-right.result _ (c.numbers-right.ensures.width ∙ (c.element_width-width.ensures ∙ widths_same c.requires.parts)) c.numbers-right.ensures.bytes c.numbers-right.ensures.place c.at-y.ensures)), c.leaves_of-leaves.ensures))
+dictionary::equal-equal_row-requires t c = (search rules, (rw c.child-child.ensures.same (key_requires c.requires.parts c.requires.layout c.loop-k.k c.loop-k-test.true (add-zero _) (add-zero _) (element_from c.args.pair.now.left c.numbers-left.result _ (c.numbers-left.ensures.width ∙ c.element_width-width.ensures) c.numbers-left.ensures.bytes c.numbers-left.ensures.place c.at-x.ensures) (element_from c.args.pair.now.right c.numbers-right.result _ (c.numbers-right.ensures.width ∙ (c.element_width-width.ensures ∙ widths_same c.requires.parts)) c.numbers-right.ensures.bytes c.numbers-right.ensures.place c.at-y.ensures)), c.leaves_of-leaves.ensures))
 
 pub dictionary::equal-returns-then-not-equal_row : goal.dictionary::equal-returns-then-not-equal_row
 dictionary::equal-returns-then-not-equal_row t c =
     let same = rw c.child-child.ensures.same at c.equal_row.ensures in
-    rows_fail c.loop-k.invariant c.loop-k-test.true (sym (key_answer c.requires.parts c.requires.layout c.loop-k.k c.loop-k-test.true (add-zero _) (add-zero _) (element_from c.args.pair.left c.numbers-left.result _ (c.numbers-left.ensures.width ∙ c.element_width-width.ensures) c.numbers-left.ensures.bytes c.numbers-left.ensures.place c.at-x.ensures) (element_from c.args.pair.right c.numbers-right.result _ (c.numbers-right.ensures.width ∙ (c.element_width-width.ensures ∙ widths_same c.requires.parts)) c.numbers-right.ensures.bytes c.numbers-right.ensures.place c.at-y.ensures)) ∙ sym same ∙ c.if-not-equal_row.true)
+    rows_fail c.loop-k.invariant c.loop-k-test.true (sym (key_answer c.requires.parts c.requires.layout c.loop-k.k c.loop-k-test.true (add-zero _) (add-zero _) (element_from c.args.pair.now.left c.numbers-left.result _ (c.numbers-left.ensures.width ∙ c.element_width-width.ensures) c.numbers-left.ensures.bytes c.numbers-left.ensures.place c.at-x.ensures) (element_from c.args.pair.now.right c.numbers-right.result _ (c.numbers-right.ensures.width ∙ (c.element_width-width.ensures ∙ widths_same c.requires.parts)) c.numbers-right.ensures.bytes c.numbers-right.ensures.place c.at-y.ensures)) ∙ sym same ∙ c.if-not-equal_row.true)
 
 pub dictionary::equal-loop-k-preserved : goal.dictionary::equal-loop-k-preserved
 dictionary::equal-loop-k-preserved t c =
     let same = rw c.child-child.ensures.same at c.equal_row.ensures in
-    rows_more c.loop-k.invariant c.loop-k-test.true (sym (key_answer c.requires.parts c.requires.layout c.loop-k.k c.loop-k-test.true (add-zero _) (add-zero _) (element_from c.args.pair.left c.numbers-left.result _ (c.numbers-left.ensures.width ∙ c.element_width-width.ensures) c.numbers-left.ensures.bytes c.numbers-left.ensures.place c.at-x.ensures) (element_from c.args.pair.right c.numbers-right.result _ (c.numbers-right.ensures.width ∙ (c.element_width-width.ensures ∙ widths_same c.requires.parts)) c.numbers-right.ensures.bytes c.numbers-right.ensures.place c.at-y.ensures)) ∙ sym same ∙ c.if-not-equal_row.false)
+    rows_more c.loop-k.invariant c.loop-k-test.true (sym (key_answer c.requires.parts c.requires.layout c.loop-k.k c.loop-k-test.true (add-zero _) (add-zero _) (element_from c.args.pair.now.left c.numbers-left.result _ (c.numbers-left.ensures.width ∙ c.element_width-width.ensures) c.numbers-left.ensures.bytes c.numbers-left.ensures.place c.at-x.ensures) (element_from c.args.pair.now.right c.numbers-right.result _ (c.numbers-right.ensures.width ∙ (c.element_width-width.ensures ∙ widths_same c.requires.parts)) c.numbers-right.ensures.bytes c.numbers-right.ensures.place c.at-y.ensures)) ∙ sym same ∙ c.if-not-equal_row.false)
 
 pub dictionary::equal-returns : goal.dictionary::equal-returns
 dictionary::equal-returns t c = rows_done c.loop-k.invariant c.loop-k-test.false
@@ -360,35 +360,32 @@ pub dictionary::long_equal-at-y-requires : goal.dictionary::long_equal-at-y-requ
 dictionary::long_equal-at-y-requires t c = part_nth c.requires.parts.right c.loop-row.row (omega (arith, c.loop-row-test.true)) c.numbers-right.ensures.place (omega (arith, c.numbers-right.ensures.width, c.element_width-width.ensures, key_narrow c.requires.parts c.requires.layout))
 
 pub dictionary::long_equal-equal_row-requires : goal.dictionary::long_equal-equal_row-requires
-dictionary::long_equal-equal_row-requires t c = (search rules, (rw c.child-child.ensures.same (key_requires c.requires.parts c.requires.layout c.loop-row.row c.loop-row-test.true (add-zero _) (add-zero _) (element_from c.args.pair.left c.numbers-left.result _ (c.numbers-left.ensures.width ∙ c.element_width-width.ensures) c.numbers-left.ensures.bytes c.numbers-left.ensures.place c.at-x.ensures) (element_from c.args.pair.right c.numbers-right.result _ (c.numbers-right.ensures.width ∙ (c.element_width-width.ensures ∙ widths_same c.requires.parts)) c.numbers-right.ensures.bytes c.numbers-right.ensures.place c.at-y.ensures)), c.leaves_of-leaves.ensures))
+dictionary::long_equal-equal_row-requires t c = (search rules, (rw c.child-child.ensures.same (key_requires c.requires.parts c.requires.layout c.loop-row.row c.loop-row-test.true (add-zero _) (add-zero _) (element_from c.args.pair.now.left c.numbers-left.result _ (c.numbers-left.ensures.width ∙ c.element_width-width.ensures) c.numbers-left.ensures.bytes c.numbers-left.ensures.place c.at-x.ensures) (element_from c.args.pair.now.right c.numbers-right.result _ (c.numbers-right.ensures.width ∙ (c.element_width-width.ensures ∙ widths_same c.requires.parts)) c.numbers-right.ensures.bytes c.numbers-right.ensures.place c.at-y.ensures)), c.leaves_of-leaves.ensures))
 
 pub dictionary::long_equal-returns-then-not-equal_row : goal.dictionary::long_equal-returns-then-not-equal_row
 dictionary::long_equal-returns-then-not-equal_row t c =
     let same = rw c.child-child.ensures.same at c.equal_row.ensures in
-    rows_fail c.loop-row.invariant.1 c.loop-row-test.true (sym (key_answer c.requires.parts c.requires.layout c.loop-row.row c.loop-row-test.true (add-zero _) (add-zero _) (element_from c.args.pair.left c.numbers-left.result _ (c.numbers-left.ensures.width ∙ c.element_width-width.ensures) c.numbers-left.ensures.bytes c.numbers-left.ensures.place c.at-x.ensures) (element_from c.args.pair.right c.numbers-right.result _ (c.numbers-right.ensures.width ∙ (c.element_width-width.ensures ∙ widths_same c.requires.parts)) c.numbers-right.ensures.bytes c.numbers-right.ensures.place c.at-y.ensures)) ∙ sym same ∙ c.if-not-equal_row.true)
+    rows_fail c.loop-row.invariant.1 c.loop-row-test.true (sym (key_answer c.requires.parts c.requires.layout c.loop-row.row c.loop-row-test.true (add-zero _) (add-zero _) (element_from c.args.pair.now.left c.numbers-left.result _ (c.numbers-left.ensures.width ∙ c.element_width-width.ensures) c.numbers-left.ensures.bytes c.numbers-left.ensures.place c.at-x.ensures) (element_from c.args.pair.now.right c.numbers-right.result _ (c.numbers-right.ensures.width ∙ (c.element_width-width.ensures ∙ widths_same c.requires.parts)) c.numbers-right.ensures.bytes c.numbers-right.ensures.place c.at-y.ensures)) ∙ sym same ∙ c.if-not-equal_row.true)
 
 pub dictionary::long_equal-overflow_mul-keys : goal.dictionary::long_equal-overflow_mul-keys
-dictionary::long_equal-overflow_mul-keys t c = omega (arith, key_small c.requires.parts c.requires.layout c.loop-row.row c.loop-row-test.true (add-zero _) (add-zero _) (element_from c.args.pair.left c.numbers-left.result _ (c.numbers-left.ensures.width ∙ c.element_width-width.ensures) c.numbers-left.ensures.bytes c.numbers-left.ensures.place c.at-x.ensures) (element_from c.args.pair.right c.numbers-right.result _ (c.numbers-right.ensures.width ∙ (c.element_width-width.ensures ∙ widths_same c.requires.parts)) c.numbers-right.ensures.bytes c.numbers-right.ensures.place c.at-y.ensures))
+dictionary::long_equal-overflow_mul-keys t c = omega (arith, key_small c.requires.parts c.requires.layout c.loop-row.row c.loop-row-test.true (add-zero _) (add-zero _) (element_from c.args.pair.now.left c.numbers-left.result _ (c.numbers-left.ensures.width ∙ c.element_width-width.ensures) c.numbers-left.ensures.bytes c.numbers-left.ensures.place c.at-x.ensures) (element_from c.args.pair.now.right c.numbers-right.result _ (c.numbers-right.ensures.width ∙ (c.element_width-width.ensures ∙ widths_same c.requires.parts)) c.numbers-right.ensures.bytes c.numbers-right.ensures.place c.at-y.ensures))
 
 pub dictionary::long_equal-overflow_add-keys : goal.dictionary::long_equal-overflow_add-keys
-dictionary::long_equal-overflow_add-keys t c = omega (arith, key_small c.requires.parts c.requires.layout c.loop-row.row c.loop-row-test.true (add-zero _) (add-zero _) (element_from c.args.pair.left c.numbers-left.result _ (c.numbers-left.ensures.width ∙ c.element_width-width.ensures) c.numbers-left.ensures.bytes c.numbers-left.ensures.place c.at-x.ensures) (element_from c.args.pair.right c.numbers-right.result _ (c.numbers-right.ensures.width ∙ (c.element_width-width.ensures ∙ widths_same c.requires.parts)) c.numbers-right.ensures.bytes c.numbers-right.ensures.place c.at-y.ensures))
-
-pub dictionary::long_equal-overflow_add-keys-in-loop-row : goal.dictionary::long_equal-overflow_add-keys-in-loop-row
-dictionary::long_equal-overflow_add-keys-in-loop-row t c = omega (arith, key_small c.requires.parts c.requires.layout c.loop-row.row c.loop-row-test.true (add-zero _) (add-zero _) (element_from c.args.pair.left c.numbers-left.result _ (c.numbers-left.ensures.width ∙ c.element_width-width.ensures) c.numbers-left.ensures.bytes c.numbers-left.ensures.place c.at-x.ensures) (element_from c.args.pair.right c.numbers-right.result _ (c.numbers-right.ensures.width ∙ (c.element_width-width.ensures ∙ widths_same c.requires.parts)) c.numbers-right.ensures.bytes c.numbers-right.ensures.place c.at-y.ensures))
+dictionary::long_equal-overflow_add-keys t c = omega (arith, key_small c.requires.parts c.requires.layout c.loop-row.row c.loop-row-test.true (add-zero _) (add-zero _) (element_from c.args.pair.now.left c.numbers-left.result _ (c.numbers-left.ensures.width ∙ c.element_width-width.ensures) c.numbers-left.ensures.bytes c.numbers-left.ensures.place c.at-x.ensures) (element_from c.args.pair.now.right c.numbers-right.result _ (c.numbers-right.ensures.width ∙ (c.element_width-width.ensures ∙ widths_same c.requires.parts)) c.numbers-right.ensures.bytes c.numbers-right.ensures.place c.at-y.ensures))
 
 pub dictionary::long_equal-returns : goal.dictionary::long_equal-returns
 dictionary::long_equal-returns t c = rows_done c.loop-row.invariant.1 c.loop-row-test.false
 
 pub dictionary::long_equal-loop-row-preserved : goal.dictionary::long_equal-loop-row-preserved
 dictionary::long_equal-loop-row-preserved t c =
-    elim c.if-kept-place.branch [
-      | dictionary::long_equal-then-kept-place+else-not-equal_row w ↦
+    elim c.if-ne.branch [
+      | dictionary::long_equal-then-ne+else-not-equal_row w ↦
           let same = rw c.child-child.ensures.same at w.equal_row.ensures in
           rw w.kept-is
-          (kept_more c.loop-row.invariant.0 _ _ (omega (arith, key_small c.requires.parts c.requires.layout c.loop-row.row c.loop-row-test.true (add-zero _) (add-zero _) (element_from c.args.pair.left c.numbers-left.result _ (c.numbers-left.ensures.width ∙ c.element_width-width.ensures) c.numbers-left.ensures.bytes c.numbers-left.ensures.place c.at-x.ensures) (element_from c.args.pair.right c.numbers-right.result _ (c.numbers-right.ensures.width ∙ (c.element_width-width.ensures ∙ widths_same c.requires.parts)) c.numbers-right.ensures.bytes c.numbers-right.ensures.place c.at-y.ensures))) (sym (one_row _ _ _ _) ∙ sym same ∙ w.if-not-equal_row.false), rows_more c.loop-row.invariant.1 c.loop-row-test.true (sym (key_answer c.requires.parts c.requires.layout c.loop-row.row c.loop-row-test.true (add-zero _) (add-zero _) (element_from c.args.pair.left c.numbers-left.result _ (c.numbers-left.ensures.width ∙ c.element_width-width.ensures) c.numbers-left.ensures.bytes c.numbers-left.ensures.place c.at-x.ensures) (element_from c.args.pair.right c.numbers-right.result _ (c.numbers-right.ensures.width ∙ (c.element_width-width.ensures ∙ widths_same c.requires.parts)) c.numbers-right.ensures.bytes c.numbers-right.ensures.place c.at-y.ensures)) ∙ sym same ∙ w.if-not-equal_row.false))
-      | dictionary::long_equal-else-kept-place w ↦
+          (kept_more c.loop-row.invariant.0 _ _ (omega (arith, key_small c.requires.parts c.requires.layout c.loop-row.row c.loop-row-test.true (add-zero _) (add-zero _) (element_from c.args.pair.now.left c.numbers-left.result _ (c.numbers-left.ensures.width ∙ c.element_width-width.ensures) c.numbers-left.ensures.bytes c.numbers-left.ensures.place c.at-x.ensures) (element_from c.args.pair.now.right c.numbers-right.result _ (c.numbers-right.ensures.width ∙ (c.element_width-width.ensures ∙ widths_same c.requires.parts)) c.numbers-right.ensures.bytes c.numbers-right.ensures.place c.at-y.ensures))) (sym (one_row _ _ _ _) ∙ sym same ∙ w.if-not-equal_row.false), rows_more c.loop-row.invariant.1 c.loop-row-test.true (sym (key_answer c.requires.parts c.requires.layout c.loop-row.row c.loop-row-test.true (add-zero _) (add-zero _) (element_from c.args.pair.now.left c.numbers-left.result _ (c.numbers-left.ensures.width ∙ c.element_width-width.ensures) c.numbers-left.ensures.bytes c.numbers-left.ensures.place c.at-x.ensures) (element_from c.args.pair.now.right c.numbers-right.result _ (c.numbers-right.ensures.width ∙ (c.element_width-width.ensures ∙ widths_same c.requires.parts)) c.numbers-right.ensures.bytes c.numbers-right.ensures.place c.at-y.ensures)) ∙ sym same ∙ w.if-not-equal_row.false))
+      | dictionary::long_equal-else-ne w ↦
           rw w.kept-is
-          (c.loop-row.invariant.0, rows_more c.loop-row.invariant.1 c.loop-row-test.true (sym (key_same c.requires.parts c.requires.layout c.loop-row.row c.loop-row-test.true (add-zero _) (add-zero _) (element_from c.args.pair.left c.numbers-left.result _ (c.numbers-left.ensures.width ∙ c.element_width-width.ensures) c.numbers-left.ensures.bytes c.numbers-left.ensures.place c.at-x.ensures) (element_from c.args.pair.right c.numbers-right.result _ (c.numbers-right.ensures.width ∙ (c.element_width-width.ensures ∙ widths_same c.requires.parts)) c.numbers-right.ensures.bytes c.numbers-right.ensures.place c.at-y.ensures)) ∙ kept_equal c.loop-row.invariant.0 _ _ (omega (arith, key_small c.requires.parts c.requires.layout c.loop-row.row c.loop-row-test.true (add-zero _) (add-zero _) (element_from c.args.pair.left c.numbers-left.result _ (c.numbers-left.ensures.width ∙ c.element_width-width.ensures) c.numbers-left.ensures.bytes c.numbers-left.ensures.place c.at-x.ensures) (element_from c.args.pair.right c.numbers-right.result _ (c.numbers-right.ensures.width ∙ (c.element_width-width.ensures ∙ widths_same c.requires.parts)) c.numbers-right.ensures.bytes c.numbers-right.ensures.place c.at-y.ensures))) w.if-kept-place.false))
+          (c.loop-row.invariant.0, rows_more c.loop-row.invariant.1 c.loop-row-test.true (sym (key_same c.requires.parts c.requires.layout c.loop-row.row c.loop-row-test.true (add-zero _) (add-zero _) (element_from c.args.pair.now.left c.numbers-left.result _ (c.numbers-left.ensures.width ∙ c.element_width-width.ensures) c.numbers-left.ensures.bytes c.numbers-left.ensures.place c.at-x.ensures) (element_from c.args.pair.now.right c.numbers-right.result _ (c.numbers-right.ensures.width ∙ (c.element_width-width.ensures ∙ widths_same c.requires.parts)) c.numbers-right.ensures.bytes c.numbers-right.ensures.place c.at-y.ensures)) ∙ kept_equal c.loop-row.invariant.0 _ _ (omega (arith, key_small c.requires.parts c.requires.layout c.loop-row.row c.loop-row-test.true (add-zero _) (add-zero _) (element_from c.args.pair.now.left c.numbers-left.result _ (c.numbers-left.ensures.width ∙ c.element_width-width.ensures) c.numbers-left.ensures.bytes c.numbers-left.ensures.place c.at-x.ensures) (element_from c.args.pair.now.right c.numbers-right.result _ (c.numbers-right.ensures.width ∙ (c.element_width-width.ensures ∙ widths_same c.requires.parts)) c.numbers-right.ensures.bytes c.numbers-right.ensures.place c.at-y.ensures))) c.ne.ensures w.if-ne.false))
     ]
 
 pub fixed_list::equal-overflow_mul-items : goal.fixed_list::equal-overflow_mul-items
@@ -465,20 +462,20 @@ pub list_view::equal-at-requires-in-loop-k-2 : goal.list_view::equal-at-requires
 list_view::equal-at-requires-in-loop-k-2 t c = part_nth c.requires.parts.right c.loop-k.k (omega (arith, c.loop-k-test.true)) c.numbers-right.ensures.place (omega (arith, c.numbers-right.ensures.width, c.element_width-width.ensures, view_narrow c.requires.parts c.requires.layout))
 
 pub list_view::equal-returns-then-size-at : goal.list_view::equal-returns-then-size-at
-list_view::equal-returns-then-size-at t c = rows_fail c.loop-k.invariant c.loop-k-test.true (view_differs c.requires.parts c.requires.layout c.loop-k.k c.loop-k-test.true (size_from c.args.pair.left c.numbers-left_sizes.result _ (c.numbers-left_sizes.ensures.width ∙ c.element_width-width.ensures) c.numbers-left_sizes.ensures.bytes c.numbers-left_sizes.ensures.place c.at-size.ensures) (size_from c.args.pair.right c.numbers-right_sizes.result _ (c.numbers-right_sizes.ensures.width ∙ (c.element_width-width.ensures ∙ widths_same c.requires.parts)) c.numbers-right_sizes.ensures.bytes c.numbers-right_sizes.ensures.place c.at.ensures) c.if-size-at.true)
+list_view::equal-returns-then-size-at t c = rows_fail c.loop-k.invariant c.loop-k-test.true (view_differs c.requires.parts c.requires.layout c.loop-k.k c.loop-k-test.true (size_from c.args.pair.now.left c.numbers-left_sizes.result _ (c.numbers-left_sizes.ensures.width ∙ c.element_width-width.ensures) c.numbers-left_sizes.ensures.bytes c.numbers-left_sizes.ensures.place c.at-size.ensures) (size_from c.args.pair.now.right c.numbers-right_sizes.result _ (c.numbers-right_sizes.ensures.width ∙ (c.element_width-width.ensures ∙ widths_same c.requires.parts)) c.numbers-right_sizes.ensures.bytes c.numbers-right_sizes.ensures.place c.at.ensures) c.if-size-at.true)
 
 pub list_view::equal-equal_range-requires : goal.list_view::equal-equal_range-requires
-list_view::equal-equal_range-requires t c = (omega (arith, c.decreases), rw c.child-child.ensures.same (view_requires c.requires.parts c.requires.layout c.loop-k.k c.loop-k-test.true (add-zero _) (add-zero _) (size_from c.args.pair.left c.numbers-left_sizes.result _ (c.numbers-left_sizes.ensures.width ∙ c.element_width-width.ensures) c.numbers-left_sizes.ensures.bytes c.numbers-left_sizes.ensures.place c.at-size.ensures) (size_from c.args.pair.right c.numbers-right_sizes.result _ (c.numbers-right_sizes.ensures.width ∙ (c.element_width-width.ensures ∙ widths_same c.requires.parts)) c.numbers-right_sizes.ensures.bytes c.numbers-right_sizes.ensures.place c.at.ensures) c.if-size-at.false (element_from c.args.pair.left c.numbers-left.result _ (c.numbers-left.ensures.width ∙ c.element_width-width.ensures) c.numbers-left.ensures.bytes c.numbers-left.ensures.place c.at-in-loop-k.ensures) (element_from c.args.pair.right c.numbers-right.result _ (c.numbers-right.ensures.width ∙ (c.element_width-width.ensures ∙ widths_same c.requires.parts)) c.numbers-right.ensures.bytes c.numbers-right.ensures.place c.at-in-loop-k-2.ensures)))
+list_view::equal-equal_range-requires t c = (omega (arith, c.decreases), rw c.child-child.ensures.same (view_requires c.requires.parts c.requires.layout c.loop-k.k c.loop-k-test.true (add-zero _) (add-zero _) (size_from c.args.pair.now.left c.numbers-left_sizes.result _ (c.numbers-left_sizes.ensures.width ∙ c.element_width-width.ensures) c.numbers-left_sizes.ensures.bytes c.numbers-left_sizes.ensures.place c.at-size.ensures) (size_from c.args.pair.now.right c.numbers-right_sizes.result _ (c.numbers-right_sizes.ensures.width ∙ (c.element_width-width.ensures ∙ widths_same c.requires.parts)) c.numbers-right_sizes.ensures.bytes c.numbers-right_sizes.ensures.place c.at.ensures) c.if-size-at.false (element_from c.args.pair.now.left c.numbers-left.result _ (c.numbers-left.ensures.width ∙ c.element_width-width.ensures) c.numbers-left.ensures.bytes c.numbers-left.ensures.place c.at-in-loop-k.ensures) (element_from c.args.pair.now.right c.numbers-right.result _ (c.numbers-right.ensures.width ∙ (c.element_width-width.ensures ∙ widths_same c.requires.parts)) c.numbers-right.ensures.bytes c.numbers-right.ensures.place c.at-in-loop-k-2.ensures)))
 
 pub list_view::equal-returns-then-not-equal_range : goal.list_view::equal-returns-then-not-equal_range
 list_view::equal-returns-then-not-equal_range t c =
     let same = rw c.child-child.ensures.same at c.equal_range.ensures in
-    rows_fail c.loop-k.invariant c.loop-k-test.true (sym (view_answer c.requires.parts c.requires.layout c.loop-k.k c.loop-k-test.true (add-zero _) (add-zero _) (size_from c.args.pair.left c.numbers-left_sizes.result _ (c.numbers-left_sizes.ensures.width ∙ c.element_width-width.ensures) c.numbers-left_sizes.ensures.bytes c.numbers-left_sizes.ensures.place c.at-size.ensures) (size_from c.args.pair.right c.numbers-right_sizes.result _ (c.numbers-right_sizes.ensures.width ∙ (c.element_width-width.ensures ∙ widths_same c.requires.parts)) c.numbers-right_sizes.ensures.bytes c.numbers-right_sizes.ensures.place c.at.ensures) c.if-size-at.false (element_from c.args.pair.left c.numbers-left.result _ (c.numbers-left.ensures.width ∙ c.element_width-width.ensures) c.numbers-left.ensures.bytes c.numbers-left.ensures.place c.at-in-loop-k.ensures) (element_from c.args.pair.right c.numbers-right.result _ (c.numbers-right.ensures.width ∙ (c.element_width-width.ensures ∙ widths_same c.requires.parts)) c.numbers-right.ensures.bytes c.numbers-right.ensures.place c.at-in-loop-k-2.ensures)) ∙ sym same ∙ c.if-not-equal_range.true)
+    rows_fail c.loop-k.invariant c.loop-k-test.true (sym (view_answer c.requires.parts c.requires.layout c.loop-k.k c.loop-k-test.true (add-zero _) (add-zero _) (size_from c.args.pair.now.left c.numbers-left_sizes.result _ (c.numbers-left_sizes.ensures.width ∙ c.element_width-width.ensures) c.numbers-left_sizes.ensures.bytes c.numbers-left_sizes.ensures.place c.at-size.ensures) (size_from c.args.pair.now.right c.numbers-right_sizes.result _ (c.numbers-right_sizes.ensures.width ∙ (c.element_width-width.ensures ∙ widths_same c.requires.parts)) c.numbers-right_sizes.ensures.bytes c.numbers-right_sizes.ensures.place c.at.ensures) c.if-size-at.false (element_from c.args.pair.now.left c.numbers-left.result _ (c.numbers-left.ensures.width ∙ c.element_width-width.ensures) c.numbers-left.ensures.bytes c.numbers-left.ensures.place c.at-in-loop-k.ensures) (element_from c.args.pair.now.right c.numbers-right.result _ (c.numbers-right.ensures.width ∙ (c.element_width-width.ensures ∙ widths_same c.requires.parts)) c.numbers-right.ensures.bytes c.numbers-right.ensures.place c.at-in-loop-k-2.ensures)) ∙ sym same ∙ c.if-not-equal_range.true)
 
 pub list_view::equal-loop-k-preserved : goal.list_view::equal-loop-k-preserved
 list_view::equal-loop-k-preserved t c =
     let same = rw c.child-child.ensures.same at c.equal_range.ensures in
-    rows_more c.loop-k.invariant c.loop-k-test.true (sym (view_answer c.requires.parts c.requires.layout c.loop-k.k c.loop-k-test.true (add-zero _) (add-zero _) (size_from c.args.pair.left c.numbers-left_sizes.result _ (c.numbers-left_sizes.ensures.width ∙ c.element_width-width.ensures) c.numbers-left_sizes.ensures.bytes c.numbers-left_sizes.ensures.place c.at-size.ensures) (size_from c.args.pair.right c.numbers-right_sizes.result _ (c.numbers-right_sizes.ensures.width ∙ (c.element_width-width.ensures ∙ widths_same c.requires.parts)) c.numbers-right_sizes.ensures.bytes c.numbers-right_sizes.ensures.place c.at.ensures) c.if-size-at.false (element_from c.args.pair.left c.numbers-left.result _ (c.numbers-left.ensures.width ∙ c.element_width-width.ensures) c.numbers-left.ensures.bytes c.numbers-left.ensures.place c.at-in-loop-k.ensures) (element_from c.args.pair.right c.numbers-right.result _ (c.numbers-right.ensures.width ∙ (c.element_width-width.ensures ∙ widths_same c.requires.parts)) c.numbers-right.ensures.bytes c.numbers-right.ensures.place c.at-in-loop-k-2.ensures)) ∙ sym same ∙ c.if-not-equal_range.false)
+    rows_more c.loop-k.invariant c.loop-k-test.true (sym (view_answer c.requires.parts c.requires.layout c.loop-k.k c.loop-k-test.true (add-zero _) (add-zero _) (size_from c.args.pair.now.left c.numbers-left_sizes.result _ (c.numbers-left_sizes.ensures.width ∙ c.element_width-width.ensures) c.numbers-left_sizes.ensures.bytes c.numbers-left_sizes.ensures.place c.at-size.ensures) (size_from c.args.pair.now.right c.numbers-right_sizes.result _ (c.numbers-right_sizes.ensures.width ∙ (c.element_width-width.ensures ∙ widths_same c.requires.parts)) c.numbers-right_sizes.ensures.bytes c.numbers-right_sizes.ensures.place c.at.ensures) c.if-size-at.false (element_from c.args.pair.now.left c.numbers-left.result _ (c.numbers-left.ensures.width ∙ c.element_width-width.ensures) c.numbers-left.ensures.bytes c.numbers-left.ensures.place c.at-in-loop-k.ensures) (element_from c.args.pair.now.right c.numbers-right.result _ (c.numbers-right.ensures.width ∙ (c.element_width-width.ensures ∙ widths_same c.requires.parts)) c.numbers-right.ensures.bytes c.numbers-right.ensures.place c.at-in-loop-k-2.ensures)) ∙ sym same ∙ c.if-not-equal_range.false)
 
 pub list_view::equal-returns : goal.list_view::equal-returns
 list_view::equal-returns t c = rows_done c.loop-k.invariant c.loop-k-test.false
@@ -559,17 +556,17 @@ pub union::dense-at-requires-in-loop-k : goal.union::dense-at-requires-in-loop-k
 union::dense-at-requires-in-loop-k t c = part_nth c.requires.parts.right c.loop-k.k (omega (arith, c.loop-k-test.true)) c.numbers-right.ensures.place (omega (arith, c.numbers-right.ensures.width))
 
 pub union::dense-equal_range-requires : goal.union::dense-equal_range-requires
-union::dense-equal_range-requires t c = (search rules, rw c.in-Some.ensures.same (dense_child c.requires.parts c.requires.layout c.loop-k.k c.loop-k-test.true (id_read _ _ _ c.buffer_place-ia.ensures c.byte-id.ensures) (id_read _ _ _ c.buffer_place-ib.ensures c.byte.ensures) c.if-id-byte.false (dense_from c.args.pair.left c.numbers-left.result _ c.numbers-left.ensures.width c.numbers-left.ensures.bytes c.numbers-left.ensures.place c.at.ensures) (dense_from c.args.pair.right c.numbers-right.result _ c.numbers-right.ensures.width c.numbers-right.ensures.bytes c.numbers-right.ensures.place c.at-in-loop-k.ensures)))
+union::dense-equal_range-requires t c = (search rules, rw c.in-Some.ensures.same (dense_child c.requires.parts c.requires.layout c.loop-k.k c.loop-k-test.true (id_read _ _ _ c.buffer_place-ia.ensures c.byte-id.ensures) (id_read _ _ _ c.buffer_place-ib.ensures c.byte.ensures) c.if-id-byte.false (dense_from c.args.pair.now.left c.numbers-left.result _ c.numbers-left.ensures.width c.numbers-left.ensures.bytes c.numbers-left.ensures.place c.at.ensures) (dense_from c.args.pair.now.right c.numbers-right.result _ c.numbers-right.ensures.width c.numbers-right.ensures.bytes c.numbers-right.ensures.place c.at-in-loop-k.ensures)))
 
 pub union::dense-loop-k-preserved : goal.union::dense-loop-k-preserved
 union::dense-loop-k-preserved t c =
     let same = rw c.in-Some.ensures.same at c.equal_range.ensures in
-    rows_more c.loop-k.invariant c.loop-k-test.true (sym (dense_row_lem c.requires.parts c.requires.layout c.loop-k.k c.loop-k-test.true (id_read _ _ _ c.buffer_place-ia.ensures c.byte-id.ensures) (id_read _ _ _ c.buffer_place-ib.ensures c.byte.ensures) c.if-id-byte.false (dense_from c.args.pair.left c.numbers-left.result _ c.numbers-left.ensures.width c.numbers-left.ensures.bytes c.numbers-left.ensures.place c.at.ensures) (dense_from c.args.pair.right c.numbers-right.result _ c.numbers-right.ensures.width c.numbers-right.ensures.bytes c.numbers-right.ensures.place c.at-in-loop-k.ensures)) ∙ sym same ∙ c.if-not-equal_range.false)
+    rows_more c.loop-k.invariant c.loop-k-test.true (sym (dense_row_lem c.requires.parts c.requires.layout c.loop-k.k c.loop-k-test.true (id_read _ _ _ c.buffer_place-ia.ensures c.byte-id.ensures) (id_read _ _ _ c.buffer_place-ib.ensures c.byte.ensures) c.if-id-byte.false (dense_from c.args.pair.now.left c.numbers-left.result _ c.numbers-left.ensures.width c.numbers-left.ensures.bytes c.numbers-left.ensures.place c.at.ensures) (dense_from c.args.pair.now.right c.numbers-right.result _ c.numbers-right.ensures.width c.numbers-right.ensures.bytes c.numbers-right.ensures.place c.at-in-loop-k.ensures)) ∙ sym same ∙ c.if-not-equal_range.false)
 
 pub union::dense-returns-then-not-equal_range : goal.union::dense-returns-then-not-equal_range
 union::dense-returns-then-not-equal_range t c =
     let same = rw c.in-Some.ensures.same at c.equal_range.ensures in
-    rows_fail c.loop-k.invariant c.loop-k-test.true (sym (dense_row_lem c.requires.parts c.requires.layout c.loop-k.k c.loop-k-test.true (id_read _ _ _ c.buffer_place-ia.ensures c.byte-id.ensures) (id_read _ _ _ c.buffer_place-ib.ensures c.byte.ensures) c.if-id-byte.false (dense_from c.args.pair.left c.numbers-left.result _ c.numbers-left.ensures.width c.numbers-left.ensures.bytes c.numbers-left.ensures.place c.at.ensures) (dense_from c.args.pair.right c.numbers-right.result _ c.numbers-right.ensures.width c.numbers-right.ensures.bytes c.numbers-right.ensures.place c.at-in-loop-k.ensures)) ∙ sym same ∙ c.if-not-equal_range.true)
+    rows_fail c.loop-k.invariant c.loop-k-test.true (sym (dense_row_lem c.requires.parts c.requires.layout c.loop-k.k c.loop-k-test.true (id_read _ _ _ c.buffer_place-ia.ensures c.byte-id.ensures) (id_read _ _ _ c.buffer_place-ib.ensures c.byte.ensures) c.if-id-byte.false (dense_from c.args.pair.now.left c.numbers-left.result _ c.numbers-left.ensures.width c.numbers-left.ensures.bytes c.numbers-left.ensures.place c.at.ensures) (dense_from c.args.pair.now.right c.numbers-right.result _ c.numbers-right.ensures.width c.numbers-right.ensures.bytes c.numbers-right.ensures.place c.at-in-loop-k.ensures)) ∙ sym same ∙ c.if-not-equal_range.true)
 
 pub union::dense-returns : goal.union::dense-returns
 union::dense-returns t c = rows_done c.loop-k.invariant c.loop-k-test.false
