@@ -14,8 +14,5 @@ returns-in_err-check c =
 pub returns-then-not-is_readable : goal.returns-then-not-is_readable
 returns-then-not-is_readable c = let both = build_unreadable _ _ _ _ (sym c.check.ensures ∙ c.in_ok-check.was) (sym c.is_readable.ensures ∙ c.if-not-is_readable.true) in record { value = both.0; out_after = both.1 }
 
-pub build-requires : goal.build-requires
-build-requires c = (sym c.check.ensures ∙ c.in_ok-check.was, sym c.is_readable.ensures ∙ c.if-not-is_readable.false)
-
 pub returns : goal.returns
 returns c = let both = build_rows _ _ _ _ (sym c.check.ensures ∙ c.in_ok-check.was) (sym c.is_readable.ensures ∙ c.if-not-is_readable.false) (c.build.ensures.value, c.build.ensures.out_after) in record { value = both.0; out_after = both.1 }

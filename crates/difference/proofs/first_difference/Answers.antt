@@ -10,14 +10,8 @@ use Rattle.difference.proofs.first_difference.Goals as goal
 pub loop-k-init : goal.loop-k-init
 loop-k-init c = passed_none _ _ _ _
 
-pub overflow_sub-n : goal.overflow_sub-n
-overflow_sub-n c = omega (arith, c.loop-k-test.true)
-
 pub part-part-requires : goal.part-part-requires
 part-part-requires c = omega (arith, c.loop-k-test.true, sides_left c.requires, sides_right c.requires)
-
-pub rows_equal-requires : goal.rows_equal-requires
-rows_equal-requires c = rw c.part-part.ensures (sides_inside c.requires _ _ (omega (arith, c.loop-k-test.true, c.block.ensures)))
 
 pub first_unequal_row-requires : goal.first_unequal_row-requires
 first_unequal_row-requires c =
@@ -35,12 +29,6 @@ returns-then-not-rows_equal c =
     let same = rw c.part-part.ensures at c.rows_equal.ensures in
     let found = rw c.part-part.ensures at c.first_unequal_row.ensures in
     row_found _ _ _ _ _ (block_within _ _ c.block.ensures) c.loop-k.invariant (rows_said _ _ _ _ _ same (c.if-not-rows_equal.true)) found
-
-pub overflow_add-k : goal.overflow_add-k
-overflow_add-k c = rw c.part-part.ensures (omega (arith, c.loop-k-test.true, c.block.ensures, sides_left c.requires))
-
-pub loop-k-smaller : goal.loop-k-smaller
-loop-k-smaller c = rw c.part-part.ensures (omega (arith, c.loop-k-test.true, c.block.ensures))
 
 pub loop-k-preserved : goal.loop-k-preserved
 loop-k-preserved c =

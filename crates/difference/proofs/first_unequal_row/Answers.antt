@@ -2,7 +2,7 @@
 -- The invariant: it lies from low on and before high; each turn halves the space between them.
 use mathlib.Core.Path.{◌∙◌}
 use Rattle.equal.proofs.Nulls.{sides_left, sides_right}
-use Rattle.difference.proofs.Search.{between_up, between_down, between_none, first_row, rows_said, rows_between, nulls_between, sides_inside}
+use Rattle.difference.proofs.Search.{between_up, between_down, between_none, first_row, rows_said, rows_between, nulls_between}
 use native.Mathlib.Omega.{arith}
 use Rattle.difference.proofs.first_unequal_row.Goals as goal
 use Rattle.difference.proofs.first_unequal_row.Goals.{then-null-rows, else-null-rows}
@@ -10,43 +10,19 @@ use Rattle.difference.proofs.first_unequal_row.Goals.{then-null-rows, else-null-
 pub first_unequal_null-null-requires : goal.first_unequal_null-null-requires
 first_unequal_null-null-requires c = record { left = omega (arith, sides_left c.requires.sides); right = omega (arith, sides_right c.requires.sides) }
 
-pub overflow_add-high : goal.overflow_add-high
-overflow_add-high c = omega (arith, c.if-null-rows.true, sides_left c.requires.sides)
-
 pub loop-high-init : goal.loop-high-init
 loop-high-init c =
     let roots = c.roots.ensures in
     let null = rw (roots.left_image, roots.left_root, roots.right_image, roots.right_root) at c.first_unequal_null-null.ensures in
     elim c.if-null-rows.branch [ then-null-rows w ↦ rw w.high-is (nulls_between c.requires.sides null w.if-null-rows.true) | else-null-rows w ↦ rw w.high-is (rows_between _ _ _ _ _ c.requires.unequal) ]
 
-pub overflow_sub-high : goal.overflow_sub-high
-overflow_sub-high c = omega (arith, c.loop-high.invariant.below)
-
-pub overflow_sub-middle : goal.overflow_sub-middle
-overflow_sub-middle c = omega (arith, c.loop-high.invariant.below)
-
-pub overflow_add-middle : goal.overflow_add-middle
-overflow_add-middle c = omega (arith, c.loop-high.invariant.below, c.loop-high.invariant.within, sides_left c.requires.sides)
-
 pub part-requires : goal.part-requires
 part-requires c = omega (arith, c.loop-high.invariant.below, c.loop-high.invariant.within, sides_left c.requires.sides, sides_right c.requires.sides)
-
-pub overflow_sub-middle-in-loop-high : goal.overflow_sub-middle-in-loop-high
-overflow_sub-middle-in-loop-high c = omega (arith, c.loop-high.invariant.below)
-
-pub rows_equal-requires : goal.rows_equal-requires
-rows_equal-requires c = rw c.part.ensures (sides_inside c.requires.sides _ _ (omega (arith, c.loop-high.invariant.below, c.loop-high.invariant.within)))
-
-pub loop-high-smaller-then-rows_equal : goal.loop-high-smaller-then-rows_equal
-loop-high-smaller-then-rows_equal c = omega (arith, c.loop-high.invariant.below, c.loop-high-test.true)
 
 pub loop-high-preserved-then-rows_equal : goal.loop-high-preserved-then-rows_equal
 loop-high-preserved-then-rows_equal c =
     let same = rw c.part.ensures at c.rows_equal.ensures in
     between_up _ _ _ _ c.loop-high.invariant (omega (arith, c.loop-high-test.true)) (omega (arith, c.loop-high-test.true)) (rows_said _ _ _ _ _ same c.if-rows_equal.true)
-
-pub loop-high-smaller : goal.loop-high-smaller
-loop-high-smaller c = omega (arith, c.loop-high.invariant.below, c.loop-high-test.true)
 
 pub loop-high-preserved : goal.loop-high-preserved
 loop-high-preserved c =
