@@ -41,7 +41,8 @@ impl<'a> Pair<'a> {
         }
     }
 
-    // The elements that rows of the two read.
+    // The elements that rows of the two read. It is part of what calls it: for a short range a call takes longer than the sums.
+    #[inline(always)]
     pub fn elements(self, rows: Rows) -> Rows
         requires { (rows.left < 2 ^ 63) × (rows.right < 2 ^ 63) }
         ensures { result ≡ from_offset self.entry rows }
