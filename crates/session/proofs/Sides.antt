@@ -23,6 +23,7 @@ use Rattle.session.specs.Frames.{frame_of}
 use Rattle.session.specs.Steps.{SideState, State, side_state, side_stepped, emptied, image_of, past_store, piece_side, piece_store, close_side, closed_both, both_closed, write_reply, write_out, piece_stepped, close_stepped, write_stepped, written_out, empty_stepped, After, obeyed}
 use Rattle.session.specs.declared.store.Store.{Store}
 use Rattle.session.specs.declared.step.Session.{Session}
+use Rattle.session.proofs.Fronts.{front_same}
 use Rattle.session.specs.Stores.{side_of_store, state_of, store_at, with_store, after_of}
 
 -- the arm that a test takes
@@ -33,6 +34,11 @@ yes false x y e = cc
 no : {A : Type 0} (b : Bool) (x y : A) → b ≡ false → y ≡ cond b x y
 no true x y e = cc
 no false x y e = refl
+
+-- as many bytes as a store's image has, from the store's front on, are its image
+pub front_image : (store : List ℕ) (s : SideState) (n : ℕ) → n ≡ length (image_of s store) → take n store ≡ image_of s store
+unfolding image_of
+front_image store s n fills = front_same n s.used store fills
 
 -- a store's image, and a close of an open side
 module _ (store : List ℕ) (s : SideState) (image : List ℕ) (is_image : image ≡ image_of s store) where
