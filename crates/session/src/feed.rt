@@ -13,8 +13,8 @@ pub fn line_feed(chunk: &[u8]) -> Option<usize>
 }
 
 // The first characters of a line: all that have come, or 195 where there are more.
-// Kept: a store is an array and how much of it is used, too. One struct for both, over the size, has four methods with
-// contracts of their own, and takes no more lines away than it has: of what does not fit a line drops the rest, a store nothing.
+// Kept: a store is an array and how much of it is used, too. One struct for both, over the size, would save two lines of code
+// and add a clause: both still add in their own way, since of what does not fit a line takes a part and a store nothing.
 #[derive(Drop)]
 pub struct Line {
     chars: [u8; KEPT],
