@@ -35,23 +35,22 @@ use native.Mathlib.Omega.{arith}
 use borrow.Author.Tests.{not-false}
 use borrow.Author.Rules.{rules}
 use Rattle.image.specs.Row.{fixed_row, view_row}
-use Rattle.accepted.proofs.Nodes.{part_small, part_nth, layout_is, id_read}
+use Rattle.accepted.proofs.Nodes.{part_small, layout_is, id_read}
 use Rattle.equal.proofs.Buffers.{element_from, size_from, dense_from}
-use Rattle.equal.proofs.Child.{widths_same, layout_right, parts_inside}
+use Rattle.equal.proofs.Child.{widths_same, layout_right}
 use Rattle.equal.proofs.Rows.{rows_none, rows_more, rows_fail, rows_done, one_row, rows_jump, rows_jump_fail, rows_rest}
-use Rattle.equal.proofs.Dictionaries.{key_narrow, key_nodes, key_requires, key_answer, key_small, key_same, kept_none, kept_equal, kept_more}
-use Rattle.equal.proofs.Nulls.{sides_left, sides_right, range_none, range_sides, range_rows, range_masks, range_requires, range_answer, null_more, valid_requires, valid_more, valid_fail, masked_requires, masked_answer}
+use Rattle.equal.proofs.Dictionaries.{key_nodes, key_requires, key_answer, key_small, key_same, kept_none, kept_equal, kept_more}
+use Rattle.equal.proofs.Nulls.{sides_left, sides_right, range_none, range_sides, range_rows, range_masks, range_requires, range_answer, null_more, valid_requires, valid_more, valid_fail, masked_answer}
 use mathlib.Core.List.{[], ◌∷◌}
 use Rattle.image.specs.declared.type_code.Layout.TheVariants.{FixedWidth, View, Null, Boolean, VariableSize, List as Lists, ListView, FixedList, Struct, DenseUnion, SparseUnion, Dictionary, Runs}
 use Rattle.image.proofs.CodeTable.{at_layouts}
-use mathlib.Core.Logic.{inl, inr}
-use Rattle.equal.proofs.Values.{parts_shallow, by_layout, null_values}
-use Rattle.equal.proofs.FixedLists.{fixed_list_left, fixed_list_right, fixed_list_requires, fixed_list_answer}
-use Rattle.equal.proofs.Lists.{spans_differ, list_spans, list_narrow_left, list_narrow_right, list_order, list_requires, list_answer}
-use Rattle.equal.proofs.ListViews.{view_narrow, view_differs, view_requires, view_answer}
-use Rattle.equal.proofs.Runs.{stepping_start, run_nodes, run_small, run_above, step_requires, step_fail, step_some, step_again, run_parts, together_requires, together_answer}
-use Rattle.accepted.proofs.RunEnds.{run_first, end_nth, end_is}
-use Rattle.equal.proofs.Structs.{columns_start, struct_requires, columns_more_left, columns_fail, columns_done}
+use Rattle.equal.proofs.Values.{by_layout, null_values}
+use Rattle.equal.proofs.FixedLists.{fixed_list_requires, fixed_list_answer}
+use Rattle.equal.proofs.Lists.{spans_differ, list_spans, list_order, list_requires, list_answer}
+use Rattle.equal.proofs.ListViews.{view_differs, view_requires, view_answer}
+use Rattle.equal.proofs.Runs.{run_nodes, run_small, run_above, step_requires, step_fail, step_some, step_again, together_requires, together_answer}
+use Rattle.accepted.proofs.RunEnds.{end_nth, end_is}
+use Rattle.equal.proofs.Structs.{struct_requires, columns_more_left, columns_fail, columns_done}
 use Rattle.equal.proofs.Unions.{sparse_differs, sparse_never, sparse_child, sparse_row_lem, sparse_inside, whole_children, dense_differs, dense_never, dense_child, dense_row_lem}
 use Rattle.equal.proofs.+rows.Goals as goal
 use Rattle.equal.proofs.+rows.Goals.{dictionary::long_equal-then-ne+else-not-equal_row, dictionary::long_equal-else-ne}
@@ -68,9 +67,6 @@ equal_range-returns-then-not-equal_nulls t c = range_masks c.requires c.if-depth
 pub equal_range-contains_nulls-requires : goal.equal_range-contains_nulls-requires
 equal_range-contains_nulls-requires t c = omega (arith, sides_left c.requires)
 
-pub equal_range-overflow_sub-depth : goal.equal_range-overflow_sub-depth
-equal_range-overflow_sub-depth t c = omega arith
-
 pub equal_range-equal_valid-requires : goal.equal_range-equal_valid-requires
 equal_range-equal_valid-requires t c = (omega arith, (range_sides c.requires c.if-depth-eq0.false, (sym c.equal_nulls.ensures ∙ c.if-not-equal_nulls.false)))
 
@@ -80,44 +76,23 @@ equal_range-returns-then-contains_nulls t c = c.equal_valid.ensures ∙ range_ro
 pub equal_range-elements-requires : goal.equal_range-elements-requires
 equal_range-elements-requires t c = (omega (arith, sides_left c.requires), omega (arith, sides_right c.requires))
 
-pub equal_range-overflow_sub-depth-2 : goal.equal_range-overflow_sub-depth-2
-equal_range-overflow_sub-depth-2 t c = omega arith
-
 pub equal_range-equal_values-requires : goal.equal_range-equal_values-requires
 equal_range-equal_values-requires t c = (omega arith, rw c.elements.ensures (range_requires c.requires c.if-depth-eq0.false (sym c.equal_nulls.ensures ∙ c.if-not-equal_nulls.false) (not-false _ (sym c.contains_nulls.ensures ∙ c.if-contains_nulls.false))))
 
 pub equal_range-returns : goal.equal_range-returns
 equal_range-returns t c = (rw c.elements.ensures at c.equal_values.ensures) ∙ range_answer c.requires c.if-depth-eq0.false (sym c.equal_nulls.ensures ∙ c.if-not-equal_nulls.false) (not-false _ (sym c.contains_nulls.ensures ∙ c.if-contains_nulls.false))
 
-pub equal_valid-masked_equal-requires : goal.equal_valid-masked_equal-requires
-equal_valid-masked_equal-requires t c = masked_requires c.requires.sides (layout_is c.code.ensures c.layout-layout.ensures (at_layouts (2 ∷ []) FixedWidth (λ l. l) refl c.layout-layout.result c.in-FixedWidth.in-FixedWidth-own.keys1)) c.requires.masks
-
 pub equal_valid-returns-in-FixedWidth : goal.equal_valid-returns-in-FixedWidth
 equal_valid-returns-in-FixedWidth t c = c.masked_equal.ensures ∙ masked_answer c.requires.sides (layout_is c.code.ensures c.layout-layout.ensures (at_layouts (2 ∷ []) FixedWidth (λ l. l) refl c.layout-layout.result c.in-FixedWidth.in-FixedWidth-own.keys1)) fixed_row (λ A s k j. refl)
-
-pub equal_valid-masked_views_equal-requires : goal.equal_valid-masked_views_equal-requires
-equal_valid-masked_views_equal-requires t c = masked_requires c.requires.sides (layout_is c.code.ensures c.layout-layout.ensures (at_layouts (4 ∷ []) View (λ l. l) refl c.layout-layout.result c.in-View.in-View-own.keys1)) c.requires.masks
 
 pub equal_valid-returns-in-View : goal.equal_valid-returns-in-View
 equal_valid-returns-in-View t c = c.masked_views_equal.ensures ∙ masked_answer c.requires.sides (layout_is c.code.ensures c.layout-layout.ensures (at_layouts (4 ∷ []) View (λ l. l) refl c.layout-layout.result c.in-View.in-View-own.keys1)) view_row (λ A s k j. refl)
 
-pub equal_valid-loop-k-init : goal.equal_valid-loop-k-init
-equal_valid-loop-k-init t c = rows_none _ _ _ _ _
-
 pub equal_valid-overflow_add-rows : goal.equal_valid-overflow_add-rows
 equal_valid-overflow_add-rows t c = omega (arith, sides_left c.requires.sides, sides_right c.requires.sides, c.loop-k-test.true)
 
-pub equal_valid-overflow_sub-n : goal.equal_valid-overflow_sub-n
-equal_valid-overflow_sub-n t c = omega arith
-
 pub equal_valid-valid_rows-run-requires : goal.equal_valid-valid_rows-run-requires
 equal_valid-valid_rows-run-requires t c = omega (arith, sides_left c.requires.sides, sides_right c.requires.sides, c.loop-k-test.true)
-
-pub equal_valid-overflow_add-k : goal.equal_valid-overflow_add-k
-equal_valid-overflow_add-k t c = omega (arith, sides_left c.requires.sides, sides_right c.requires.sides, c.loop-k-test.true)
-
-pub equal_valid-loop-k-smaller-then-run-eq0 : goal.equal_valid-loop-k-smaller-then-run-eq0
-equal_valid-loop-k-smaller-then-run-eq0 t c = omega arith
 
 pub equal_valid-loop-k-preserved-then-run-eq0 : goal.equal_valid-loop-k-preserved-then-run-eq0
 equal_valid-loop-k-preserved-then-run-eq0 t c = null_more c.requires.sides c.requires.masks c.loop-k.invariant c.valid_rows-run.ensures c.loop-k-test.true c.if-run-eq0.true
@@ -136,12 +111,6 @@ equal_valid-returns-then-not-equal_values t c =
     let same = rw (c.part.ensures, c.elements-elements.ensures) at c.equal_values.ensures in
     valid_fail c.requires.sides c.requires.masks c.loop-k.invariant c.valid_rows-run.ensures (sym same ∙ c.if-not-equal_values.true)
 
-pub equal_valid-overflow_add-k-else-run-eq0 : goal.equal_valid-overflow_add-k-else-run-eq0
-equal_valid-overflow_add-k-else-run-eq0 t c = omega (arith, c.valid_rows-run.ensures.within, sides_left c.requires.sides)
-
-pub equal_valid-loop-k-smaller : goal.equal_valid-loop-k-smaller
-equal_valid-loop-k-smaller t c = omega (arith, c.valid_rows-run.ensures.within, c.if-run-eq0.false)
-
 pub equal_valid-loop-k-preserved : goal.equal_valid-loop-k-preserved
 equal_valid-loop-k-preserved t c =
     let same = rw (c.part.ensures, c.elements-elements.ensures) at c.equal_values.ensures in
@@ -149,42 +118,6 @@ equal_valid-loop-k-preserved t c =
 
 pub equal_valid-returns : goal.equal_valid-returns
 equal_valid-returns t c = rows_done c.loop-k.invariant c.loop-k-test.false
-
-pub equal_values-boolean_equal-requires : goal.equal_values-boolean_equal-requires
-equal_values-boolean_equal-requires t c = record { parts = parts_shallow c.requires; layout = (layout_is c.code.ensures c.layout-layout.ensures (at_layouts (1 ∷ []) Boolean (λ l. l) refl c.layout-layout.result c.in-Boolean.in-Boolean-own.keys2)) }
-
-pub equal_values-primitive_equal-requires : goal.equal_values-primitive_equal-requires
-equal_values-primitive_equal-requires t c = record { parts = parts_shallow c.requires; layout = (layout_is c.code.ensures c.layout-layout.ensures (at_layouts (2 ∷ []) FixedWidth (λ l. l) refl c.layout-layout.result c.in-FixedWidth.in-FixedWidth-own.keys3)) }
-
-pub equal_values-variable_sized_equal-requires : goal.equal_values-variable_sized_equal-requires
-equal_values-variable_sized_equal-requires t c = record { parts = parts_shallow c.requires; layout = (layout_is c.code.ensures c.layout-layout.ensures (at_layouts (3 ∷ []) VariableSize (λ l. l) refl c.layout-layout.result c.in-VariableSize.in-VariableSize-own.keys4)) }
-
-pub equal_values-byte_view_equal-requires : goal.equal_values-byte_view_equal-requires
-equal_values-byte_view_equal-requires t c = record { parts = parts_shallow c.requires; layout = (layout_is c.code.ensures c.layout-layout.ensures (at_layouts (4 ∷ []) View (λ l. l) refl c.layout-layout.result c.in-View.in-View-own.keys5)) }
-
-pub equal_values-equal-requires : goal.equal_values-equal-requires
-equal_values-equal-requires t c = (search rules, record { parts = c.requires; layout = (layout_is c.code.ensures c.layout-layout.ensures (at_layouts (5 ∷ []) Lists (λ l. l) refl c.layout-layout.result c.in-List.in-List-own.keys6)) })
-
-pub equal_values-equal-requires-in-ListView : goal.equal_values-equal-requires-in-ListView
-equal_values-equal-requires-in-ListView t c = (search rules, record { parts = c.requires; layout = (layout_is c.code.ensures c.layout-layout.ensures (at_layouts (6 ∷ []) ListView (λ l. l) refl c.layout-layout.result c.in-ListView.in-ListView-own.keys7)) })
-
-pub equal_values-equal-requires-in-FixedList : goal.equal_values-equal-requires-in-FixedList
-equal_values-equal-requires-in-FixedList t c = (search rules, record { parts = c.requires; layout = (layout_is c.code.ensures c.layout-layout.ensures (at_layouts (7 ∷ []) FixedList (λ l. l) refl c.layout-layout.result c.in-FixedList.in-FixedList-own.keys8)) })
-
-pub equal_values-equal-requires-in-Struct : goal.equal_values-equal-requires-in-Struct
-equal_values-equal-requires-in-Struct t c = (search rules, (c.requires, inl (layout_is c.code.ensures c.layout-layout.ensures (at_layouts (8 ∷ []) Struct (λ l. l) refl c.layout-layout.result c.in-Struct.in-Struct-own.keys9))))
-
-pub equal_values-dense-requires : goal.equal_values-dense-requires
-equal_values-dense-requires t c = (search rules, record { parts = c.requires; layout = (layout_is c.code.ensures c.layout-layout.ensures (at_layouts (9 ∷ []) DenseUnion (λ l. l) refl c.layout-layout.result c.in-DenseUnion.in-DenseUnion-own.keys10)) })
-
-pub equal_values-sparse-requires : goal.equal_values-sparse-requires
-equal_values-sparse-requires t c = (search rules, record { parts = c.requires; layout = (layout_is c.code.ensures c.layout-layout.ensures (at_layouts (10 ∷ []) SparseUnion (λ l. l) refl c.layout-layout.result c.in-SparseUnion.in-SparseUnion-own.keys11)) })
-
-pub equal_values-equal-requires-in-Dictionary : goal.equal_values-equal-requires-in-Dictionary
-equal_values-equal-requires-in-Dictionary t c = (search rules, record { parts = c.requires; layout = (layout_is c.code.ensures c.layout-layout.ensures (at_layouts (11 ∷ []) Dictionary (λ l. l) refl c.layout-layout.result c.in-Dictionary.in-Dictionary-own.keys12)) })
-
-pub equal_values-equal-requires-in-Runs : goal.equal_values-equal-requires-in-Runs
-equal_values-equal-requires-in-Runs t c = (search rules, record { parts = c.requires; layout = (layout_is c.code.ensures c.layout-layout.ensures (at_layouts (12 ∷ []) Runs (λ l. l) refl c.layout-layout.result c.in-Runs.in-Runs-own.keys13)) })
 
 pub equal_values-returns-in-Null : goal.equal_values-returns-in-Null
 equal_values-returns-in-Null t c = c.null_equal.ensures ∙ null_values c.requires (layout_is c.code.ensures c.layout-layout.ensures (at_layouts (0 ∷ []) Null (λ l. l) refl c.layout-layout.result c.in-Null.in-Null-own.keys1))
@@ -228,47 +161,17 @@ equal_values-returns-in-Runs t c = c.equal-in-Runs.ensures ∙ by_layout c.requi
 pub run::equal-returns-then-n-eq0 : goal.run::equal-returns-then-n-eq0
 run::equal-returns-then-n-eq0 t c = rows_done (rows_none _ _ _ _ _) (omega (arith, c.if-n-eq0.true))
 
-pub run::equal-run_of-i-requires : goal.run::equal-run_of-i-requires
-run::equal-run_of-i-requires t c = run_first c.requires.parts.left c.requires.layout (omega (arith, c.if-n-eq0.false))
-
-pub run::equal-run_of-j-requires : goal.run::equal-run_of-j-requires
-run::equal-run_of-j-requires t c = run_first c.requires.parts.right (layout_right c.requires.parts c.requires.layout) (omega (arith, c.if-n-eq0.false))
-
-pub run::equal-same_runs-requires : goal.run::equal-same_runs-requires
-run::equal-same_runs-requires t c = run_parts c.requires.parts c.requires.layout (omega (arith, c.if-n-eq0.false)) c.run_of-i.ensures c.run_of-j.ensures
-
-pub run::equal-runs-init : goal.run::equal-runs-init
-run::equal-runs-init t c = (refl, (stepping_start _ _ _ _ _ _ _ c.run_of-i.ensures c.run_of-j.ensures, rows_none _ _ _ _ _))
-
-pub run::equal-overflow_add-s : goal.run::equal-overflow_add-s
-run::equal-overflow_add-s t c = omega (arith, part_small c.requires.parts.left, c.runs-test.true)
-
 pub run::equal-overflow_sub-x : goal.run::equal-overflow_sub-x
 run::equal-overflow_sub-x t c = omega (arith, run_above c.requires.parts.left c.requires.layout c.runs-test.true (c.runs.invariant.1.0.left c.runs-test.true) (end_is c.ends-left.ensures _ c.at-x.ensures))
-
-pub run::equal-overflow_add-t : goal.run::equal-overflow_add-t
-run::equal-overflow_add-t t c = omega (arith, part_small c.requires.parts.right, c.runs-test.true)
 
 pub run::equal-overflow_sub-y : goal.run::equal-overflow_sub-y
 run::equal-overflow_sub-y t c = omega (arith, run_above c.requires.parts.right (layout_right c.requires.parts c.requires.layout) c.runs-test.true (c.runs.invariant.1.0.right c.runs-test.true) (end_is c.ends-right.ensures _ c.at-y.ensures))
 
-pub run::equal-overflow_sub-n : goal.run::equal-overflow_sub-n
-run::equal-overflow_sub-n t c = omega arith
-
-pub run::equal-overflow_add-k : goal.run::equal-overflow_add-k
-run::equal-overflow_add-k t c = omega (arith, part_small c.requires.parts.left)
-
 pub run::equal-overflow_sub-last : goal.run::equal-overflow_sub-last
 run::equal-overflow_sub-last t c = omega (arith, step_some c.requires.parts c.requires.layout c.runs.invariant.1.0 c.runs-test.true (end_is c.ends-left.ensures _ c.at-x.ensures) (end_is c.ends-right.ensures _ c.at-y.ensures) c.min.ensures c.min-step.ensures)
 
-pub run::equal-overflow_add-s-in-runs : goal.run::equal-overflow_add-s-in-runs
-run::equal-overflow_add-s-in-runs t c = omega (arith, part_small c.requires.parts.left)
-
 pub run::equal-next_run-i-requires : goal.run::equal-next_run-i-requires
 run::equal-next_run-i-requires t c = (omega (arith, part_small c.requires.parts.left), omega (arith, run_small c.requires.parts.left c.requires.layout c.runs-test.true (c.runs.invariant.1.0.left c.runs-test.true)))
-
-pub run::equal-overflow_add-t-in-runs : goal.run::equal-overflow_add-t-in-runs
-run::equal-overflow_add-t-in-runs t c = omega (arith, part_small c.requires.parts.right)
 
 pub run::equal-next_run-j-requires : goal.run::equal-next_run-j-requires
 run::equal-next_run-j-requires t c = (omega (arith, part_small c.requires.parts.right), omega (arith, run_small c.requires.parts.right (layout_right c.requires.parts c.requires.layout) c.runs-test.true (c.runs.invariant.1.0.right c.runs-test.true)))
@@ -292,32 +195,8 @@ run::equal-returns-then-not-equal_row t c =
 pub equal_row-leaf_equal-requires : goal.equal_row-leaf_equal-requires
 equal_row-leaf_equal-requires t c = record { sides = range_sides c.requires.sides (λ z. omega (arith, c.if-depth-gt0.true)); leaves = rw c.in-Some.is at c.requires.leaves }
 
-pub equal_row-returns-in-Some : goal.equal_row-returns-in-Some
-equal_row-returns-in-Some t c = c.leaf_equal.ensures ∙ range_rows c.requires.sides (λ z. omega (arith, c.if-depth-gt0.true))
-
-pub equal_row-equal_range-requires : goal.equal_row-equal_range-requires
-equal_row-equal_range-requires t c = (search rules, c.requires.sides)
-
-pub equal_row-returns : goal.equal_row-returns
-equal_row-returns t c = c.equal_range.ensures
-
 pub dictionary::equal-leaves_of-leaves-requires : goal.dictionary::equal-leaves_of-leaves-requires
 dictionary::equal-leaves_of-leaves-requires t c = rw c.child-child.ensures.same (key_nodes c.requires.parts c.requires.layout (add-zero _) (add-zero _))
-
-pub dictionary::equal-loop-k-init : goal.dictionary::equal-loop-k-init
-dictionary::equal-loop-k-init t c = rows_none _ _ _ _ _
-
-pub dictionary::equal-overflow_add-rows : goal.dictionary::equal-overflow_add-rows
-dictionary::equal-overflow_add-rows t c = omega (arith, part_small c.requires.parts.left, part_small c.requires.parts.right, c.loop-k-test.true)
-
-pub dictionary::equal-overflow_add-rows-in-loop-k : goal.dictionary::equal-overflow_add-rows-in-loop-k
-dictionary::equal-overflow_add-rows-in-loop-k t c = omega (arith, part_small c.requires.parts.left, part_small c.requires.parts.right, c.loop-k-test.true)
-
-pub dictionary::equal-at-x-requires : goal.dictionary::equal-at-x-requires
-dictionary::equal-at-x-requires t c = part_nth c.requires.parts.left c.loop-k.k (omega (arith, c.loop-k-test.true)) c.numbers-left.ensures.place (omega (arith, c.numbers-left.ensures.width, c.element_width-width.ensures, key_narrow c.requires.parts c.requires.layout))
-
-pub dictionary::equal-at-y-requires : goal.dictionary::equal-at-y-requires
-dictionary::equal-at-y-requires t c = part_nth c.requires.parts.right c.loop-k.k (omega (arith, c.loop-k-test.true)) c.numbers-right.ensures.place (omega (arith, c.numbers-right.ensures.width, c.element_width-width.ensures, key_narrow c.requires.parts c.requires.layout))
 
 pub dictionary::equal-equal_row-requires : goal.dictionary::equal-equal_row-requires
 dictionary::equal-equal_row-requires t c = (search rules, (rw c.child-child.ensures.same (key_requires c.requires.parts c.requires.layout c.loop-k.k c.loop-k-test.true (add-zero _) (add-zero _) (element_from c.args.pair.now.left c.numbers-left.result _ (c.numbers-left.ensures.width ∙ c.element_width-width.ensures) c.numbers-left.ensures.bytes c.numbers-left.ensures.place c.at-x.ensures) (element_from c.args.pair.now.right c.numbers-right.result _ (c.numbers-right.ensures.width ∙ (c.element_width-width.ensures ∙ widths_same c.requires.parts)) c.numbers-right.ensures.bytes c.numbers-right.ensures.place c.at-y.ensures)), c.leaves_of-leaves.ensures))
@@ -335,29 +214,11 @@ dictionary::equal-loop-k-preserved t c =
 pub dictionary::equal-returns : goal.dictionary::equal-returns
 dictionary::equal-returns t c = rows_done c.loop-k.invariant c.loop-k-test.false
 
-pub dictionary::equal-long_equal-requires : goal.dictionary::equal-long_equal-requires
-dictionary::equal-long_equal-requires t c = (search rules, c.requires)
-
-pub dictionary::equal-returns-then-rows-ge-LONG : goal.dictionary::equal-returns-then-rows-ge-LONG
-dictionary::equal-returns-then-rows-ge-LONG t c = c.long_equal.ensures
-
 pub dictionary::long_equal-leaves_of-leaves-requires : goal.dictionary::long_equal-leaves_of-leaves-requires
 dictionary::long_equal-leaves_of-leaves-requires t c = rw c.child-child.ensures.same (key_nodes c.requires.parts c.requires.layout (add-zero _) (add-zero _))
 
 pub dictionary::long_equal-loop-row-init : goal.dictionary::long_equal-loop-row-init
 dictionary::long_equal-loop-row-init t c = (kept_none _ _, rows_none _ _ _ _ _)
-
-pub dictionary::long_equal-overflow_add-rows : goal.dictionary::long_equal-overflow_add-rows
-dictionary::long_equal-overflow_add-rows t c = omega (arith, part_small c.requires.parts.left, part_small c.requires.parts.right, c.loop-row-test.true)
-
-pub dictionary::long_equal-overflow_add-rows-in-loop-row : goal.dictionary::long_equal-overflow_add-rows-in-loop-row
-dictionary::long_equal-overflow_add-rows-in-loop-row t c = omega (arith, part_small c.requires.parts.left, part_small c.requires.parts.right, c.loop-row-test.true)
-
-pub dictionary::long_equal-at-x-requires : goal.dictionary::long_equal-at-x-requires
-dictionary::long_equal-at-x-requires t c = part_nth c.requires.parts.left c.loop-row.row (omega (arith, c.loop-row-test.true)) c.numbers-left.ensures.place (omega (arith, c.numbers-left.ensures.width, c.element_width-width.ensures, key_narrow c.requires.parts c.requires.layout))
-
-pub dictionary::long_equal-at-y-requires : goal.dictionary::long_equal-at-y-requires
-dictionary::long_equal-at-y-requires t c = part_nth c.requires.parts.right c.loop-row.row (omega (arith, c.loop-row-test.true)) c.numbers-right.ensures.place (omega (arith, c.numbers-right.ensures.width, c.element_width-width.ensures, key_narrow c.requires.parts c.requires.layout))
 
 pub dictionary::long_equal-equal_row-requires : goal.dictionary::long_equal-equal_row-requires
 dictionary::long_equal-equal_row-requires t c = (search rules, (rw c.child-child.ensures.same (key_requires c.requires.parts c.requires.layout c.loop-row.row c.loop-row-test.true (add-zero _) (add-zero _) (element_from c.args.pair.now.left c.numbers-left.result _ (c.numbers-left.ensures.width ∙ c.element_width-width.ensures) c.numbers-left.ensures.bytes c.numbers-left.ensures.place c.at-x.ensures) (element_from c.args.pair.now.right c.numbers-right.result _ (c.numbers-right.ensures.width ∙ (c.element_width-width.ensures ∙ widths_same c.requires.parts)) c.numbers-right.ensures.bytes c.numbers-right.ensures.place c.at-y.ensures)), c.leaves_of-leaves.ensures))
@@ -388,15 +249,6 @@ dictionary::long_equal-loop-row-preserved t c =
           (c.loop-row.invariant.0, rows_more c.loop-row.invariant.1 c.loop-row-test.true (sym (key_same c.requires.parts c.requires.layout c.loop-row.row c.loop-row-test.true (add-zero _) (add-zero _) (element_from c.args.pair.now.left c.numbers-left.result _ (c.numbers-left.ensures.width ∙ c.element_width-width.ensures) c.numbers-left.ensures.bytes c.numbers-left.ensures.place c.at-x.ensures) (element_from c.args.pair.now.right c.numbers-right.result _ (c.numbers-right.ensures.width ∙ (c.element_width-width.ensures ∙ widths_same c.requires.parts)) c.numbers-right.ensures.bytes c.numbers-right.ensures.place c.at-y.ensures)) ∙ kept_equal c.loop-row.invariant.0 _ _ (omega (arith, key_small c.requires.parts c.requires.layout c.loop-row.row c.loop-row-test.true (add-zero _) (add-zero _) (element_from c.args.pair.now.left c.numbers-left.result _ (c.numbers-left.ensures.width ∙ c.element_width-width.ensures) c.numbers-left.ensures.bytes c.numbers-left.ensures.place c.at-x.ensures) (element_from c.args.pair.now.right c.numbers-right.result _ (c.numbers-right.ensures.width ∙ (c.element_width-width.ensures ∙ widths_same c.requires.parts)) c.numbers-right.ensures.bytes c.numbers-right.ensures.place c.at-y.ensures))) c.ne.ensures w.if-ne.false))
     ]
 
-pub fixed_list::equal-overflow_mul-items : goal.fixed_list::equal-overflow_mul-items
-fixed_list::equal-overflow_mul-items t c = omega (arith, fixed_list_left c.requires.parts c.requires.layout c.p1-size.ensures)
-
-pub fixed_list::equal-overflow_mul-items-2 : goal.fixed_list::equal-overflow_mul-items-2
-fixed_list::equal-overflow_mul-items-2 t c = omega (arith, fixed_list_right c.requires.parts c.requires.layout c.p1-size.ensures)
-
-pub fixed_list::equal-overflow_mul-items-3 : goal.fixed_list::equal-overflow_mul-items-3
-fixed_list::equal-overflow_mul-items-3 t c = omega (arith, fixed_list_left c.requires.parts c.requires.layout c.p1-size.ensures)
-
 pub fixed_list::equal-equal_range-requires : goal.fixed_list::equal-equal_range-requires
 fixed_list::equal-equal_range-requires t c = (search rules, rw c.child.ensures.same (fixed_list_requires c.requires.parts c.requires.layout c.p1-size.ensures (add-zero _) (add-zero _)))
 
@@ -411,18 +263,6 @@ list::equal-lengths_equal-requires t c = list_spans c.requires.parts c.requires.
 pub list::equal-returns-then-not-lengths_equal : goal.list::equal-returns-then-not-lengths_equal
 list::equal-returns-then-not-lengths_equal t c = spans_differ _ _ _ _ _ _ _ _ _ (sym c.lengths_equal.ensures ∙ c.if-not-lengths_equal.true)
 
-pub list::equal-offset_at-from-requires : goal.list::equal-offset_at-from-requires
-list::equal-offset_at-from-requires t c = (list_narrow_left c.requires.parts c.requires.layout, omega (arith, part_small c.requires.parts.left))
-
-pub list::equal-overflow_add-rows : goal.list::equal-overflow_add-rows
-list::equal-overflow_add-rows t c = omega (arith, part_small c.requires.parts.left)
-
-pub list::equal-offset_at-to-requires : goal.list::equal-offset_at-to-requires
-list::equal-offset_at-to-requires t c = (list_narrow_left c.requires.parts c.requires.layout, omega (arith, part_small c.requires.parts.left))
-
-pub list::equal-offset_at-start-requires : goal.list::equal-offset_at-start-requires
-list::equal-offset_at-start-requires t c = (list_narrow_right c.requires.parts c.requires.layout, omega (arith, part_small c.requires.parts.right))
-
 pub list::equal-overflow_sub-items : goal.list::equal-overflow_sub-items
 list::equal-overflow_sub-items t c = list_order c.requires.parts c.requires.layout (sym c.lengths_equal.ensures ∙ c.if-not-lengths_equal.false) (add-zero _) (add-zero _) c.offset_at-from.ensures c.offset_at-to.ensures c.offset_at-start.ensures
 
@@ -433,33 +273,6 @@ pub list::equal-returns : goal.list::equal-returns
 list::equal-returns t c =
     let same = rw c.child.ensures.same at c.equal_range.ensures in
     same ∙ list_answer c.requires.parts c.requires.layout (sym c.lengths_equal.ensures ∙ c.if-not-lengths_equal.false) (add-zero _) (add-zero _) c.offset_at-from.ensures c.offset_at-to.ensures c.offset_at-start.ensures
-
-pub list_view::equal-loop-k-init : goal.list_view::equal-loop-k-init
-list_view::equal-loop-k-init t c = rows_none _ _ _ _ _
-
-pub list_view::equal-overflow_add-rows-in-loop-k-3 : goal.list_view::equal-overflow_add-rows-in-loop-k-3
-list_view::equal-overflow_add-rows-in-loop-k-3 t c = omega (arith, part_small c.requires.parts.left, part_small c.requires.parts.right, c.loop-k-test.true)
-
-pub list_view::equal-overflow_add-rows : goal.list_view::equal-overflow_add-rows
-list_view::equal-overflow_add-rows t c = omega (arith, part_small c.requires.parts.left, part_small c.requires.parts.right, c.loop-k-test.true)
-
-pub list_view::equal-overflow_add-rows-in-loop-k : goal.list_view::equal-overflow_add-rows-in-loop-k
-list_view::equal-overflow_add-rows-in-loop-k t c = omega (arith, part_small c.requires.parts.left, part_small c.requires.parts.right, c.loop-k-test.true)
-
-pub list_view::equal-overflow_add-rows-in-loop-k-2 : goal.list_view::equal-overflow_add-rows-in-loop-k-2
-list_view::equal-overflow_add-rows-in-loop-k-2 t c = omega (arith, part_small c.requires.parts.left, part_small c.requires.parts.right, c.loop-k-test.true)
-
-pub list_view::equal-at-size-requires : goal.list_view::equal-at-size-requires
-list_view::equal-at-size-requires t c = part_nth c.requires.parts.left c.loop-k.k (omega (arith, c.loop-k-test.true)) c.numbers-left_sizes.ensures.place (omega (arith, c.numbers-left_sizes.ensures.width, c.element_width-width.ensures, view_narrow c.requires.parts c.requires.layout))
-
-pub list_view::equal-at-requires : goal.list_view::equal-at-requires
-list_view::equal-at-requires t c = part_nth c.requires.parts.right c.loop-k.k (omega (arith, c.loop-k-test.true)) c.numbers-right_sizes.ensures.place (omega (arith, c.numbers-right_sizes.ensures.width, c.element_width-width.ensures, view_narrow c.requires.parts c.requires.layout))
-
-pub list_view::equal-at-requires-in-loop-k : goal.list_view::equal-at-requires-in-loop-k
-list_view::equal-at-requires-in-loop-k t c = part_nth c.requires.parts.left c.loop-k.k (omega (arith, c.loop-k-test.true)) c.numbers-left.ensures.place (omega (arith, c.numbers-left.ensures.width, c.element_width-width.ensures, view_narrow c.requires.parts c.requires.layout))
-
-pub list_view::equal-at-requires-in-loop-k-2 : goal.list_view::equal-at-requires-in-loop-k-2
-list_view::equal-at-requires-in-loop-k-2 t c = part_nth c.requires.parts.right c.loop-k.k (omega (arith, c.loop-k-test.true)) c.numbers-right.ensures.place (omega (arith, c.numbers-right.ensures.width, c.element_width-width.ensures, view_narrow c.requires.parts c.requires.layout))
 
 pub list_view::equal-returns-then-size-at : goal.list_view::equal-returns-then-size-at
 list_view::equal-returns-then-size-at t c = rows_fail c.loop-k.invariant c.loop-k-test.true (view_differs c.requires.parts c.requires.layout c.loop-k.k c.loop-k-test.true (size_from c.args.pair.now.left c.numbers-left_sizes.result _ (c.numbers-left_sizes.ensures.width ∙ c.element_width-width.ensures) c.numbers-left_sizes.ensures.bytes c.numbers-left_sizes.ensures.place c.at-size.ensures) (size_from c.args.pair.now.right c.numbers-right_sizes.result _ (c.numbers-right_sizes.ensures.width ∙ (c.element_width-width.ensures ∙ widths_same c.requires.parts)) c.numbers-right_sizes.ensures.bytes c.numbers-right_sizes.ensures.place c.at.ensures) c.if-size-at.true)
@@ -479,12 +292,6 @@ list_view::equal-loop-k-preserved t c =
 
 pub list_view::equal-returns : goal.list_view::equal-returns
 list_view::equal-returns t c = rows_done c.loop-k.invariant c.loop-k-test.false
-
-pub structure::equal-loop-c-init : goal.structure::equal-loop-c-init
-structure::equal-loop-c-init t c = columns_start _ _ _ _ _ _ _ _
-
-pub structure::equal-child-requires : goal.structure::equal-child-requires
-structure::equal-child-requires t c = omega (arith, c.child_count-c-end.ensures.small, c.loop-c-test.true)
 
 pub structure::equal-equal_range-requires : goal.structure::equal-equal_range-requires
 structure::equal-equal_range-requires t c = (search rules, rw c.child.ensures.same (struct_requires c.requires.parts c.requires.layout refl refl (record { value = refl; small = omega (arith, c.child_count-c-end.ensures.value, c.child_count-c-end.ensures.small) }) (rw c.child_count-c-end.ensures.value at c.loop-c-test.true)))
@@ -522,18 +329,6 @@ run::equal-at-x-requires t c = end_nth c.ends-left.ensures (omega (arith, run_sm
 pub run::equal-at-y-requires : goal.run::equal-at-y-requires
 run::equal-at-y-requires t c = end_nth c.ends-right.ensures (omega (arith, run_small c.requires.parts.right (layout_right c.requires.parts c.requires.layout) c.runs-test.true (c.runs.invariant.1.0.right c.runs-test.true)))
 
-pub union::dense-loop-k-init : goal.union::dense-loop-k-init
-union::dense-loop-k-init t c = rows_none _ _ _ _ _
-
-pub union::dense-overflow_add-rows : goal.union::dense-overflow_add-rows
-union::dense-overflow_add-rows t c = omega (arith, part_small c.requires.parts.left, part_small c.requires.parts.right, c.loop-k-test.true, c.buffer_place-ia.ensures.small, c.buffer_place-ib.ensures.small)
-
-pub union::dense-overflow_add-ia : goal.union::dense-overflow_add-ia
-union::dense-overflow_add-ia t c = omega (arith, part_small c.requires.parts.left, part_small c.requires.parts.right, c.loop-k-test.true, c.buffer_place-ia.ensures.small, c.buffer_place-ib.ensures.small)
-
-pub union::dense-overflow_add-rows-in-loop-k : goal.union::dense-overflow_add-rows-in-loop-k
-union::dense-overflow_add-rows-in-loop-k t c = omega (arith, part_small c.requires.parts.left, part_small c.requires.parts.right, c.loop-k-test.true, c.buffer_place-ia.ensures.small, c.buffer_place-ib.ensures.small)
-
 pub union::dense-overflow_add-ib : goal.union::dense-overflow_add-ib
 union::dense-overflow_add-ib t c = omega (arith, part_small c.requires.parts.left, part_small c.requires.parts.right, c.loop-k-test.true, c.buffer_place-ia.ensures.small, c.buffer_place-ib.ensures.small)
 
@@ -542,18 +337,6 @@ union::dense-returns-then-id-byte t c = rows_fail c.loop-k.invariant c.loop-k-te
 
 pub union::dense-returns-in_default : goal.union::dense-returns-in_default
 union::dense-returns-in_default t c = absurd (dense_never c.requires.parts c.requires.layout c.loop-k.k c.loop-k-test.true (id_read _ _ _ c.buffer_place-ia.ensures c.byte-id.ensures) (id_read _ _ _ c.buffer_place-ib.ensures c.byte.ensures) c.in_default.ensures)
-
-pub union::dense-overflow_add-rows-in-loop-k-2 : goal.union::dense-overflow_add-rows-in-loop-k-2
-union::dense-overflow_add-rows-in-loop-k-2 t c = omega (arith, part_small c.requires.parts.left, part_small c.requires.parts.right, c.loop-k-test.true, c.buffer_place-ia.ensures.small, c.buffer_place-ib.ensures.small)
-
-pub union::dense-overflow_add-rows-in-loop-k-3 : goal.union::dense-overflow_add-rows-in-loop-k-3
-union::dense-overflow_add-rows-in-loop-k-3 t c = omega (arith, part_small c.requires.parts.left, part_small c.requires.parts.right, c.loop-k-test.true, c.buffer_place-ia.ensures.small, c.buffer_place-ib.ensures.small)
-
-pub union::dense-at-requires : goal.union::dense-at-requires
-union::dense-at-requires t c = part_nth c.requires.parts.left c.loop-k.k (omega (arith, c.loop-k-test.true)) c.numbers-left.ensures.place (omega (arith, c.numbers-left.ensures.width))
-
-pub union::dense-at-requires-in-loop-k : goal.union::dense-at-requires-in-loop-k
-union::dense-at-requires-in-loop-k t c = part_nth c.requires.parts.right c.loop-k.k (omega (arith, c.loop-k-test.true)) c.numbers-right.ensures.place (omega (arith, c.numbers-right.ensures.width))
 
 pub union::dense-equal_range-requires : goal.union::dense-equal_range-requires
 union::dense-equal_range-requires t c = (search rules, rw c.in-Some.ensures.same (dense_child c.requires.parts c.requires.layout c.loop-k.k c.loop-k-test.true (id_read _ _ _ c.buffer_place-ia.ensures c.byte-id.ensures) (id_read _ _ _ c.buffer_place-ib.ensures c.byte.ensures) c.if-id-byte.false (dense_from c.args.pair.now.left c.numbers-left.result _ c.numbers-left.ensures.width c.numbers-left.ensures.bytes c.numbers-left.ensures.place c.at.ensures) (dense_from c.args.pair.now.right c.numbers-right.result _ c.numbers-right.ensures.width c.numbers-right.ensures.bytes c.numbers-right.ensures.place c.at-in-loop-k.ensures)))
@@ -570,21 +353,6 @@ union::dense-returns-then-not-equal_range t c =
 
 pub union::dense-returns : goal.union::dense-returns
 union::dense-returns t c = rows_done c.loop-k.invariant c.loop-k-test.false
-
-pub union::block-loop-k-init : goal.union::block-loop-k-init
-union::block-loop-k-init t c = rows_none _ _ _ _ _
-
-pub union::block-overflow_add-rows : goal.union::block-overflow_add-rows
-union::block-overflow_add-rows t c = omega (arith, part_small c.requires.parts.left, part_small c.requires.parts.right, c.loop-k-test.true, c.buffer_place-ia.ensures.small, c.buffer_place-ib.ensures.small)
-
-pub union::block-overflow_add-ia : goal.union::block-overflow_add-ia
-union::block-overflow_add-ia t c = omega (arith, part_small c.requires.parts.left, part_small c.requires.parts.right, c.loop-k-test.true, c.buffer_place-ia.ensures.small, c.buffer_place-ib.ensures.small)
-
-pub union::block-overflow_add-rows-in-loop-k : goal.union::block-overflow_add-rows-in-loop-k
-union::block-overflow_add-rows-in-loop-k t c = omega (arith, part_small c.requires.parts.left, part_small c.requires.parts.right, c.loop-k-test.true, c.buffer_place-ia.ensures.small, c.buffer_place-ib.ensures.small)
-
-pub union::block-overflow_add-ib : goal.union::block-overflow_add-ib
-union::block-overflow_add-ib t c = omega (arith, part_small c.requires.parts.left, part_small c.requires.parts.right, c.loop-k-test.true, c.buffer_place-ia.ensures.small, c.buffer_place-ib.ensures.small)
 
 pub union::block-returns-then-type_id-byte : goal.union::block-returns-then-type_id-byte
 union::block-returns-then-type_id-byte t c = rows_fail c.loop-k.invariant c.loop-k-test.true (sparse_differs c.requires.parts c.requires.layout c.loop-k.k c.loop-k-test.true (id_read _ _ _ c.buffer_place-ia.ensures c.byte-type_id.ensures) (id_read _ _ _ c.buffer_place-ib.ensures c.byte.ensures) c.if-type_id-byte.true)
@@ -608,15 +376,6 @@ union::block-returns-then-not-equal_range t c =
 pub union::block-returns : goal.union::block-returns
 union::block-returns t c = rows_done c.loop-k.invariant c.loop-k-test.false
 
-pub union::block-overflow_add-x : goal.union::block-overflow_add-x
-union::block-overflow_add-x t c = omega (arith, part_small c.requires.parts.left, part_small c.requires.parts.right, c.buffer_place-ia.ensures.small, c.buffer_place-ib.ensures.small)
-
-pub union::block-overflow_add-y : goal.union::block-overflow_add-y
-union::block-overflow_add-y t c = omega (arith, part_small c.requires.parts.left, part_small c.requires.parts.right, c.buffer_place-ia.ensures.small, c.buffer_place-ib.ensures.small)
-
-pub union::block-equal-requires : goal.union::block-equal-requires
-union::block-equal-requires t c = (search rules, (c.requires.parts, inr c.requires.layout))
-
 pub union::block-slice_bounds-eq-end : goal.union::block-slice_bounds-eq-end
 union::block-slice_bounds-eq-end t c = sparse_inside c.requires.parts.left c.requires.layout c.buffer_place-ia.ensures.value
 
@@ -625,21 +384,6 @@ union::block-slice_bounds-eq-end-then-n-ge-SEVERAL t c = sparse_inside c.require
 
 pub union::block-returns-then-equal : goal.union::block-returns-then-equal
 union::block-returns-then-equal t c = whole_children c.requires.parts c.requires.layout (sym c.equal.ensures ∙ c.if-equal.true) c.buffer_place-ia.ensures.value c.buffer_place-ib.ensures.value (sym (parts_same _ _ _ _ _ _ (sparse_inside c.requires.parts.left c.requires.layout c.buffer_place-ia.ensures.value) (sparse_inside c.requires.parts.right (layout_right c.requires.parts c.requires.layout) c.buffer_place-ib.ensures.value)) ∙ sym c.eq.ensures ∙ c.if-eq.true)
-
-pub union::sparse-loop-h-init : goal.union::sparse-loop-h-init
-union::sparse-loop-h-init t c = rows_none _ _ _ _ _
-
-pub union::sparse-part-requires : goal.union::sparse-part-requires
-union::sparse-part-requires t c = omega (arith, c.loop-h-test.true, part_small c.requires.parts.left, part_small c.requires.parts.right)
-
-pub union::sparse-part-requires-2 : goal.union::sparse-part-requires-2
-union::sparse-part-requires-2 t c = omega (arith, part_small c.requires.parts.left, part_small c.requires.parts.right)
-
-pub union::sparse-block-requires : goal.union::sparse-block-requires
-union::sparse-block-requires t c = (search rules, rw c.part.ensures (record { parts = parts_inside c.requires.parts _ _ (omega (arith, c.loop-h-test.true)); layout = c.requires.layout }))
-
-pub union::sparse-block-requires-2 : goal.union::sparse-block-requires-2
-union::sparse-block-requires-2 t c = (search rules, rw c.part-2.ensures (record { parts = parts_inside c.requires.parts _ _ (omega arith); layout = c.requires.layout }))
 
 pub union::sparse-returns-then-not-block : goal.union::sparse-returns-then-not-block
 union::sparse-returns-then-not-block t c =

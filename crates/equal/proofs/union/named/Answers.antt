@@ -6,8 +6,3 @@ use Rattle.equal.proofs.union.named.Goals as goal
 
 pub overflow_sub-child : goal.overflow_sub-child
 overflow_sub-child c = omega (arith, c.first_child.ensures.value, c.in-Some.ensures.found.value, named_above c.args.pair.left.image.now c.args.pair.left.number c.args.id)
-
-pub returns-in-Some : goal.returns-in-Some
-returns-in-Some c =
-    let same = rw (c.first_child.ensures.value, c.in-Some.ensures.found.value) at c.child.ensures.same in
-    record { within = rw (← c.in-Some.ensures.found.value) c.in-Some.ensures.within; same = same }
