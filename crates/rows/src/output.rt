@@ -12,7 +12,8 @@ pub struct Output<'a> {
 
 impl Output<'_> {
     // The w bytes of a number, the lowest first.
-    // Kept: `to_le_bytes` gives eight bytes, and a number may be put in more.
+    // Kept: `to_le_bytes` gives eight bytes. A width of more, which no caller has, would have to be ruled out by a `requires`
+    // that the function has not.
     pub fn put_number(&mut self, x: usize, w: usize)
         requires { self.old.at + w ≤ length self.old.bytes.now }
         ensures { Put self.old self.new (number_bytes w x) }

@@ -93,136 +93,144 @@ fn rows_from(child: u32, start: usize, count: usize) -> ChildRows
     }
 }
 
-// "Boolean: 00 or 01."
-fn boolean_value(node: Node, j: usize) -> Value<'_>
-    ensures { content result ≡ (value_of Boolean of node.entry) j }
-{
-    if bit(node.image, node.buffer_place(0), j) {
-        return leaf(1, ID_WIDTH, &[]);
+// An element of a node that is part of what is shown.
+#[derive(Clone, Copy)]
+struct Element<'a> {
+    node: Node<'a>,
+    j: usize,
+    ghost part: { Part node.image.now node.number j 1 },
+}
+
+impl<'a> Element<'a> {
+    // "Boolean: 00 or 01."
+    fn boolean_value(self) -> Value<'a>
+        ensures { content result ≡ (value_of Boolean of self.entry.node) self.entry.j }
+    {
+        if bit(self.node.image, self.node.buffer_place(0), self.j) {
+            return leaf(1, ID_WIDTH, &[]);
+        }
+        leaf(0, ID_WIDTH, &[])
     }
-    leaf(0, ID_WIDTH, &[])
-}
 
-// "Fixed widths: the bytes."
-fn fixed_value(node: Node, j: usize) -> Value<'_>
-    requires part { (Part of node) j 1 }
-    requires layout { layout_of (code_of of node) ≡ FixedWidth }
-    ensures { content result ≡ (value_of FixedWidth of node.entry) j }
-{
-    let width = node.element_width();
-    let place = node.buffer_place(0) + j * width;
-    leaf(0, 0, &node.image[place..place + width])
-}
-
-// "Text, binary, views: u32 length, bytes." Here of texts and binary, from one offset up to the next.
-fn variable_value(node: Node, j: usize) -> Value<'_>
-    requires part { (Part of node) j 1 }
-    requires layout { layout_of (code_of of node) ≡ VariableSize }
-    ensures { content result ≡ (value_of VariableSize of node.entry) j }
-{
-    let place = node.buffer_place(1);
-    let from = node.offset_at(j);
-    let end = node.offset_at(j + 1);
-    text(&node.image[place + from..place + end])
-}
-
-// The same of views, in the view or in a data buffer.
-fn view_value(node: Node, j: usize) -> Value<'_>
-    requires part { (Part of node) j 1 }
-    requires layout { layout_of (code_of of node) ≡ View }
-    ensures { content result ≡ (value_of View of node.entry) j }
-{
-    let view = node.buffer_place(0) + j * VIEW_SIZE;
-    let size = le::<4>(node.image, view);
-    let place = view_bytes(node, view, size);
-    text(&node.image[place..place + size])
-}
-
-// "List kinds and Map: u32 count, child rows." From one offset up to the next.
-fn list_value(node: Node, j: usize) -> Value<'_>
-    requires part { (Part of node) j 1 }
-    requires layout { layout_of (code_of of node) ≡ Lists }
-    ensures { content result ≡ (value_of Lists of node.entry) j }
-{
-    let from = node.offset_at(j);
-    let count = node.offset_at(j + 1) - from;
-    list(rows_from(node.first_child(), from, count))
-}
-
-// Of list views, from the offset on as many as the size says.
-fn list_view_value(node: Node, j: usize) -> Value<'_>
-    requires part { (Part of node) j 1 }
-    requires layout { layout_of (code_of of node) ≡ ListView }
-    ensures { content result ≡ (value_of ListView of node.entry) j }
-{
-    let from = node.offset_at(j);
-    let count = node.numbers(1, node.element_width()).at(j);
-    list(rows_from(node.first_child(), from, count))
-}
-
-// "Fixed lists, Structs: child rows." Here p1 rows of the child.
-fn fixed_list_value(node: Node, j: usize) -> Value<'_>
-    requires part { (Part of node) j 1 }
-    requires layout { layout_of (code_of of node) ≡ FixedList }
-    ensures { content result ≡ (value_of FixedList of node.entry) j }
-{
-    let count = node.p1();
-    nested(0, 0, rows_from(node.first_child(), j * count, count))
-}
-
-// Of a Struct, one row of each child.
-fn struct_value(node: Node, j: usize) -> Value<'_>
-    ensures { content result ≡ (value_of Struct of node.entry) j }
-{
-    let rows = ChildRows {
-        child: node.first_child(),
-        parts: node.child_count(),
-        start: j,
-        count: 1,
-    };
-    nested(0, 0, rows)
-}
-
-// "Union: the id byte, child row." The row is one of the child that the id names.
-fn union_value(node: Node, j: usize, row: usize) -> Value<'_>
-    requires { (Part of node) j 1 }
-    ensures { content result ≡ (union_value of node.entry) ((type_id_at of node.entry) j) row }
-{
-    let id = byte(node.image, node.buffer_place(0) + j);
-    match node.child_with_id(id) {
-        Some(child) => nested(usize::from(id), ID_WIDTH, rows_from(child, row, 1)),
-        None => leaf(usize::from(id), ID_WIDTH, &[]),
+    // "Fixed widths: the bytes."
+    fn fixed_value(self) -> Value<'a>
+        requires { layout_of (code_of of self.node) ≡ FixedWidth }
+        ensures { content result ≡ (value_of FixedWidth of self.entry.node) self.entry.j }
+    {
+        let width = self.node.element_width();
+        let place = self.node.buffer_place(0) + self.j * width;
+        leaf(0, 0, &self.node.image[place..place + width])
     }
-}
 
-// Its row is at the stored offset, or at the same place.
-fn dense_value(node: Node, j: usize) -> Value<'_>
-    requires { (Part of node) j 1 }
-    ensures { content result ≡ (value_of DenseUnion of node.entry) j }
-{
-    union_value(node, j, le::<4>(node.image, node.buffer_place(1) + j * 4))
-}
+    // "Text, binary, views: u32 length, bytes." Here of texts and binary, from one offset up to the next.
+    fn variable_value(self) -> Value<'a>
+        requires { layout_of (code_of of self.node) ≡ VariableSize }
+        ensures { content result ≡ (value_of VariableSize of self.entry.node) self.entry.j }
+    {
+        let place = self.node.buffer_place(1);
+        let from = self.node.offset_at(self.j);
+        let end = self.node.offset_at(self.j + 1);
+        text(&self.node.image[place + from..place + end])
+    }
 
-fn sparse_value(node: Node, j: usize) -> Value<'_>
-    requires { (Part of node) j 1 }
-    ensures { content result ≡ (value_of SparseUnion of node.entry) j }
-{
-    union_value(node, j, j)
-}
+    // The same of views, in the view or in a data buffer.
+    fn view_value(self) -> Value<'a>
+        requires { layout_of (code_of of self.node) ≡ View }
+        ensures { content result ≡ (value_of View of self.entry.node) self.entry.j }
+    {
+        let view = self.node.buffer_place(0) + self.j * VIEW_SIZE;
+        let size = le::<4>(self.node.image, view);
+        let place = view_bytes(self.node, view, size);
+        text(&self.node.image[place..place + size])
+    }
 
-// "Dictionary, runs: the row of the values child." It is named by the key, or numbered as the run.
-fn dictionary_value(node: Node, j: usize) -> Value<'_>
-    requires part { (Part of node) j 1 }
-    requires layout { layout_of (code_of of node) ≡ Dictionary }
-    ensures { content result ≡ (value_of Dictionary of node.entry) j }
-{
-    nested(0, 0, rows_from(node.first_child(), node.offset_at(j), 1))
-}
+    // "List kinds and Map: u32 count, child rows." From one offset up to the next.
+    fn list_value(self) -> Value<'a>
+        requires { layout_of (code_of of self.node) ≡ Lists }
+        ensures { content result ≡ (value_of Lists of self.entry.node) self.entry.j }
+    {
+        let from = self.node.offset_at(self.j);
+        let count = self.node.offset_at(self.j + 1) - from;
+        list(rows_from(self.node.first_child(), from, count))
+    }
 
-fn run_value(node: Node, run: usize) -> Value<'_>
-    ensures { content result ≡ rows_value ((first_child of node.entry) + 1) run 1 }
-{
-    nested(0, 0, rows_from(node.first_child() + 1, run, 1))
+    // Of list views, from the offset on as many as the size says.
+    fn list_view_value(self) -> Value<'a>
+        requires { layout_of (code_of of self.node) ≡ ListView }
+        ensures { content result ≡ (value_of ListView of self.entry.node) self.entry.j }
+    {
+        let from = self.node.offset_at(self.j);
+        let count = self.node.numbers(1, self.node.element_width()).at(self.j);
+        list(rows_from(self.node.first_child(), from, count))
+    }
+
+    // "Fixed lists, Structs: child rows." Here p1 rows of the child.
+    fn fixed_list_value(self) -> Value<'a>
+        requires { layout_of (code_of of self.node) ≡ FixedList }
+        ensures { content result ≡ (value_of FixedList of self.entry.node) self.entry.j }
+    {
+        let count = self.node.p1();
+        nested(
+            0,
+            0,
+            rows_from(self.node.first_child(), self.j * count, count),
+        )
+    }
+
+    // Of a Struct, one row of each child.
+    fn struct_value(self) -> Value<'a>
+        ensures { content result ≡ (value_of Struct of self.entry.node) self.entry.j }
+    {
+        let rows = ChildRows {
+            child: self.node.first_child(),
+            parts: self.node.child_count(),
+            start: self.j,
+            count: 1,
+        };
+        nested(0, 0, rows)
+    }
+
+    // "Union: the id byte, child row." The row is one of the child that the id names.
+    fn union_value(self, row: usize) -> Value<'a>
+        ensures { content result ≡ (union_value of self.entry.node) ((type_id_at of self.entry.node) self.entry.j) row }
+    {
+        let id = byte(self.node.image, self.node.buffer_place(0) + self.j);
+        match self.node.child_with_id(id) {
+            Some(child) => nested(usize::from(id), ID_WIDTH, rows_from(child, row, 1)),
+            None => leaf(usize::from(id), ID_WIDTH, &[]),
+        }
+    }
+
+    // Its row is at the stored offset, or at the same place.
+    fn dense_value(self) -> Value<'a>
+        ensures { content result ≡ (value_of DenseUnion of self.entry.node) self.entry.j }
+    {
+        self.union_value(le::<4>(self.node.image, self.node.buffer_place(1) + self.j * 4))
+    }
+
+    fn sparse_value(self) -> Value<'a>
+        ensures { content result ≡ (value_of SparseUnion of self.entry.node) self.entry.j }
+    {
+        self.union_value(self.j)
+    }
+
+    // "Dictionary, runs: the row of the values child." It is named by the key, or numbered as the run.
+    fn dictionary_value(self) -> Value<'a>
+        requires { layout_of (code_of of self.node) ≡ Dictionary }
+        ensures { content result ≡ (value_of Dictionary of self.entry.node) self.entry.j }
+    {
+        nested(
+            0,
+            0,
+            rows_from(self.node.first_child(), self.node.offset_at(self.j), 1),
+        )
+    }
+
+    fn run_value(self, run: usize) -> Value<'a>
+        ensures { content result ≡ rows_value ((first_child of self.entry.node) + 1) run 1 }
+    {
+        nested(0, 0, rows_from(self.node.first_child() + 1, run, 1))
+    }
 }
 
 // Row i of a node is null: its bitmap bit is 0, or no depth is left.
@@ -242,20 +250,21 @@ pub fn value_at(node: Node, j: usize, run: usize) -> Value<'_>
     requires run_value { run ≡ (kept_run of node) j }
     ensures { content result ≡ (value_of (layout_of (code_of of node.entry)) of node.entry) j }
 {
+    let element = Element { node, j };
     let layout = TypeCode::layout(node.code());
     match layout {
         Layout::Null => leaf(0, 0, &[]),
-        Layout::Boolean => boolean_value(node, j),
-        Layout::FixedWidth => fixed_value(node, j),
-        Layout::VariableSize => variable_value(node, j),
-        Layout::View => view_value(node, j),
-        Layout::List => list_value(node, j),
-        Layout::ListView => list_view_value(node, j),
-        Layout::FixedList => fixed_list_value(node, j),
-        Layout::Struct => struct_value(node, j),
-        Layout::DenseUnion => dense_value(node, j),
-        Layout::SparseUnion => sparse_value(node, j),
-        Layout::Dictionary => dictionary_value(node, j),
-        Layout::Runs => run_value(node, run),
+        Layout::Boolean => element.boolean_value(),
+        Layout::FixedWidth => element.fixed_value(),
+        Layout::VariableSize => element.variable_value(),
+        Layout::View => element.view_value(),
+        Layout::List => element.list_value(),
+        Layout::ListView => element.list_view_value(),
+        Layout::FixedList => element.fixed_list_value(),
+        Layout::Struct => element.struct_value(),
+        Layout::DenseUnion => element.dense_value(),
+        Layout::SparseUnion => element.sparse_value(),
+        Layout::Dictionary => element.dictionary_value(),
+        Layout::Runs => element.run_value(run),
     }
 }

@@ -2,7 +2,7 @@
 -- The id that is read is the row's.
 use Rattle.accepted.proofs.Nodes.{id_read}
 use Rattle.rows.proofs.ValuePlaces.{union_known, union_unknown}
-use Rattle.rows.proofs.value.union_value.Goals as goal
+use Rattle.rows.proofs.value.Element.union_value.Goals as goal
 
 pub returns-in-Some : goal.returns-in-Some
 returns-in-Some c =

@@ -1,7 +1,7 @@
 -- `list_view_value` gives the size and the child rows.
 -- An offset and its size stay within the child.
 use Rattle.accepted.proofs.Nodes.{size_read}
-use Rattle.rows.proofs.value.list_view_value.Goals as goal
+use Rattle.rows.proofs.value.Element.list_view_value.Goals as goal
 
 pub returns : goal.returns
 returns c =
