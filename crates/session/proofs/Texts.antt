@@ -2,7 +2,7 @@
 -- Stores one after the other are a front; each byte's two characters follow those of the bytes before it.
 use mathlib.Core.Path.{◌≡◌, refl, sym, ap, ◌∙◌}
 use mathlib.Core.List.{List, [], ◌∷◌, ◌++◌}
-use Prim.Native.Nat.{ℕ, suc, ◌+◌, ◌*◌, ◌/◌, ◌%◌, ◌≤◌, ◌<◌}
+use Prim.Native.Nat.{ℕ, suc, ◌+◌, ◌-◌, ◌*◌, ◌/◌, ◌%◌, ◌≤◌, ◌<◌}
 use native.Mathlib.Numerals.{add-one}
 use native.Mathlib.Omega.{arith}
 use lib.ListN.{length, get_or, take, drop, set, length-take, length-append, length-set}
@@ -28,13 +28,19 @@ puts bytes vs h =
     let h' : 0 + length vs ≤ length bytes = omega arith in
     rw (sets-eq vs bytes 0 h') (take-append_seam vs (drop (0 + length vs) bytes))
 
+-- a byte, and behind it bytes that are copied
+pub byte_then : (x k : ℕ) (bytes part : List ℕ) → 1 ≤ length bytes → k ≡ length part → take (1 + k) (put_mid 1 (1 + k - 1) (set bytes 0 x) part) ≡ x ∷ part
+byte_then x k bytes part h e =
+    let end : 1 + k ≡ 1 + length part = omega (arith, e) in
+    let one : take 1 (set bytes 0 x) ≡ x ∷ [] = puts bytes (x ∷ []) h in
+    take-put_mid 1 (1 + k - 1) (set bytes 0 x) part (1 + k) end (omega (arith, length-set bytes 0 x)) ∙ rw one refl
+
 -- a number, and behind it two bytes that are copied
 pub number_then : (number node : ℕ) (bytes part : List ℕ) → 1 ≤ length bytes → part ≡ number_bytes 2 node → take 3 (put_mid 1 2 (set bytes 0 number) part) ≡ number ∷ number_bytes 2 node
 unfolding number_bytes
 number_then number node bytes part h e =
-    let three : 3 ≡ 1 + length part = rw e refl in
-    let one : take 1 (set bytes 0 number) ≡ number ∷ [] = puts bytes (number ∷ []) h in
-    take-put_mid 1 2 (set bytes 0 number) part 3 three (omega (arith, length-set bytes 0 number)) ∙ rw (one, e) refl
+    let two : 2 ≡ length part = rw e refl in
+    byte_then number 2 bytes part h two ∙ rw e refl
 
 -- a reply has at most 65 bytes
 pub reply_few : (reply : Replied) (out : List ℕ) → length out ≤ 64 → length (reply_bytes reply out) ≤ 65

@@ -109,59 +109,54 @@ fn digit_text(x: u8) -> u8
     if x < 10 { b'0' + x } else { b'a' - 10 + x % 16 }
 }
 
-// The first n bytes of an output, put after the first byte; how many they are.
-fn copy(n: usize, out: &[u8; OUTPUT], bytes: &mut [u8; LONGEST_BYTES]) -> usize
-    ensures value { result ≡ length (take n out.now) }
-    ensures bytes_after { take (1 + result) bytes.new ≡ take 1 bytes.old ++ take n out.now }
-{
-    let most = n.min(OUTPUT);
-    bytes[1..1 + most].copy_from_slice(&out[..most]);
-    most
-}
-
-// The bytes of a refusal, put at the front of a buffer, and how many they are.
-fn refusal_bytes(refusal: Refusal, bytes: &mut [u8; LONGEST_BYTES]) -> usize
-    ensures value { result ≡ length (refusal_bytes refusal) }
-    ensures bytes_after { take result bytes.new ≡ refusal_bytes refusal }
+// The bytes of a refusal, put at the front of a buffer.
+fn refusal_bytes<'a>(refusal: Refusal, bytes: &'a mut [u8; LONGEST_BYTES]) -> &'a [u8]
+    ensures { result.now ≡ refusal_bytes refusal }
 {
     bytes[0] = refusal.number();
     match refusal {
         Refusal::Faulty(fault) => {
             bytes[1..3].copy_from_slice(&fault.node.to_le_bytes());
-            3
+            &bytes[..3]
         }
         Refusal::OutOfRange(side) => {
             bytes[1] = side_number(side);
-            2
+            &bytes[..2]
         }
-        _ => 1,
+        _ => &bytes[..1],
     }
 }
 
-// The bytes of a reply, put at the front of a buffer, and how many they are.
-fn answer_bytes(reply: Reply, out: &[u8; OUTPUT], bytes: &mut [u8; LONGEST_BYTES]) -> usize
-    ensures value { result ≡ length (answer_bytes reply out.now) }
-    ensures bytes_after { take result bytes.new ≡ answer_bytes reply out.now }
+// The bytes of a reply, put at the front of a buffer.
+fn answer_bytes<'a>(
+    reply: Reply,
+    out: &[u8; OUTPUT],
+    bytes: &'a mut [u8; LONGEST_BYTES],
+) -> &'a [u8]
+    ensures { result.now ≡ answer_bytes reply out.now }
 {
     bytes[0] = 0;
     match reply {
-        Reply::Done => 1,
+        Reply::Done => &bytes[..1],
         Reply::Answer(agreed) => {
             bytes[1] = u8::from(agreed);
-            2
+            &bytes[..2]
         }
-        Reply::Bytes(n) => 1 + copy(n, out, bytes),
+        Reply::Bytes(n) => {
+            let most = n.min(OUTPUT);
+            bytes[1..1 + most].copy_from_slice(&out[..most]);
+            &bytes[..1 + most]
+        }
     }
 }
 
-// The bytes of what a line is answered with, put at the front of a buffer, and how many they are.
-fn reply_bytes(
+// The bytes of what a line is answered with, put at the front of a buffer.
+fn reply_bytes<'a>(
     reply: Result<Reply, Refusal>,
     out: &[u8; OUTPUT],
-    bytes: &mut [u8; LONGEST_BYTES],
-) -> usize
-    ensures value { result ≡ length (reply_bytes reply out.now) }
-    ensures bytes_after { take result bytes.new ≡ reply_bytes reply out.now }
+    bytes: &'a mut [u8; LONGEST_BYTES],
+) -> &'a [u8]
+    ensures { result.now ≡ reply_bytes reply out.now }
 {
     match reply {
         Ok(given) => answer_bytes(given, out, bytes),
@@ -195,6 +190,5 @@ pub fn render(
     ensures text_after { text.new ≡ reply_line reply out.now ++ drop result text.old }
 {
     let mut bytes = [0u8; LONGEST_BYTES];
-    let n = reply_bytes(reply, out, &mut bytes);
-    print(&bytes[..n], text)
+    print(reply_bytes(reply, out, &mut bytes), text)
 }

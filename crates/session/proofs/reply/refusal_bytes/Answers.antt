@@ -3,7 +3,7 @@
 use Rattle.session.proofs.Texts.{puts, number_then, alone}
 use Rattle.image.specs.Bytes.{number_bytes}
 use mathlib.Core.List.{[], ◌∷◌}
-use mathlib.Core.Path.{refl, ◌∙◌}
+use mathlib.Core.Path.{◌∙◌}
 use native.Mathlib.Omega.{arith}
 use Rattle.session.proofs.reply.refusal_bytes.Goals as goal
 
@@ -11,13 +11,10 @@ pub returns-in-Faulty : goal.returns-in-Faulty
 unfolding number_bytes
 returns-in-Faulty c =
     rw (← c.number.ensures, c.in-Faulty.is)
-    (record {
-      value = refl;
-      bytes_after = number_then c.number.result c.in-Faulty.fault.node c.args.bytes.now _ (omega arith) (c.copy_from_slice.ensures.after ∙ c.to_le_bytes.ensures);
-    })
+    (number_then c.number.result c.in-Faulty.fault.node c.args.bytes.now _ (omega arith) (c.copy_from_slice.ensures.after ∙ c.to_le_bytes.ensures))
 
 pub returns-in-OutOfRange : goal.returns-in-OutOfRange
-returns-in-OutOfRange c = rw (← c.number.ensures, c.in-OutOfRange.is, ← c.side_number.ensures) (record { value = refl; bytes_after = puts c.args.bytes.now (c.number.result ∷ c.side_number.result ∷ []) (omega arith) })
+returns-in-OutOfRange c = rw (← c.number.ensures, c.in-OutOfRange.is, ← c.side_number.ensures) (puts c.args.bytes.now (c.number.result ∷ c.side_number.result ∷ []) (omega arith))
 
 pub returns-in_default : goal.returns-in_default
-returns-in_default c = rw (← c.number.ensures, alone c.args.refusal c.in_default.not-Faulty c.in_default.not-OutOfRange) (record { value = refl; bytes_after = puts c.args.bytes.now (c.number.result ∷ []) (omega arith) })
+returns-in_default c = rw (← c.number.ensures, alone c.args.refusal c.in_default.not-Faulty c.in_default.not-OutOfRange) (puts c.args.bytes.now (c.number.result ∷ []) (omega arith))
