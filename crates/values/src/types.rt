@@ -1,9 +1,7 @@
 // The types of two images. In the Rust `DataType` compares itself; src/equal/utils.rs says what does not count of a Map at the
 // root, and here that does not count of any Map.
-ghost use Rattle.std.specs.Prelude.{◌≡◌, not, ◌||◌, eqb};
-ghost use Rattle.std.specs.Bool.{beq};
-ghost use Rattle.image.specs.Record.{id_of, nullable};
-ghost use Rattle.image.specs.Types.{same_bytes, name_of, labels_agree, heads_agree, types_agree_at, types_agree};
+ghost use Rattle.std.specs.Prelude.{◌≡◌};
+ghost use Rattle.image.specs.Types.{labels_agree, heads_agree, types_agree_at, types_agree};
 ghost use Rattle.values.specs.Pair.{agree};
 
 use crate::pair::Pair;
@@ -11,49 +9,19 @@ use image::labels::Counted;
 use image::record::MAX_DEPTH;
 use image::type_code::TypeCode;
 
-// The names of two nodes are the same, where they count.
-fn name_agrees(pair: Pair, counts: bool) -> bool
-    ensures { result ≡ (not counts || same_bytes (name_of pair.entry.left.image.now pair.entry.left.number) (name_of pair.entry.right.image.now pair.entry.right.number)) }
-{
-    if !counts {
-        return true;
-    }
-    let right = pair.right;
-    pair.left
-        .name_is(right.image, right.name_place(), right.name_length())
-}
-
-// The nullable flags of two nodes are the same, where they count.
-fn flag_agrees(pair: Pair, counts: bool) -> bool
-    ensures { result ≡ (not counts || beq (nullable pair.entry.left.image.now pair.entry.left.number) (nullable pair.entry.right.image.now pair.entry.right.number)) }
-{
-    if !counts {
-        return true;
-    }
-    pair.left.is_nullable() == pair.right.is_nullable()
-}
-
-// The type ids of two nodes are the same, where they count.
-fn id_agrees(pair: Pair, counts: bool) -> bool
-    ensures { result ≡ (not counts || eqb (id_of pair.entry.left.image.now pair.entry.left.number) (id_of pair.entry.right.image.now pair.entry.right.number)) }
-{
-    if !counts {
-        return true;
-    }
-    pair.left.type_id() == pair.right.type_id()
-}
-
 // What counts of two children agrees.
 fn labels_equal(pair: Pair, counted: Counted) -> bool
     ensures { result ≡ agree (labels_agree counted) pair.entry }
 {
-    if !name_agrees(pair, counted.name) {
+    let left = pair.left;
+    let right = pair.right;
+    if counted.name && !left.name_is(right.image, right.name_place(), right.name_length()) {
         return false;
     }
-    if !flag_agrees(pair, counted.flag) {
+    if counted.flag && left.is_nullable() != right.is_nullable() {
         return false;
     }
-    id_agrees(pair, counted.id)
+    !counted.id || left.type_id() == right.type_id()
 }
 
 // Codes, parameters and child counts of two nodes agree.
