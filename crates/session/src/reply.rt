@@ -170,17 +170,17 @@ fn print(bytes: &[u8], text: &mut [u8; LONGEST_REPLY]) -> usize
     ensures value { result ≡ length (line_text bytes.now) }
     ensures text_after { text.new ≡ line_text bytes.now ++ drop result text.old }
 {
-    let n = bytes.len();
-    for k in 0..n {
-        let x = bytes[k];
+    for (k, &x) in bytes.iter().enumerate() {
         text[2 * k] = digit_text(x / 16);
         text[2 * k + 1] = digit_text(x % 16);
     }
+    let n = bytes.len();
     text[2 * n] = LINE_FEED;
     2 * n + 1
 }
 
 // The line that a reply is printed as, put at the front of a text, and how many characters it has.
+// Kept: a number and no slice, here and in `print`: the text is the caller's, who prints its front after the turn.
 pub fn render(
     reply: Result<Reply, Refusal>,
     out: &[u8; OUTPUT],
