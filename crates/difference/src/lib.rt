@@ -18,10 +18,9 @@ fn first_unequal_row(a: &[u8], b: &[u8], rows: Rows) -> usize
     requires unequal { ranges_equal a.now b.now rows.left rows.right rows.count ≡ false }
     ensures { result ≡ first_difference a.now b.now rows.left rows.right rows.count }
 {
-    let null = first_unequal_null(Pair::roots(a, b), rows);
     let mut low: usize = 0;
     let mut high = rows.count;
-    if null < rows.count {
+    if let Some(null) = first_unequal_null(Pair::roots(a, b), rows) {
         high = null + 1;
     }
     // Kept: no `for`, since each turn halves what is left.

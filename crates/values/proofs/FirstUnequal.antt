@@ -1,12 +1,16 @@
 -- The first of the pairs of a range that fails a test: where it stands, and how a search for it goes on.
 -- It is the one pair that fails after pairs that all pass, and the count where none fails.
 use mathlib.Core.Path.{◌≡◌, refl, sym, ◌∙◌}
-use mathlib.Core.Bool.{Bool, true, false}
+use mathlib.Core.Bool.{Bool, true, false, not}
 use Prim.Native.Nat.{ℕ, ◌+◌, ◌-◌, ◌<◌, ◌≤◌}
 use native.Mathlib.Nat.{lt_of_not-le, le_of_suc-le-suc}
 use native.Mathlib.Omega.{arith}
-use lib.Dec.{eqb}
-use borrow.Author.Tests.{eqb-true, eqb-false, not-true, not-false}
+use lib.Dec.{eqb, ltb}
+use borrow.Author.Tests.{eqb-true, eqb-false, not-true, not-false, lt-ltb, le-ltb, ltb-true}
+use Rattle.std.specs.Prelude.{is_none}
+use Rattle.std.specs.Bool.{then_some}
+use Rattle.std.proofs.Common.{Option, Some, None}
+use Rattle.std.proofs.lemmas.Option.{none-some, same_Some}
 use Rattle.image.specs.Ranges.{first}
 use Rattle.image.specs.Row.{Row}
 use Rattle.image.proofs.Ranges.{first_within, first_passes, first_before}
@@ -71,6 +75,36 @@ module _ (p : ℕ → ℕ → Bool) (i j n : ℕ) where
       let h = eqb-false (first_unequal p i j n) n (unequal_whole ∙ e) in
       omega (arith, h, unequal_within)
 
+  -- the first that fails, if there is one
+  abbrev pub unequal_answer : Option ℕ
+  unequal_answer = then_some (ltb (first_unequal p i j n) n) (first_unequal p i j n)
+
+  -- there is none exactly where all pass
+  pub unequal_nowhere : is_none unequal_answer ≡ all p i j n
+  unequal_nowhere = cases (all p i j n) refl
+    where
+      cases : (x : Bool) → all p i j n ≡ x → is_none unequal_answer ≡ all p i j n
+      cases true e = rw (le-ltb (first_unequal p i j n) n (omega (arith, unequal_none e)), e)
+      cases false e = rw (lt-ltb (first_unequal p i j n) n (unequal_some e), e)
+
+  -- a number that is it is answered where it is below the count
+  pub unequal_below : {r : ℕ} → r ≡ first_unequal p i j n → then_some (ltb r n) r ≡ unequal_answer
+  unequal_below e = rw e
+
+  pub unequal_found : {r : ℕ} → r ≡ first_unequal p i j n → r < n → Some r ≡ unequal_answer
+  unequal_found e lt = rw (← e, lt-ltb _ n lt)
+
+  pub unequal_past : n ≡ first_unequal p i j n → None ≡ unequal_answer
+  unequal_past e = rw (le-ltb (first_unequal p i j n) n (omega (arith, e)))
+
+  -- the number that is answered is it
+  pub unequal_told : {r : ℕ} {o : Option ℕ} → o ≡ unequal_answer → o ≡ Some r → (r ≡ first_unequal p i j n) × (r < n)
+  unequal_told {r} e is = cases (ltb (first_unequal p i j n) n) refl (sym e ∙ is)
+    where
+      cases : (x : Bool) → ltb (first_unequal p i j n) n ≡ x → then_some x (first_unequal p i j n) ≡ Some r → (r ≡ first_unequal p i j n) × (r < n)
+      cases true t h = let same = sym (same_Some _ _ h) in (same, rw same (ltb-true _ _ t))
+      cases false t h = absurd (none-some r h)
+
 -- after k pairs that pass it is the first of the others that fails
 unequal_later : (p : ℕ → ℕ → Bool) (i j n k : ℕ) → k ≤ n → all p i j k ≡ true → k + first_unequal p (i + k) (j + k) (n - k) ≡ first_unequal p i j n
 unequal_later p i j n k le passes =
@@ -126,6 +160,11 @@ pub leading_first : (p : ℕ → ℕ → Bool) (q : ℕ → Bool) (i j u n : ℕ
 leading_first p q i j u n {r} e l =
     unequal_is p i j n r l.within (all_by p i j r (λ k lt. sym (e k) ∙ l.holds k lt)) (λ lt. sym (e r) ∙ l.stops lt)
 
+-- what the library says of an `Option` that has nothing
+pub says_none : {x y : Bool} → x ≡ not y → y ≡ not x
+says_none {y = true} e = rw e
+says_none {y = false} e = rw e
+
 -- a range of rows is equal exactly where none is the first unequal one
-pub unequal_rows : (g h : ℕ → Row) (i j n : ℕ) {r : ℕ} → r ≡ first_unequal (same_row g h) i j n → eqb r n ≡ range_equal g h i j n
-unequal_rows g h i j n e = rw e (unequal_whole (same_row g h) i j n ∙ by_rows g h i j n)
+pub unequal_rows : (g h : ℕ → Row) (i j n : ℕ) {o : Option ℕ} → o ≡ unequal_answer (same_row g h) i j n → is_none o ≡ range_equal g h i j n
+unequal_rows g h i j n e = rw e (unequal_nowhere (same_row g h) i j n ∙ by_rows g h i j n)

@@ -1,5 +1,6 @@
 // Bits of a slice, 64 at a time: what the Rust has in its bit iterators.
-ghost use Rattle.std.specs.Prelude.{◌≡◌, ◌≢◌, true, ◌+◌, ◌*◌, ◌/◌, ◌<◌, ◌≤◌, ◌^◌, length};
+ghost use Rattle.std.specs.Prelude.{◌≡◌, ◌≢◌, true, ◌+◌, ◌*◌, ◌/◌, ◌<◌, ◌≤◌, ◌^◌, length, ltb};
+ghost use Rattle.std.specs.Bool.{then_some};
 ghost use Rattle.image.specs.Bytes.{bit_at};
 ghost use Rattle.values.specs.Bits.{bits_at, joined, Leading};
 ghost use Rattle.values.specs.Pairs.{first_unequal, same_bit_of};
@@ -89,7 +90,7 @@ impl Bits<'_> {
 
 // The number of the first of the n lowest bits in which two numbers differ that are not the same, or n where it is not
 // among these.
-// Kept: a number and no Option, here and in what stands below, where the count says that none differs: it is the lesser of two
+// Kept: a number and no Option, here and in what stands below but for the last, where the count says that none differs: it is the lesser of two
 // numbers, is added to what was passed, and is compared with the count.
 fn first_apart(x: usize, y: usize, n: usize) -> usize
     requires { x ≢ y }
@@ -142,17 +143,17 @@ fn first_unequal_tail(x: Bits, y: Bits, k: usize, n: usize) -> usize
     first_apart(u, v, n)
 }
 
-// Of n pairs of bits the number of the first that are not the same, or n where all are: 64 at a time, and the rest.
-// Kept: a number, as said above.
-pub fn first_unequal_bit(x: Bits, y: Bits, n: usize) -> usize
+// Of n pairs of bits the number of the first that are not the same, if there is one: 64 at a time, and the rest.
+pub fn first_unequal_bit(x: Bits, y: Bits, n: usize) -> Option<usize>
     requires { Near x n × Near y n }
-    ensures { result ≡ first_unequal_in x.entry y.entry n }
+    ensures { result ≡ then_some (ltb (first_unequal_in x.entry y.entry n) n) (first_unequal_in x.entry y.entry n) }
 {
     let m = n / WORD;
     let whole = 64 * m;
     let r = first_unequal_whole(x, y, m);
     if r < whole {
-        return r;
+        return Some(r);
     }
-    whole + first_unequal_tail(x, y, whole, n - whole)
+    let k = whole + first_unequal_tail(x, y, whole, n - whole);
+    (k < n).then_some(k)
 }

@@ -22,5 +22,5 @@ pub fn boolean_equal(pair: Pair, rows: Rows) -> bool
         place: pair.right.buffer_place(0),
         first: rows.right,
     };
-    first_unequal_bit(left, right, rows.count) == rows.count
+    first_unequal_bit(left, right, rows.count).is_none()
 }

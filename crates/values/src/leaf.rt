@@ -68,6 +68,7 @@ pub fn leaves_of(pair: Pair) -> Option<Leaves>
 }
 
 // Row s of one node and row t of another are equal: fixed-width values by their bytes, texts by length and bytes.
+// Kept: `depth` stands in the contract alone: what a row is takes a depth, and the caller's answer is of its own.
 pub fn leaf_equal(pair: Pair, leaves: Leaves, s: usize, t: usize, depth: usize) -> bool
     requires sides { SidesOf pair (one_row s t) (suc depth) }
     requires leaves { LeavesRead pair leaves }

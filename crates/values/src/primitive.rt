@@ -107,6 +107,8 @@ fn valid_equal(x: &[u8], y: &[u8], w: usize, bits: usize, n: usize) -> bool
 }
 
 // What is read once of two nodes: how wide their elements are, and where those of row 0 stand.
+// Kept: `rows` stands in the contract alone: what is known of two nodes, that the widths of their elements agree among it, is
+// known with the rows that are compared.
 pub fn columns_of(pair: Pair, rows: Rows) -> Columns
     requires { MaskedOf FixedWidth pair rows }
     ensures { ColumnsOf pair.entry result }

@@ -1,5 +1,6 @@
 // Numbers of a few bytes, null masks and types. Translated from src/equal/utils.rs of arrow-data 60.1.0 (Apache-2.0).
-ghost use Rattle.std.specs.Prelude.{◌≡◌, ◌&&◌, ◌+◌, ◌≤◌, length, eqb};
+ghost use Rattle.std.specs.Prelude.{◌≡◌, ◌&&◌, ◌+◌, ◌≤◌, length, eqb, ltb};
+ghost use Rattle.std.specs.Bool.{then_some};
 ghost use Rattle.image.specs.Record.{length_of};
 ghost use Rattle.image.specs.Types.{types_agree};
 ghost use Rattle.values.specs.Pairs.{all, same_byte};
@@ -24,19 +25,25 @@ pub fn number_same<const W: usize>(a: &[u8], b: &[u8], at: usize, bt: usize) -> 
     (load::<8>(a, at) == load::<8>(b, bt)) & (load::<8>(a, at + end) == load::<8>(b, bt + end))
 }
 
-// Of the pairs of rows the number of the first of which one is null and the other is not, or their count.
-// Kept: a number and no Option, as of the first unequal bit: it is compared with the count, where none is.
-pub fn first_unequal_null(pair: Pair, rows: Rows) -> usize
+// A number, where it is below n.
+fn below(k: usize, n: usize) -> Option<usize>
+    ensures { result ≡ then_some (ltb k n) k }
+{
+    (k < n).then_some(k)
+}
+
+// Of the pairs of rows the number of the first of which one is null and the other is not, if there is one.
+pub fn first_unequal_null(pair: Pair, rows: Rows) -> Option<usize>
     requires { FewRows rows }
-    ensures { result ≡ first_null pair.entry rows }
+    ensures { result ≡ then_some (ltb (first_null pair.entry rows) rows.count) (first_null pair.entry rows) }
 {
     let n = rows.count;
     let left = validity(pair.left, rows.left);
     let right = validity(pair.right, rows.right);
     match (left, right) {
-        (None, None) => n,
-        (None, Some(bits)) => bits.leading_set(n),
-        (Some(bits), None) => bits.leading_set(n),
+        (None, None) => None,
+        (None, Some(bits)) => below(bits.leading_set(n), n),
+        (Some(bits), None) => below(bits.leading_set(n), n),
         (Some(x), Some(y)) => first_unequal_bit(x, y, n),
     }
 }
@@ -46,7 +53,7 @@ pub fn equal_nulls(pair: Pair, rows: Rows) -> bool
     requires { FewRows rows }
     ensures { result ≡ same_masks pair.entry rows }
 {
-    first_unequal_null(pair, rows) == rows.count
+    first_unequal_null(pair, rows).is_none()
 }
 
 // The types and the lengths of two tables agree.
