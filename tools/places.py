@@ -5,8 +5,9 @@
 
 POINT is 1 to 8, FOLDER the top of a checkout, by default this one. What a point looks for is said in words beside its
 function. A place that stays as it is has a comment with 'Kept:' beside it that says why: in its line, in the comment over it,
-over the function, type or impl that it stands in, or at the head of the file where it holds for all of it. A place without one
-is still to do. The last line has the count, and how many have a reason.
+over the function, type or impl that it stands in, or at the head of the file. One at the head counts for those places alone that
+it can be about: what it says is kept has to name their kind ('refusals are numbers here' counts for numbers, and for no loop). A
+place without one is still to do. The last line has the count, and how many have a reason.
 """
 import glob
 import os
@@ -51,7 +52,26 @@ def comment_over(lines, n):
     return lines[top:n]
 
 
-def is_kept(path, line):
+# Words of which a line at the head of a file has one in what it says is kept, where it is about places of a point; for point 1
+# the word is the place's own kind.
+NAMED = {
+    '2': 'twin|alike',
+    '3': 'loop|while',
+    '4': 'lesser|arms|byte|conversion|converted',
+    '5': 'node|image|table|store',
+    '6': 'slice|place|table',
+    '7': 'match',
+}
+
+
+def names_kind(comment, point, what):
+    """What a comment says is kept, up to its first stop or reason, names the place's kind."""
+    kind = NAMED.get(point) or re.match(r'\w+', what)[0]
+    said = re.search(r'Kept:(.*?)(?:[,;:.]|\bsince\b|$)', ' '.join(c.lstrip('/ ') for c in comment))
+    return bool(said and re.search(r'\b(?:' + kind + r')s?\b', said[1]))
+
+
+def is_kept(path, line, point, what):
     with open(os.path.join(TOP, path)) as f:
         lines = f.read().split('\n')
     n = line - 1
@@ -62,7 +82,8 @@ def is_kept(path, line):
     head = 0
     while lines[head].startswith('//'):
         head += 1
-    beside += lines[:head]
+    if names_kind(lines[:head], point, what):
+        return True
     depth = len(lines[n]) - len(lines[n].lstrip())
     for k in range(n - 1, -1, -1):
         indent = len(lines[k]) - len(lines[k].lstrip())
@@ -204,7 +225,7 @@ def main():
         return
     kept = 0
     for path, line, what in places:
-        has = is_kept(path, line)
+        has = is_kept(path, line, sys.argv[1], what)
         kept += has
         print(f'{path}:{line}: {what}' + (', kept' if has else ''))
     print(f'{len(places)}, {kept} kept with a reason')

@@ -1,6 +1,6 @@
 -- The nodes of an accepted image, parts of their elements, and what is read of them.
 -- Each law is a field of what acceptance gives, at the node or at the row that reads an element.
-use mathlib.Core.Path.{◌≡◌, sym, ap, ◌∙◌}
+use mathlib.Core.Path.{◌≡◌, sym, ◌∙◌}
 use mathlib.Core.Bool.{true}
 use mathlib.Core.List.{List}
 use Prim.Native.Nat.{ℕ, ◌+◌, ◌*◌, ◌-◌, ◌<◌, ◌≤◌}
@@ -10,7 +10,6 @@ use lib.ListN.{length}
 use Rattle.image.specs.declared.type_code.Layout.{Layout}
 use Rattle.image.specs.Bytes.{byte_at, number_at}
 use Rattle.image.specs.Record.{node_count, length_of, offset_of, first_child, child_count, elements_of, buffer_count, buffer_place, buffer_length}
-use Rattle.image.specs.TypeCode.{layout_of}
 use Rattle.image.specs.Element.{valid, child_end, element_width, element_place, element_at, size_at, type_id_at, dense_offset_at}
 use Rattle.image.specs.Reads.{Read, Nth}
 use Rattle.laws.specs.Accepted.{AcceptedImage, Node}
@@ -32,8 +31,8 @@ unfolding elements_of
 length_small s k image node = omega (arith, (image.node k node).buffers.small)
 
 -- the layout as it is read: x is that of an arm
-pub layout_is : {c code : ℕ} {l x : Layout} → Read c 8 code → l ≡ layout_of code → x ≡ l → layout_of c ≡ x
-layout_is ec el ex = ap layout_of (sym ec.value) ∙ sym el ∙ sym ex
+pub layout_is : {l m x : Layout} → l ≡ m → x ≡ l → m ≡ x
+layout_is el ex = sym el ∙ sym ex
 
 -- Element j of a buffer, as it is read: an offset or a key, a list view's size, a union's id, a dense union's offset.
 pub element_read : (s : List ℕ) (k j : ℕ) {w p bits r : ℕ} → w ≡ element_width s k → Read (buffer_place s k 0) 32 p → Read (number_at w s (p + j * w)) bits r → r ≡ element_at s k j

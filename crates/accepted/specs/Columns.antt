@@ -1,8 +1,10 @@
--- What is read once of a node whose rows are asked one after another.
-use Rattle.std.specs.Prelude.{◌≡◌, Bool, true, false, Option, None, Some, List, ℕ, eqb}
+-- What is read once of a node whose rows are asked one after another, and what a run is that is kept beside a row.
+use Rattle.std.specs.Prelude.{◌≡◌, Bool, true, false, Option, None, Some, List, ℕ, ◌+◌, eqb}
 use Rattle.image.specs.Record.{code_of, offset_of}
+use Rattle.image.specs.Element.{run_at}
 use Rattle.image.specs.Reads.{Read, EndsOf}
 use Rattle.image.specs.declared.bytes.Numbers.{Numbers}
+use Rattle.accepted.specs.Parts.{RunPart}
 
 -- the rows of node k are in runs
 unfoldable pub in_runs : List ℕ → ℕ → Bool
@@ -17,3 +19,9 @@ pub record EndsRead (s : List ℕ) (k : ℕ) (read : Option Numbers) : Type 0 wh
 pub record ColumnRead (s : List ℕ) (k first : ℕ) (read : Option Numbers) : Type 0 where
   pub offset : Read (offset_of s k) 32 first
   pub ends : EndsRead s k read
+
+-- row i of node k, which need not be there, beside which a run is kept if it is; where the rows are not in runs, each element
+-- is one
+pub record Behind (s : List ℕ) (k i run : ℕ) : Type 0 where
+  pub alone : in_runs s k ≡ false → run ≡ offset_of s k + i
+  pub held : in_runs s k ≡ true → RunPart s k (offset_of s k + i) → run ≡ run_at s k (offset_of s k + i)

@@ -2,7 +2,7 @@
 -- and where what they name stands.
 use Rattle.std.specs.Prelude.{◌≡◌, true, List, ℕ, ◌+◌, ◌*◌, ◌≤◌, ◌<◌, length}
 use Rattle.image.specs.declared.type_code.Layout.TheVariants.{FixedWidth, Runs}
-use Rattle.image.specs.Record.{node_count, code_of, length_of, offset_of, elements_of}
+use Rattle.image.specs.Record.{node_count, code_of, length_of, offset_of, elements_of, entry_place, first_buffer, buffer_place}
 use Rattle.image.specs.TypeCode.{layout_of}
 use Rattle.image.specs.Element.{valid, element_width, element_place, view_length, view_data}
 use Rattle.laws.specs.Accepted.{Tables, Buffers, AcceptedImage, ViewInside}
@@ -34,18 +34,35 @@ pub record Spanned (s : List ℕ) (k j n at len : ℕ) : Type 0 where
   pub size : len ≡ n * element_width s k
   pub inside : at + len ≤ length s
 
--- the view at v of a node, of a row that is not null, where the image has none of the faults up to 18
-pub record Viewed (s : List ℕ) (k v len : ℕ) : Type 0 where
+-- the view at v of a node, of a row that is not null, where the image has none of the faults up to 18; the entries of the
+-- node's buffers start at e
+pub record Viewed (s : List ℕ) (k e v : ℕ) : Type 0 where
   pub tables : Tables s
   pub buffers : Buffers s k
+  pub entries : e ≡ entry_place s (first_buffer s k)
   pub fits : v + 16 ≤ length s
-  pub size : len ≡ view_length s v
   pub view : ViewInside s k v
 
--- where its bytes stand
-pub record ViewBytes (s : List ℕ) (k v len at : ℕ) : Type 0 where
+-- where the view of row i stands
+abbrev pub view_place : List ℕ → ℕ → ℕ → ℕ
+view_place s k i = buffer_place s k 0 + (offset_of s k + i) * 16
+
+-- row i, a view, of which the same is known
+pub record ViewRow (s : List ℕ) (k i : ℕ) : Type 0 where
+  pub tables : Tables s
+  pub buffers : Buffers s k
+  pub fits : view_place s k i + 16 ≤ length s
+  pub view : ViewInside s k (view_place s k i)
+
+-- where the view of row 0 stands, and where the entries of the node's buffers start
+pub record ViewsRead (s : List ℕ) (k first e : ℕ) : Type 0 where
+  pub start : first ≡ buffer_place s k 0 + offset_of s k * 16
+  pub entries : e ≡ entry_place s (first_buffer s k)
+
+-- where a view's bytes stand
+pub record ViewBytes (s : List ℕ) (k v at : ℕ) : Type 0 where
   pub place : at ≡ view_data s k v
-  pub inside : at + len ≤ length s
+  pub inside : at + view_length s v ≤ length s
 
 -- an element of a run node of an accepted image
 pub record RunPart (s : List ℕ) (k j : ℕ) : Type 0 where

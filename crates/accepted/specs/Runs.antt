@@ -1,10 +1,11 @@
 -- The run that is kept beside an element, for rows that are asked one after another.
-use Rattle.std.specs.Prelude.{◌≡◌, true, false, cond, Option, None, Some, List, ℕ, ◌+◌, ◌≤◌, ◌<◌, ltb, length, get_or, set}
+use Rattle.std.specs.Prelude.{◌≡◌, cond, Option, None, Some, List, ℕ, ◌+◌, ◌≤◌, ◌<◌, ltb, length, get_or, set}
+use Rattle.image.specs.Record.{offset_of}
 use Rattle.image.specs.Element.{run_at}
 use Rattle.image.specs.declared.bytes.Numbers.{Numbers}
 use Rattle.accepted.specs.Parts.{RunPart}
-use Rattle.accepted.specs.Columns.{in_runs, ColumnRead}
-use Rattle.accepted.specs.declared.column.Column.{Column}
+use Rattle.accepted.specs.Columns.{in_runs}
+use Rattle.accepted.specs.declared.column.Cursor.{Cursor}
 use Rattle.accepted.specs.declared.column.KeptRun.{KeptRun}
 use Rattle.accepted.specs.declared.column.Stay.{Stay}
 
@@ -17,23 +18,17 @@ next_run j run end = cond (ltb (j + 1) end) run (run + 1)
 unfoldable pub kept_run : List ℕ → ℕ → ℕ → ℕ
 kept_run s k j = cond (in_runs s k) (run_at s k j) j
 
--- row i of the node, beside which a run is kept
-pub record Kept (s : List ℕ) (k : ℕ) (c : Column) (i run : ℕ) : Type 0 where
-  pub column : ColumnRead s k c.offset c.ends
-  pub same : run ≡ kept_run s k (c.offset + i)
+-- row i of node k, beside which a run is kept
+pub record Kept (s : List ℕ) (k i run : ℕ) : Type 0 where
+  pub same : run ≡ kept_run s k (offset_of s k + i)
 
--- row i, which need not be there, beside which a run is kept if it is
-pub record Behind (s : List ℕ) (k : ℕ) (c : Column) (i run : ℕ) : Type 0 where
-  pub column : ColumnRead s k c.offset c.ends
-  pub alone : in_runs s k ≡ false → run ≡ c.offset + i
-  pub held : in_runs s k ≡ true → RunPart s k (c.offset + i) → run ≡ run_at s k (c.offset + i)
-
--- how long the run is kept that is kept at row i: of n rows from there on so many are in it, and the next is kept behind them
-pub record Stays (s : List ℕ) (k : ℕ) (c : Column) (i n run : ℕ) (r : Stay) : Type 0 where
+-- how long the run is kept that is kept at a row: of n rows from there on so many are in it, and the next is kept behind them
+pub record Stays (c : Cursor) (n : ℕ) (r : Stay) : Type 0 where
   pub some : 0 < r.rows
   pub within : r.rows ≤ n
-  pub same : (h : ℕ) → h < r.rows → Kept s k c (i + h) run
-  pub next : Behind s k c (i + r.rows) r.next
+  pub same : (h : ℕ) → h < r.rows → Kept c.column.now.node.image.now c.column.now.node.number (c.row + h) c.run
+  pub column : r.next.column ≡ c.column
+  pub row : r.next.row ≡ c.row + r.rows
 
 -- what is remembered of node k: nothing, or an element and the run that holds it, if it is there
 abbrev pub RememberedOf : List ℕ → ℕ → Option KeptRun → Type 0
@@ -45,10 +40,10 @@ pub record Remembered (s : List ℕ) (runs : List (Option KeptRun)) : Type 0 whe
   pub sized : length runs ≡ 256
   pub of : (k : ℕ) → k < 256 → RememberedOf s k (get_or runs k None)
 
--- they, and the run behind the rows of node k up to row i, where they are in runs
+-- they, and the run that is kept at a row, where the rows are in runs
 abbrev pub remembering_by : Option Numbers → List (Option KeptRun) → ℕ → ℕ → ℕ → List (Option KeptRun)
 remembering_by None runs k j run = runs
 remembering_by (Some ends) runs k j run = set runs k (Some (record { element = j; run = run }))
 
-abbrev pub remembering : List (Option KeptRun) → ℕ → Column → ℕ → ℕ → List (Option KeptRun)
-remembering runs k c i run = remembering_by c.ends runs k (c.offset + i) run
+abbrev pub remembering : List (Option KeptRun) → Cursor → List (Option KeptRun)
+remembering runs c = remembering_by c.column.now.ends runs c.column.now.node.number (c.column.now.offset + c.row) c.run

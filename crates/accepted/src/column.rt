@@ -1,7 +1,7 @@
 // A node whose rows are asked one after another: what is read of it once, and the run that is kept beside the row.
 ghost use Rattle.std.specs.Prelude.{◌≡◌, ◌+◌, ◌<◌, ◌^◌};
 ghost use Rattle.image.specs.Of.{◌of◌};
-ghost use Rattle.accepted.specs.Columns.{ColumnRead};
+ghost use Rattle.accepted.specs.Columns.{ColumnRead, Behind};
 
 use crate::runs::{next_run, run_of};
 use image::bytes::Numbers;
@@ -18,11 +18,20 @@ pub struct Column<'a> {
     ghost read: { ColumnRead node.image.now node.number offset ends },
 }
 
-// How long a run is kept: so many rows from a row on, and the run that is kept behind them.
+// A row of a column, which need not be there, and the run that is kept beside it.
 #[derive(Clone, Copy)]
-pub struct Stay {
+pub struct Cursor<'a> {
+    pub column: &'a Column<'a>,
+    pub row: usize,
+    pub run: usize,
+    ghost behind: { Behind column.now.node.image.now column.now.node.number row run },
+}
+
+// How long a run is kept: for so many rows, and the row behind them with its run.
+#[derive(Clone, Copy)]
+pub struct Stay<'a> {
     pub rows: usize,
-    pub next: usize,
+    pub next: Cursor<'a>,
 }
 
 // An element of a node, and the run that holds it, if the element is there.
@@ -33,38 +42,32 @@ pub struct KeptRun {
 }
 
 // Of each node the element behind the last that was asked for, and its run.
-// Kept: an array, and no struct that says of which image: each function would then ask that it is the node's.
+// Kept: an array, and no struct that says of which image: each function would then ask that it is the node's, and ensure that it
+// still is.
 pub type KeptRuns = [Option<KeptRun>; MOST_NODES];
 
 impl<'a> Column<'a> {
     ghost use Rattle.accepted.specs.Parts.{Side};
-    ghost use Rattle.accepted.specs.Runs.{Kept, Stays, Remembered, remembering};
+    ghost use Rattle.accepted.specs.Runs.{Kept, Remembered};
 
     // What is read once of a node.
     pub fn new(node: Node<'a>) -> Column<'a>
         ensures { result.node ≡ node.entry }
     {
-        let offset = node.offset();
-        if node.code() != TypeCode::RUN_END_ENCODED {
-            return Column {
-                node: node,
-                offset: offset,
-                ends: None,
-            };
-        }
+        let in_runs = node.code() == TypeCode::RUN_END_ENCODED;
         Column {
             node: node,
-            offset: offset,
-            ends: Some(node.ends()),
+            offset: node.offset(),
+            ends: if in_runs { Some(node.ends()) } else { None },
         }
     }
 
-    // The run that is kept at row i, the first of a range: the one that is remembered, where the range of the node before it
-    // ended at row i; else it is found by bisection.
-    pub fn first_run(self, i: usize, runs: &KeptRuns) -> usize
+    // The run of row i, the first of a range: the one that is remembered, where the range of the node before it ended at row i;
+    // else it is found by bisection.
+    fn first_run(self, i: usize, runs: &KeptRuns) -> usize
         requires side { (Side of self.node) i 1 }
         requires remembered { Remembered self.node.image.now runs.now }
-        ensures { (Kept of self.entry.node) self.entry i result }
+        ensures { (Kept of self.entry.node) i result }
     {
         let j = self.offset + i;
         if self.ends.is_none() {
@@ -78,40 +81,67 @@ impl<'a> Column<'a> {
         run_of(self.node, j)
     }
 
-    // The run behind a range of rows is remembered, that of row i, where the node has runs.
-    pub fn remember(self, i: usize, run: usize, runs: &mut KeptRuns)
-        requires { (self.node.number < 256) × (self.offset + i < 2 ^ 34) }
-        ensures { runs.new ≡ (remembering runs.old) self.entry.node.number self.entry i run }
+    // Row i, the first of a range, and its run. Where it is compiled into its caller, the column's node is taken apart, and put
+    // together again for each row: rows took 1.3 times as long.
+    #[inline(never)]
+    pub fn first(&'a self, i: usize, runs: &KeptRuns) -> Cursor<'a>
+        requires side { (Side of self.now.node) i 1 }
+        requires remembered { Remembered self.now.node.image.now runs.now }
+        ensures column { result.column ≡ self.entry }
+        ensures row { result.row ≡ i }
     {
-        if self.ends.is_some() {
-            runs[self.node.number as usize] = Some(KeptRun {
-                element: self.offset + i,
-                run: run,
-            });
+        Cursor {
+            column: self,
+            row: i,
+            run: self.first_run(i, runs),
         }
     }
+}
 
-    // How many of the n rows from row i on are in the run that is kept at row i, and the run behind them: of run ends only
-    // that of this run is read.
-    pub fn stay(self, i: usize, n: usize, run: usize) -> Stay
-        requires side { (Side of self.node) i n × (0 < n) }
-        requires kept { (Kept of self.node) self i run }
-        ensures { (Stays of self.entry.node) self.entry i n run result }
+impl<'a> Cursor<'a> {
+    ghost use Rattle.accepted.specs.Parts.{Side};
+    ghost use Rattle.accepted.specs.Runs.{Stays, remembering};
+
+    // How many of the n rows from here on are in the run, and the row behind them: of run ends only that of this run is read.
+    pub fn stay(self, n: usize) -> Stay<'a>
+        requires { (Side of self.column.now.node) self.row n × (0 < n) }
+        ensures { Stays self.entry n result }
     {
-        let j = self.offset + i;
-        match self.ends {
+        let j = self.column.offset + self.row;
+        match self.column.ends {
             None => Stay {
                 rows: 1,
-                next: j + 1,
+                next: Cursor {
+                    column: self.column,
+                    row: self.row + 1,
+                    run: j + 1,
+                },
             },
             Some(ends) => {
-                let end = ends.at(run);
+                let end = ends.at(self.run);
                 let rows = n.min(end - j);
                 Stay {
                     rows: rows,
-                    next: next_run(j + (rows - 1), run, end),
+                    next: Cursor {
+                        column: self.column,
+                        row: self.row + rows,
+                        run: next_run(j + (rows - 1), self.run, end),
+                    },
                 }
             }
+        }
+    }
+
+    // The run is remembered, where the node has runs.
+    pub fn remember(self, runs: &mut KeptRuns)
+        requires { (self.column.now.node.number < 256) × (self.column.now.offset + self.row < 2 ^ 34) }
+        ensures { runs.new ≡ (remembering runs.old) self.entry }
+    {
+        if self.column.ends.is_some() {
+            runs[self.column.node.number as usize] = Some(KeptRun {
+                element: self.column.offset + self.row,
+                run: self.run,
+            });
         }
     }
 }

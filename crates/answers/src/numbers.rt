@@ -3,7 +3,7 @@
 ghost use Rattle.std.specs.Prelude.{◌≡◌, ℕ, ◌<◌, ◌^◌};
 ghost use Rattle.image.specs.declared.answer.Side.TheVariants.{Left};
 ghost use Rattle.answers.specs.declared.numbers.Numbers.{Numbers};
-ghost use Rattle.answers.specs.Numbers.{side_number, numbers, fault_numbers, side_fault_numbers, range_refusal_numbers, digits_refusal_numbers, write_refusal_numbers, build_refusal_numbers, unit_value, yes_value, row_value, answer_numbers, packed};
+ghost use Rattle.answers.specs.Numbers.{numbers, fault_numbers, side_fault_numbers, range_refusal_numbers, digits_refusal_numbers, write_refusal_numbers, build_refusal_numbers, unit_value, yes_value, row_value, answer_numbers, packed};
 
 use crate::{BuildRefusal, DigitsRefusal, RangeRefusal, SideFault, WriteRefusal};
 use image::answer::{Fault, Side};
@@ -16,6 +16,13 @@ pub struct Numbers {
     pub node: u16,
     pub value: usize,
 }
+
+// The numbers of the refusals that more than one type has.
+pub const UNEQUAL_TYPES: u8 = 20;
+
+pub const OUT_OF_RANGE: u8 = 21;
+
+pub const TOO_LONG: u8 = 43;
 
 // In one number of 64 bits: how far up side, node and value stand.
 const SIDE: u64 = 256;
@@ -41,22 +48,21 @@ pub trait Found: Drop {
         ensures { result ≡ found_value self };
 }
 
-// Kept: `side as u8` with its contract; an `impl From` is no plainer.
-pub fn side_number(side: Side) -> u8
-    ensures { result ≡ side_number side }
-{
-    side as u8
-}
+// An answer without any of them.
+const NOTHING: Numbers = Numbers {
+    number: 0,
+    side: 0,
+    node: 0,
+    value: 0,
+};
 
-// Kept: a literal takes six lines, in each of the answers below.
-fn numbers_of(number: u8, side: u8, node: u16, value: usize) -> Numbers
-    ensures { result ≡ numbers number side node value }
+// A refusal that is of no side and no node.
+fn refused(number: u8) -> Numbers
+    ensures { result ≡ numbers number 0 0 0 }
 {
     Numbers {
         number: number,
-        side: side,
-        node: node,
-        value: value,
+        ..NOTHING
     }
 }
 
@@ -65,7 +71,11 @@ impl Refusal for Fault {
     ghost refusal_numbers = { fault_numbers Left };
 
     fn numbers(self) -> Numbers {
-        numbers_of(self.number, 0, self.node, 0)
+        Numbers {
+            number: self.number,
+            node: self.node,
+            ..NOTHING
+        }
     }
 }
 
@@ -73,12 +83,12 @@ impl Refusal for SideFault {
     ghost refusal_numbers = { side_fault_numbers };
 
     fn numbers(self) -> Numbers {
-        numbers_of(
-            self.fault.number,
-            side_number(self.side),
-            self.fault.node,
-            0,
-        )
+        Numbers {
+            number: self.fault.number,
+            side: self.side as u8,
+            node: self.fault.node,
+            ..NOTHING
+        }
     }
 }
 
@@ -88,8 +98,12 @@ impl Refusal for RangeRefusal {
     fn numbers(self) -> Numbers {
         match self {
             RangeRefusal::Image(fault) => fault.numbers(),
-            RangeRefusal::UnequalTypes => numbers_of(20, 0, 0, 0),
-            RangeRefusal::OutOfRange(side) => numbers_of(21, side_number(side), 0, 0),
+            RangeRefusal::UnequalTypes => refused(UNEQUAL_TYPES),
+            RangeRefusal::OutOfRange(side) => Numbers {
+                number: OUT_OF_RANGE,
+                side: side as u8,
+                ..NOTHING
+            },
         }
     }
 }
@@ -100,7 +114,7 @@ impl Refusal for DigitsRefusal {
     fn numbers(self) -> Numbers {
         match self {
             DigitsRefusal::Range(refusal) => refusal.numbers(),
-            DigitsRefusal::NotDigits => numbers_of(22, 0, 0, 0),
+            DigitsRefusal::NotDigits => refused(22),
         }
     }
 }
@@ -111,8 +125,8 @@ impl Refusal for WriteRefusal {
     fn numbers(self) -> Numbers {
         match self {
             WriteRefusal::Image(fault) => fault.numbers(),
-            WriteRefusal::OutOfRange => numbers_of(21, 0, 0, 0),
-            WriteRefusal::TooLong => numbers_of(43, 0, 0, 0),
+            WriteRefusal::OutOfRange => refused(OUT_OF_RANGE),
+            WriteRefusal::TooLong => refused(TOO_LONG),
         }
     }
 }
@@ -123,9 +137,9 @@ impl Refusal for BuildRefusal {
     fn numbers(self) -> Numbers {
         match self {
             BuildRefusal::Image(fault) => fault.numbers(),
-            BuildRefusal::Unreadable => numbers_of(23, 0, 0, 0),
-            BuildRefusal::NotRows => numbers_of(24, 0, 0, 0),
-            BuildRefusal::TooLong => numbers_of(43, 0, 0, 0),
+            BuildRefusal::Unreadable => refused(23),
+            BuildRefusal::NotRows => refused(24),
+            BuildRefusal::TooLong => refused(TOO_LONG),
         }
     }
 }
@@ -175,7 +189,10 @@ pub fn answer_numbers<T: Found, E: Refusal>(answer: Result<T, E>) -> Numbers
     ensures { result ≡ answer_numbers T.found_value E.refusal_numbers answer }
 {
     match answer {
-        Ok(found) => numbers_of(0, 0, 0, found.value()),
+        Ok(found) => Numbers {
+            value: found.value(),
+            ..NOTHING
+        },
         Err(refusal) => refusal.numbers(),
     }
 }

@@ -36,20 +36,13 @@ fn compare_accepted(left: &[u8], right: &[u8]) -> bool
     requires { (check_image left.now ≡ Ok tt) × (check_image right.now ≡ Ok tt) }
     ensures { result ≡ tables_equal left.now right.now }
 {
-    if !base_equal(left, right) {
-        return false;
-    }
-    let rows = Node {
-        image: left,
-        number: 0,
-    }
-    .length();
+    let rows = Node::root(left).length();
     let whole = Rows {
         left: 0,
         right: 0,
         count: rows,
     };
-    rows_equal(left, right, whole)
+    base_equal(left, right) && rows_equal(left, right, whole)
 }
 
 // Whether two tables are equal, the left one accepted.
@@ -108,14 +101,13 @@ fn paired(left: &[u8], right: &[u8]) -> Result<(), RangeRefusal>
 fn out_of_range(image: &[u8], start: usize, count: usize) -> bool
     ensures { result ≡ exceeds image.now start count }
 {
-    let rows = Node { image, number: 0 }.length();
-    if rows < start {
-        return true;
-    }
-    rows - start < count
+    let rows = Node::root(image).length();
+    rows < start || rows - start < count
 }
 
 // `count` rows of each of two tables from their starts on, where they lie within.
+// Kept: starts and a count by themselves, here and in the calls that are given them: C hosts and frames have numbers, which may
+// lie outside. Where they are found to lie within they become `Rows`, here.
 fn rows_within(
     left: &[u8],
     right: &[u8],
@@ -211,10 +203,7 @@ pub fn write(
     }
     let room = out.len();
     let mut runs: KeptRuns = [None; MOST_NODES];
-    let table = Node {
-        image: image,
-        number: 0,
-    };
+    let table = Node::root(image);
     let Some(rest) = measure_rows(table, start, count, MAX_DEPTH, &mut runs, room) else {
         return Err(WriteRefusal::TooLong);
     };

@@ -7,7 +7,7 @@ use mathlib.Core.Logic.{◌⊎◌, inl, inr}
 use Prim.Native.Nat.{ℕ, zero, suc, ◌+◌, ◌*◌, ◌-◌, ◌/◌, ◌≤◌, ◌<◌}
 use native.Mathlib.Nat.{eq-or-lt_of_le, add-zero}
 use native.Mathlib.Omega.{arith}
-use lib.ListN.{length, get_or, take, drop, set}
+use lib.ListN.{length, get_or, take, drop, set, replicate, get_or-replicate, length-set}
 use lib.Seq.{get_or-set_same, get_or-set_other, drop-cons}
 use Rattle.std.specs.List.{list_any}
 use lib.Dec.{ltb}
@@ -124,12 +124,24 @@ module _ (s lengths spans : List ℕ) where
   pub many_refused : {places : List ℕ} {room : ℕ} → any (too_many lengths) 0 (node_count s) ≡ true → PlanOf s lengths spans room places None
   many_refused {room = room} e = refused (too_many_lem e room)
 
+-- The places rise: those that are planned, and those before, which are all 0.
+pub none_rise : (s : List ℕ) → node_count s ≤ 256 → Rise s (replicate 769 0)
+none_rise s few = record {
+  rise = λ q lt. omega (arith, get_or-replicate {A = ℕ} 769 q 0 0 (omega arith));
+}
+
+pub places_rise : {s lengths spans places : List ℕ} → Places s lengths spans places → Rise s places
+places_rise {s} {lengths} {spans} t = record {
+  rise = λ q lt. omega (arith, t.place q (omega arith), t.place (suc q) lt, place_grows s lengths spans q (suc q) (omega arith));
+}
+
 -- What the loop keeps: the table of places up to part q, and the place of part q.
 pub record Planning (s lengths spans places : List ℕ) (place q : ℕ) : Type 0 where
   pub table : PlacesTo s lengths spans places q
   pub within : q ≤ 3 * node_count s
   pub here : place ≡ place_of s lengths spans q
   pub short : place ≤ longest_image
+  pub sized : length places ≡ 769
 
 pub planning_start : (s lengths spans places : List ℕ) (place : ℕ) → length places ≡ 769 → Read (name_start s (node_count s)) 17 place → Planning s lengths spans (set places 0 place) place 0
 unfolding place_of sum_to
@@ -144,6 +156,7 @@ planning_start s lengths spans places place sized r =
       within = omega arith;
       here = here;
       short = omega (arith, r.small);
+      sized = length-set places 0 place ∙ sized;
     }
 
 module _ {s lengths spans places : List ℕ} where
@@ -154,22 +167,23 @@ module _ {s lengths spans places : List ℕ} where
           let e : q + 1 ≡ suc q = omega arith in
           rw e (omega (arith, place_next s lengths spans q, p.here, is))
 
-      pub planning_more : node_count s ≤ 256 → length places ≡ 769 → size ≤ longest_image - place → Planning s lengths spans (set places (q + 1) (place + size)) (place + size) (q + 1)
-      planning_more few sized fits = record {
+      pub planning_more : node_count s ≤ 256 → size ≤ longest_image - place → Planning s lengths spans (set places (q + 1) (place + size)) (place + size) (q + 1)
+      planning_more few fits = record {
         table = record {
           place = λ i le. cases i (eq-or-lt_of_le le);
         };
         within = omega arith;
         here = next_here;
         short = omega (arith, p.short);
+        sized = length-set places (q + 1) (place + size) ∙ p.sized;
       }
         where
           cases : (i : ℕ) → (i ≡ q + 1) ⊎ (i < q + 1) → get_or (set places (q + 1) (place + size)) i 0 ≡ place_of s lengths spans i
-          cases i (inl e) = rw e (get_or-set_same places (q + 1) (place + size) 0 (omega (arith, sized)) ∙ next_here)
+          cases i (inl e) = rw e (get_or-set_same places (q + 1) (place + size) 0 (omega (arith, p.sized)) ∙ next_here)
           cases i (inr less) = get_or-set_other places (q + 1) i (place + size) 0 (λ e. omega arith) ∙ p.table.place i (omega arith)
 
       -- a part that is too long
-      pub planning_long : {room : ℕ} → longest_image - place < size → PlanOf s lengths spans room places None
+      pub planning_long : {room : ℕ} {before : List ℕ} → longest_image - place < size → PlanOf s lengths spans room before None
       planning_long {room} long =
           let grows = place_grows s lengths spans (q + 1) (3 * node_count s) (omega arith) in
           refused s lengths spans (too_long_lem s lengths spans (omega (arith, next_here, p.short)) room)
@@ -182,17 +196,14 @@ module _ {s lengths spans places : List ℕ} where
       end_here : place ≡ place_of s lengths spans (3 * node_count s)
       end_here = rw (← all_placed) p.here
 
-      pub planning_room : {room : ℕ} → room < place → PlanOf s lengths spans room places None
+      pub planning_room : {room : ℕ} {before : List ℕ} → room < place → PlanOf s lengths spans room before None
       planning_room {room} lt = refused s lengths spans (no_room s lengths spans room (omega (arith, end_here)))
+
+      pub planning_rise : Rise s places
+      planning_rise = places_rise {s = s} {lengths = lengths} {spans = spans} (rw (← all_placed) p.table)
 
       pub planning_done : {room : ℕ} → any (too_many lengths) 0 (node_count s) ≡ false → place ≤ room → PlanOf s lengths spans room places (Some place)
       planning_done {room} few fits = record {
         answer = rw end_here (fitting s lengths spans room few (omega (arith, end_here, p.short)) (omega (arith, end_here)));
         table = λ n e. rw (← all_placed) p.table;
       }
-
--- the places rise
-pub places_rise : {s lengths spans places : List ℕ} → Places s lengths spans places → Rise s places
-places_rise {s} {lengths} {spans} t = record {
-  rise = λ q lt. omega (arith, t.place q (omega arith), t.place (suc q) lt, place_grows s lengths spans q (suc q) (omega arith));
-}

@@ -3,7 +3,7 @@
 use mathlib.Core.Path.{◌≡◌, refl, sym, ap, ◌∙◌}
 use mathlib.Core.Bool.{true, false, false≢true}
 use mathlib.Core.List.{List, [], ◌∷◌, ◌++◌}
-use Prim.Native.Nat.{ℕ, suc, ◌+◌, ◌*◌, ◌-◌, ◌≤◌, ◌<◌}
+use Prim.Native.Nat.{ℕ, ◌+◌, ◌*◌, ◌-◌, ◌≤◌, ◌<◌}
 use native.Mathlib.Nat.{zero-add}
 use native.Mathlib.Omega.{arith}
 use lib.ListN.{length, take, drop, replicate, length-append, length-replicate, get_or-replicate, get_or-append}
@@ -32,7 +32,7 @@ use Rattle.rows.proofs.Over.{over_length, over_over}
 use Rattle.fill.specs.Filling.{ToFill}
 use Rattle.std.specs.Prelude.{None, Some}
 use Rattle.builder.specs.Plan.{Lengths, Places, plan_answer, built_of}
-use Rattle.builder.specs.Front.{Rise, front_from}
+use Rattle.builder.specs.Front.{front_from}
 use Rattle.builder.specs.Table.{Laid}
 use Rattle.builder.proofs.FromRows.{Scanned, answer_is, places_are, front_is}
 
@@ -81,12 +81,6 @@ module _ {s : List ℕ} {n : ℕ} {b lengths places : List ℕ} {size : ℕ} {ou
   places_grow : (q r : ℕ) → q ≤ r → part_start s the_rows_lem q ≤ part_start s the_rows_lem r
   unfolding part_start
   places_grow q r le = omega (arith, sum_grows (part_length s the_rows_lem) q r le)
-
-  pub laid_rise : Rise s places
-  laid_rise =
-      record {
-        rise = λ q lt. omega (arith, l.place q (omega arith), l.place (suc q) lt, places_grow q (suc q) (omega arith));
-      }
 
   end_is : size ≡ part_start s the_rows_lem (3 * node_count s)
   end_is = l.long ∙ whole_length s the_rows_lem (accepted s l.accepted)

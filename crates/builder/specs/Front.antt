@@ -11,12 +11,6 @@ use Rattle.image.specs.Built.{name_start, u8, u16, u32}
 pub record Rise (s places : List ℕ) : Type 0 where
   pub rise : (q : ℕ) → q < 3 * node_count s → get_or places q 0 ≤ get_or places (suc q) 0
 
--- the places of parts, read at node k
-pub record NodeFrom (s : List ℕ) (k : ℕ) (places : List ℕ) : Type 0 where
-  pub node : k < node_count s
-  pub few : node_count s ≤ 256
-  pub risen : Rise s places
-
 -- how many bytes part q has
 unfoldable pub length_from : List ℕ → ℕ → ℕ
 length_from places q = get_or places (suc q) 0 - get_or places q 0

@@ -13,7 +13,6 @@ ghost use Rattle.answers.specs.Answers.{rows_answer, image_of, written_over};
 ghost use Rattle.rows.specs.Output.{over};
 ghost use Rattle.builder.specs.Table.{Laid};
 
-use crate::front::put_front;
 use crate::plan::Plan;
 use answers::BuildRefusal;
 use fill::fill;
@@ -41,13 +40,13 @@ pub fn is_readable(image: &[u8]) -> bool
 }
 
 // Puts the image of so many rows, which are the string b: what stands before its parts, zeros behind that, and over them the parts.
-fn put_table(s: &[u8], count: usize, b: &[u8], plan: &Plan, size: usize, out: &mut [u8])
-    requires { Laid s.now count b.now plan.now.lengths plan.now.places size out.old }
-    ensures { out.new ≡ over out.old 0 (image_of s.now (rows_in s.now count b.now)) }
+fn put_table(plan: &Plan, count: usize, b: &[u8], size: usize, out: &mut [u8])
+    requires { Laid plan.now.image.now count b.now plan.now.lengths plan.now.places size out.old }
+    ensures { out.new ≡ over out.old 0 (image_of plan.now.image.now (rows_in plan.now.image.now count b.now)) }
 {
-    let parts = put_front(s, plan, out);
+    let parts = plan.put_front(out);
     out[parts..size].fill(0);
-    fill(s, count, b, &plan.places, out);
+    fill(plan.image, count, b, &plan.places, out);
 }
 
 // The table of so many rows, which are the string b, of the type that the image s has: its image, at the front of `out`. A
@@ -58,6 +57,7 @@ pub fn build(s: &[u8], count: usize, b: &[u8], out: &mut [u8]) -> Result<usize, 
     ensures out_after { out.new ≡ written_over (rows_answer s.now (rows_in s.now count b.now) out.old) (image_of s.now (rows_in s.now count b.now)) out.old }
 {
     let mut plan = Plan {
+        image: s,
         lengths: [0; MOST_NODES],
         spans: [0; MOST_NODES],
         places: [0; MOST_PLACES],
@@ -65,10 +65,10 @@ pub fn build(s: &[u8], count: usize, b: &[u8], out: &mut [u8]) -> Result<usize, 
     if !is_rows(s, count, b, &mut plan.spans) {
         return Err(BuildRefusal::NotRows);
     }
-    plan.give_lengths(s, count);
-    let Some(size) = plan.give_places(s, out.len()) else {
+    plan.give_lengths(count);
+    let Some(size) = plan.give_places(out.len()) else {
         return Err(BuildRefusal::TooLong);
     };
-    put_table(s, count, b, &plan, size, out);
+    put_table(&plan, count, b, size, out);
     Ok(size)
 }

@@ -1,42 +1,46 @@
 // How long the nodes of a built image are, how many bytes each of its parts takes, and where each part stands.
-ghost use Rattle.std.specs.Prelude.{◌≡◌, ◌+◌, ◌*◌, ◌/◌, ◌<◌, ◌≤◌, get_or, ltb, Ok};
+ghost use Rattle.std.specs.Prelude.{◌≡◌, true, ◌+◌, ◌*◌, ◌/◌, ◌<◌, ◌≤◌, get_or, ltb, Ok};
 ghost use Rattle.std.specs.List.{list_any};
 ghost use Rattle.image.specs.Ranges.{any};
 ghost use Rattle.image.specs.Reads.{Read};
 ghost use Rattle.image.specs.Record.{longest_image, most_elements, node_count};
 ghost use Rattle.image.specs.TypeCode.{layout_of};
 ghost use Rattle.image.specs.Faults.{check_image};
+ghost use Rattle.image.specs.Parse.{readable};
 ghost use Rattle.image.specs.Built.{name_start};
-ghost use Rattle.laws.specs.Accepted.{Tables, AcceptedImage};
+ghost use Rattle.laws.specs.Accepted.{Tables};
+ghost use Rattle.builder.specs.Front.{Rise};
 ghost use Rattle.builder.specs.Plan.{Lengths, child_rows, bit_bytes, bitmap_size, first_size, second_size, part_size, too_many, PlanOf};
 
-use fill::put::MOST_PLACES;
+use fill::put::{MOST_PLACES, PARTS};
 use image::record::{LONGEST_IMAGE, MOST_ELEMENTS, MOST_NODES, Node, node_count, tables_end};
 use image::type_code::{Layout, TypeCode};
 
-// What a built image is put by: how many rows each node has, how far its offsets go on in all (its span), and where each part
-// stands, with the image's end behind them.
-// Kept: `spans` is lent to `parse::is_rows` as one slice, so lengths and spans are no table of a struct.
-// Kept: an accepted image and places that rise are asked for by each function, and no ghost field says so: the image is the
-// caller's, and a plan is made before `give_places` gives it places.
+// What a built image is put by: the image whose type it has, how many rows each node has, how far its offsets go on in all (its
+// span), and where each part stands, with the image's end behind them. The image is accepted, of codes that are read back, and no
+// part stands before the one before it.
+// Kept: lengths and spans are no table of a struct: `parse`, which fills the spans alone, would have to know of lengths.
 #[derive(Drop)]
-pub struct Plan {
-    pub lengths: [usize; MOST_NODES],
-    pub spans: [usize; MOST_NODES],
-    pub places: [usize; MOST_PLACES],
+pub(crate) struct Plan<'a> {
+    pub(crate) image: &'a [u8],
+    pub(crate) lengths: [usize; MOST_NODES],
+    pub(crate) spans: [usize; MOST_NODES],
+    pub(crate) places: [usize; MOST_PLACES],
+    ghost accepted: { check_image image.now ≡ Ok tt },
+    ghost coded: { readable image.now ≡ true },
+    ghost few: { node_count image.now ≤ 256 },
+    ghost risen: { Rise image.now places },
 }
 
 // The bytes that so many bits take.
 fn bit_bytes(n: usize) -> usize
-    requires { n ≤ most_elements }
     ensures { result ≡ bit_bytes n }
 {
-    (n + 7) / 8
+    n.div_ceil(8)
 }
 
 // The bytes of the bitmap of so many rows, where the code may have one.
 fn bitmap_size(code: u8, rows: usize) -> usize
-    requires { rows ≤ most_elements }
     ensures { result ≡ bitmap_size (layout_of code) rows }
 {
     if TypeCode::takes_bitmap(code) {
@@ -89,7 +93,7 @@ fn any_above(lengths: &[usize]) -> bool
     lengths.iter().any(|rows| *rows > MOST_ELEMENTS)
 }
 
-impl Plan {
+impl Plan<'_> {
     // How many rows each child of a node has: as many as a Struct, or as a list's offsets go on.
     fn child_rows(&self, node: Node) -> usize
         requires { node.number < 256 }
@@ -103,12 +107,13 @@ impl Plan {
     }
 
     // Gives each node its length: the root's is the row count, and a parent's number is lower than its children's.
-    pub fn give_lengths(&mut self, image: &[u8], count: usize)
-        requires { check_image image.now ≡ Ok tt }
+    pub(crate) fn give_lengths(&mut self, count: usize)
+        ensures image { self.new.image.now ≡ self.old.image.now }
         ensures spans { self.new.spans ≡ self.old.spans }
         ensures places { self.new.places ≡ self.old.places }
-        ensures lengths { Lengths image.now count self.old.spans self.new.lengths }
+        ensures lengths { Lengths self.old.image.now count self.old.spans self.new.lengths }
     {
+        let image = self.image;
         self.lengths[0] = count;
         for k in 0..node_count(image) {
             let node = Node { image, number: k };
@@ -121,18 +126,18 @@ impl Plan {
 
     // The bytes of part q of all: of node q / 3 its bitmap, its first or its second buffer.
     // Kept: parts are numbered through, three for each node, as their places are one table; so a number says which part it is.
-    fn part_size(&self, image: &[u8], q: usize) -> usize
-        requires accepted { AcceptedImage image.now × (q < 3 * node_count image.now) }
-        requires q_bound { get_or self.now.lengths (q / 3) 0 ≤ most_elements }
-        ensures { result ≡ part_size image.now self.now.lengths self.now.spans q }
+    fn part_size(&self, q: usize) -> usize
+        requires part { q < 3 * node_count self.now.image.now }
+        requires few { get_or self.now.lengths (q / 3) 0 ≤ most_elements }
+        ensures { result ≡ part_size self.now.image.now self.now.lengths self.now.spans q }
     {
-        let i = q / 3;
+        let i = q / PARTS;
         let node = Node {
-            image,
+            image: self.image,
             number: i as u32,
         };
         let code = node.code();
-        match q % 3 {
+        match q % PARTS {
             0 => bitmap_size(code, self.lengths[i]),
             1 => first_size(code, node.element_width(), self.lengths[i]),
             _ => second_size(code, self.spans[i]),
@@ -140,38 +145,39 @@ impl Plan {
     }
 
     // Whether a node has more rows than a node may have.
-    fn too_many(&self, image: &[u8]) -> bool
-        requires { node_count image.now ≤ 256 }
-        ensures { result ≡ any (too_many self.now.lengths) 0 (node_count image.now) }
+    fn too_many(&self) -> bool
+        ensures { result ≡ any (too_many self.now.lengths) 0 (node_count self.now.image.now) }
     {
-        any_above(&self.lengths[..node_count(image) as usize])
+        any_above(&self.lengths[..node_count(self.image) as usize])
     }
 
     // Gives each part its place, and answers how long the image is; None where it is too long for the buffer, or for an image.
     // Sums stop at the first that is longer than an image may be.
-    pub fn give_places(&mut self, image: &[u8], room: usize) -> Option<usize>
-        requires { check_image image.now ≡ Ok tt }
+    pub(crate) fn give_places(&mut self, room: usize) -> Option<usize>
+        ensures image { self.new.image.now ≡ self.old.image.now }
         ensures lengths { self.new.lengths ≡ self.old.lengths }
         ensures spans { self.new.spans ≡ self.old.spans }
-        ensures places { PlanOf image.now self.old.lengths self.old.spans room self.new.places result }
+        ensures places { PlanOf self.old.image.now self.old.lengths self.old.spans room self.new.places result }
     {
-        if self.too_many(image) {
+        if self.too_many() {
             return None;
         }
-        let end = 3 * node_count(image) as usize;
-        let mut place = names_end(image);
-        self.places[0] = place;
+        let end = PARTS * node_count(self.image) as usize;
+        let mut place = names_end(self.image);
+        let mut places = [0; MOST_PLACES];
+        places[0] = place;
         for q in 0..end {
-            let size = self.part_size(image, q);
+            let size = self.part_size(q);
             if size > LONGEST_IMAGE - place {
                 return None;
             }
             place += size;
-            self.places[q + 1] = place;
+            places[q + 1] = place;
         }
         if room < place {
             return None;
         }
+        self.places = places;
         Some(place)
     }
 }

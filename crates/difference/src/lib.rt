@@ -20,7 +20,7 @@ fn first_unequal_row(a: &[u8], b: &[u8], rows: Rows) -> usize
 {
     let mut low: usize = 0;
     let mut high = rows.count;
-    if let Some(null) = first_unequal_null(Pair::roots(a, b), rows) {
+    if let Some(null) = first_unequal_null(&Pair::roots(a, b), rows) {
         high = null + 1;
     }
     // Kept: no `for`, since each turn halves what is left.
@@ -44,6 +44,7 @@ fn block(k: usize, left: usize) -> usize
 }
 
 // The first unequal row, if there is one.
+// Kept: two images and no `Pair`, which would have to be known to be one of roots.
 pub fn first_difference(a: &[u8], b: &[u8], rows: Rows) -> Option<usize>
     requires { Sides a.now b.now 0 0 rows.left rows.right rows.count max_depth }
     ensures { result ≡ then_some (ltb (first_difference a.now b.now rows.left rows.right rows.count) rows.count) (first_difference a.now b.now rows.left rows.right rows.count) }

@@ -6,16 +6,17 @@ use mathlib.Core.List.{List}
 use mathlib.Core.Logic.{◌⊎◌, inl, inr, ⊎_elim}
 use Prim.Native.Nat.{ℕ, zero, suc, ◌+◌, ◌*◌, ◌-◌, ◌≤◌, ◌<◌, ◌^◌}
 use native.Mathlib.Omega.{arith}
+use native.Mathlib.Decide.{ℕ_discrete}
 use lib.ListN.{length}
 use lib.Dec.{eqb, ltb}
 use borrow.Author.Tests.{eqb-true, ne_eqb, ltb-false, lt-ltb, le-ltb}
 use Rattle.image.specs.declared.element.Bitmap.{Bitmap}
-use Rattle.std.specs.Prelude.{Option}
+use Rattle.std.specs.Prelude.{Option, None, Some}
 use Rattle.image.specs.declared.type_code.Layout.TheVariants.{FixedWidth}
 use Rattle.image.specs.Ranges.{every}
 use Rattle.image.specs.Bytes.{byte_at, number_at, bytes_at}
 use Rattle.image.specs.Record.{max_depth, code_of, offset_of}
-use Rattle.image.specs.Reads.{Read}
+use Rattle.image.specs.Reads.{Read, BitmapOf}
 use Rattle.image.specs.TypeCode.{entries, entry_of, layout_of, width_of}
 use Rattle.image.specs.Element.{valid, element_width, element_place, element_at}
 use Rattle.image.specs.Types.{same_bytes}
@@ -34,8 +35,8 @@ use Rattle.values.proofs.Fixed.{masked_fixed}
 use Rattle.values.proofs.ValidElements.{left_inside, right_inside, place_of}
 use Rattle.values.specs.declared.pair.Pair.{Pair}
 use Rattle.values.specs.declared.pair.Rows.{Rows}
-use Rattle.values.specs.Pair.{Roots, part, one_row}
-use Rattle.digits.specs.Parts.{TwoNumbers, Numbers, Columned, NumbersOf}
+use Rattle.values.specs.Pair.{Roots, part}
+use Rattle.digits.specs.Parts.{TwoNumbers, Numbers, MaskRead, NumbersOf, ColumnedOf}
 use Rattle.digits.proofs.Sizes.{agreed_at}
 
 -- a test of each k below n is one of the pairs in step
@@ -117,37 +118,57 @@ module _ {a b : List ℕ} {i j n : ℕ} (r : Numbers a b i j n) where
 
   -- columns that are not of 4 bytes are of 8
   pub wide : {v : Columns} → ColumnsAt a b 0 0 v → (v.width ≡ 4 → ⊥) → v.width ≡ 8
-  wide y ne = ⊎_elim (λ (h : element_width a 0 ≡ 4). absurd (ne (y.width ∙ h))) (λ (h : element_width a 0 ≡ 8). y.width ∙ h) r.width
+  wide y ne = y.width ∙ r.width (λ h. ne (y.width ∙ h))
+
+-- The null mask, as what reads by it asks for it.
+pub mask_of : {s : List ℕ} (m : Option Bitmap) → MaskRead s m → BitmapOf s 0 m
+mask_of None r = r.alone refl
+mask_of (Some x) r = r.bits x refl
 
 -- One row of each, as its number is read.
-module _ {a b : List ℕ} {i j w : ℕ} {v : Columns} {m : Option Bitmap} (r : Numbers a b i j 1) (y : Columned a b v w m) where
+module _ {c : Pair} {s : Rows} {k w : ℕ} {v : Columns} {m : Option Bitmap} (n : NumbersOf c s) (y : ColumnedOf c v m) (same : w ≡ v.width) (lt : k < s.count) where
+  abbrev a : List ℕ
+  a = c.left.image.now
+
+  abbrev b : List ℕ
+  b = c.right.image.now
+
+  abbrev i : ℕ
+  i = s.left + k
+
+  abbrev j : ℕ
+  j = s.right + k
+
+  row : Numbers a b i j 1
+  row = numbers_row n.numbers lt
+
   left_width : w ≡ element_width a 0
-  left_width = y.width ∙ y.places.width
+  left_width = same ∙ y.places.width
 
   right_width : w ≡ element_width b 0
-  right_width = left_width ∙ widths r
+  right_width = left_width ∙ widths row
 
   width : (w ≡ 4) ⊎ (w ≡ 8)
-  width = rw left_width r.width
+  width = cases (ℕ_discrete w 4)
+    where
+      cases : Dec (w ≡ 4) → (w ≡ 4) ⊎ (w ≡ 8)
+      cases (yes e) = inl e
+      cases (no ne) = inr (left_width ∙ row.width (λ h. ne (left_width ∙ h)))
 
   pub narrow : w ≤ 8
-  narrow = cases r.width
-    where
-      cases : (element_width a 0 ≡ 4) ⊎ (element_width a 0 ≡ 8) → w ≤ 8
-      cases (inl e) = omega (arith, y.width, y.places.width, e)
-      cases (inr e) = omega (arith, y.width, y.places.width, e)
+  narrow = ⊎_elim (λ (h : w ≡ 4). omega arith) (λ (h : w ≡ 8). omega arith) width
 
   pub left_room : v.left + i * w + w ≤ length a
-  left_room = rw y.width (omega (arith, left_inside r.rows y.places))
+  left_room = rw same (omega (arith, left_inside row.rows y.places))
 
   pub right_room : v.right + j * w + w ≤ length b
-  right_room = rw y.width (omega (arith, right_inside r.rows y.places))
+  right_room = rw same (omega (arith, right_inside row.rows y.places))
 
   one_mask : valid a 0 i ≡ valid b 0 j
   one_mask =
       let u : i + 0 ≡ i = omega arith in
       let t : j + 0 ≡ j = omega arith in
-      rw (u, t) at (mask_at r.rows 0 (omega arith))
+      rw (u, t) at (mask_at row.rows 0 (omega arith))
 
   pub nulls_agree : (p : ℕ) → valid a 0 i ≡ false → true ≡ kept_agree p a b i j
   nulls_agree p e = sym (null_agree p a b i j one_mask e)
@@ -220,9 +241,9 @@ module _ (a : List ℕ) (d : ℕ) (fit : not_digits a d ≡ false) where
   unfolding layout_of entry_of entries
   decimal_layout = ⊎_elim (λ (h : code_of a 0 ≡ 15). rw h) (λ (h : code_of a 0 ≡ 16). rw h) told.0
 
-  decimal_width : (element_width a 0 ≡ 4) ⊎ (element_width a 0 ≡ 8)
+  decimal_width : (element_width a 0 ≡ 4 → ⊥) → element_width a 0 ≡ 8
   unfolding element_width width_of entry_of entries
-  decimal_width = ⊎_elim (λ (h : code_of a 0 ≡ 15). inl (rw h)) (λ (h : code_of a 0 ≡ 16). inr (rw h)) told.0
+  decimal_width ne = ⊎_elim (λ (h : code_of a 0 ≡ 15). absurd (ne (rw h))) (λ (h : code_of a 0 ≡ 16). rw h) told.0
 
   pub numbers_of : {b : List ℕ} {i j n : ℕ} → Sides a b 0 0 i j n max_depth → all (same_mask a 0 b 0) i j n ≡ true → Numbers a b i j n
   numbers_of r masks = record {
@@ -230,10 +251,7 @@ module _ (a : List ℕ) (d : ℕ) (fit : not_digits a d ≡ false) where
     width = decimal_width;
   }
 
--- Two roots, and parts of their rows.
-pub row_of : {v : Pair} {r : Rows} {k : ℕ} → NumbersOf v r → k < r.count → NumbersOf v (one_row (r.left + k) (r.right + k))
-row_of n lt = record { left_root = n.left_root; right_root = n.right_root; numbers = numbers_row n.numbers lt }
-
+-- Parts of the rows of two roots.
 pub part_of : {v : Pair} {r : Rows} (k m : ℕ) → NumbersOf v r → k + m ≤ r.count → NumbersOf v (part r k m)
 part_of k m n le = record { left_root = n.left_root; right_root = n.right_root; numbers = numbers_ahead n.numbers (omega arith) (omega arith) }
 

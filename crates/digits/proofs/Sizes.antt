@@ -12,13 +12,13 @@ use Rattle.image.specs.TypeCode.{sign_bit}
 use Rattle.image.specs.Digits.{midway, nearest, divided, whole_number, same_whole}
 use Rattle.image.proofs.CodeTable.{agree}
 use Rattle.laws.proofs.Rounding.{divided_same}
-use Rattle.digits.specs.Parts.{Power, TwoNumbers}
+use Rattle.digits.specs.Parts.{Divisor, TwoNumbers}
 
 -- the ten powers
 abbrev power_at : ℕ → ℕ
 power_at d = get_or (1 ∷ 10 ∷ 100 ∷ 1000 ∷ 10000 ∷ 100000 ∷ 1000000 ∷ 10000000 ∷ 100000000 ∷ 1000000000 ∷ []) d 0
 
-pub power_is : (d : ℕ) → d ≤ 9 → (power_at d ≡ 10 ^ d) × Power (power_at d)
+pub power_is : (d : ℕ) → d ≤ 9 → (power_at d ≡ 10 ^ d) × Divisor (power_at d)
 power_is d few = (
   agree power_at (λ (d : ℕ). 10 ^ d) 0 10 refl d (omega arith) (omega arith),
   record {

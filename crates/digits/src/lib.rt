@@ -3,14 +3,13 @@
 
 pub mod round;
 
-ghost use Rattle.std.specs.Prelude.{◌≡◌, false};
+ghost use Rattle.std.specs.Prelude.{◌≡◌, false, ◌+◌, ◌<◌};
 ghost use Rattle.image.specs.Record.{max_depth};
 ghost use Rattle.image.specs.Digits.{kept_agree, digits_equal, not_digits};
-ghost use Rattle.values.specs.Pair.{one_row};
 ghost use Rattle.values.specs.Parts.{Sides};
-ghost use Rattle.digits.specs.Parts.{Power, NumbersOf, ColumnedOf, agreed};
+ghost use Rattle.digits.specs.Parts.{NumbersOf, ColumnedOf, agreed};
 
-use crate::round::{numbers_agree, power_of};
+use crate::round::Power;
 use image::bytes::load;
 use image::element::Bitmap;
 use image::record::Node;
@@ -33,88 +32,90 @@ pub fn not_digits(image: &[u8], digits: usize) -> bool
     if MOST_DIGITS < digits {
         return true;
     }
-    let table = Node {
-        image: image,
-        number: 0,
-    };
-    let root = table.code();
-    if root == TypeCode::DECIMAL32 {
-        return false;
-    }
-    root != TypeCode::DECIMAL64
+    let root = Node::root(image).code();
+    root != TypeCode::DECIMAL32 && root != TypeCode::DECIMAL64
 }
 
-// Row i of the left column and row j of the right agree once they are divided by p. Both are null or neither is, so that
-// numbers that are the same agree without a look at the mask or a division.
-fn row_agrees<const W: usize>(
-    pair: Pair,
-    columns: Columns,
-    bitmap: Option<Bitmap>,
-    i: usize,
-    j: usize,
-    p: usize,
-) -> bool
-    requires numbers { NumbersOf pair (one_row i j) × Power p }
-    requires columned { ColumnedOf pair columns W bitmap }
-    ensures { result ≡ kept_agree p pair.entry.left.image.now pair.entry.right.image.now i j }
-{
-    let x = load::<W>(pair.left.image, columns.left + i * W);
-    let y = load::<W>(pair.right.image, columns.right + j * W);
-    if x == y {
-        return true;
-    }
-    if !pair.left.is_kept(bitmap, i) {
-        return true;
-    }
-    numbers_agree(x, y, W, p)
-}
-
-// Rows, one by one.
-fn rows_agree<const W: usize>(
-    pair: Pair,
-    columns: Columns,
-    bitmap: Option<Bitmap>,
+// Rows of two columns of numbers, and what is read of these once: where the numbers start, how wide they are, and the left null
+// mask.
+#[derive(Clone, Copy)]
+struct Chunk<'a> {
+    pair: Pair<'a>,
     rows: Rows,
-    p: usize,
-) -> bool
-    requires numbers { NumbersOf pair rows × Power p }
-    requires columned { ColumnedOf pair columns W bitmap }
-    ensures { result ≡ agreed p pair.entry rows }
-{
-    for k in 0..rows.count {
-        if !row_agrees::<W>(pair, columns, bitmap, rows.left + k, rows.right + k, p) {
-            return false;
+    columns: Columns,
+    bitmap: Option<Bitmap>,
+    ghost numbers: { NumbersOf pair rows },
+    ghost read: { ColumnedOf pair columns bitmap },
+}
+
+// Its methods take it by value: lent, the loop over rows is not compiled once with and once without a null mask, and Decimal32
+// with nulls that differ take 1.24 times as long.
+impl Chunk<'_> {
+    // Row k of each agree once they are divided by the power. Both are null or neither is, so that numbers that are the same
+    // agree without a look at the mask or a division.
+    fn row_agrees<const W: usize>(self, k: usize, power: Power) -> bool
+        requires some { k < self.rows.count }
+        requires width { W ≡ self.columns.width }
+        ensures { result ≡ kept_agree power.value self.entry.pair.left.image.now self.entry.pair.right.image.now (self.entry.rows.left + k) (self.entry.rows.right + k) }
+    {
+        let i = self.rows.left + k;
+        let j = self.rows.right + k;
+        let x = load::<W>(self.pair.left.image, self.columns.left + i * W);
+        let y = load::<W>(self.pair.right.image, self.columns.right + j * W);
+        if x == y {
+            return true;
         }
+        if !self.pair.left.is_kept(self.bitmap, i) {
+            return true;
+        }
+        power.numbers_agree(x, y, W)
     }
-    true
+
+    // All of them, one by one.
+    fn rows_agree<const W: usize>(self, power: Power) -> bool
+        requires width { W ≡ self.columns.width }
+        ensures { result ≡ agreed power.value self.entry.pair self.entry.rows }
+    {
+        for k in 0..self.rows.count {
+            if !self.row_agrees::<W>(k, power) {
+                return false;
+            }
+        }
+        true
+    }
 }
 
 // A chunk of rows: where they are not the same, number by number, in a loop of its own for each width.
-fn chunk_agrees(pair: Pair, rows: Rows, p: usize) -> bool
-    requires { NumbersOf pair rows × Power p }
-    ensures { result ≡ agreed p pair.entry rows }
+fn chunk_agrees(pair: &Pair, rows: Rows, power: Power) -> bool
+    requires { NumbersOf pair.now rows }
+    ensures { result ≡ agreed power.value pair.now rows }
 {
     if chunk_equal(pair, rows) {
         return true;
     }
-    let columns = columns_of(pair, rows);
-    let bitmap = pair.left.bitmap();
-    if columns.width == 4 {
-        return rows_agree::<4>(pair, columns, bitmap, rows, p);
+    let chunk = Chunk {
+        pair: *pair,
+        rows: rows,
+        columns: columns_of(pair),
+        bitmap: pair.left.bitmap(),
+    };
+    if chunk.columns.width == 4 {
+        return chunk.rows_agree::<4>(power);
     }
-    rows_agree::<8>(pair, columns, bitmap, rows, p)
+    chunk.rows_agree::<8>(power)
 }
 
 // Two ranges of rows of two tables agree in turn, once so many digits are dropped.
+// Kept: two images and no `Pair`, which would have to be known to be one of roots.
 pub fn digits_equal(a: &[u8], b: &[u8], rows: Rows, digits: usize) -> bool
     requires sides { Sides a.now b.now 0 0 rows.left rows.right rows.count max_depth }
     requires digits_fit { not_digits a.now digits ≡ false }
     ensures { result ≡ digits_equal digits a.now b.now rows.left rows.right rows.count }
 {
     let pair = Pair::roots(a, b);
-    if !equal_nulls(pair, rows) {
+    if !equal_nulls(&pair, rows) {
         return false;
     }
-    let p = power_of(digits);
-    rows.each_block::<CHUNK, _>(|part| chunk_agrees(pair, part, p))
+    let power = Power::new(digits);
+    rows.each_block::<CHUNK, _>(|part| chunk_agrees(&pair, part, power))
 }

@@ -1,9 +1,9 @@
 -- Dictionaries: two elements are equal exactly where the values rows that their keys name are; pairs of keys that are kept.
--- A key that a row which is not null reads lies below the length of the values child, so a pair of keys is one number.
+-- A key that a row which is not null reads lies below the length of the values child, so it fits 32 bits.
 use mathlib.Core.Path.{◌≡◌, refl, sym, ap, ◌∙◌}
-use mathlib.Core.Bool.{Bool, true, false, not}
+use mathlib.Core.Bool.{Bool, true, false, not, ◌&&◌}
 use mathlib.Core.List.{List}
-use Prim.Native.Nat.{ℕ, ◌+◌, ◌*◌, ◌%◌, ◌<◌, ◌≤◌}
+use Prim.Native.Nat.{ℕ, ◌+◌, ◌%◌, ◌<◌, ◌≤◌}
 use native.Mathlib.Omega.{arith}
 use native.Mathlib.Decide.{ℕ_discrete}
 use lib.ListN.{length, get_or, set, replicate, length-set, length-replicate, get_or-replicate}
@@ -24,6 +24,11 @@ use Rattle.accepted.specs.Parts.{Side}
 use Rattle.values.specs.Parts.{Sides, Parts}
 use Rattle.accepted.proofs.Nodes.{part_node, part_at_lem, length_small}
 use Rattle.accepted.proofs.ChildRows.{key_below}
+use Rattle.image.proofs.Bools.{and_left, and_right}
+use Rattle.values.specs.declared.pair.Pair.{Pair}
+use Rattle.equal.specs.declared.dictionary.Keys.{Keys}
+use Rattle.equal.specs.Keys.{KeysOf, KeyPair}
+use Rattle.equal.proofs.Buffers.{element_from}
 use Rattle.equal.proofs.Rows.{one_row}
 use Rattle.equal.proofs.Child.{layout_right, count_left, first_sides}
 
@@ -65,44 +70,54 @@ module _ {a b : List ℕ} {k l i j n d : ℕ} (r : Parts a b k l i j n d) (keys 
     pub key_same : same_row (row_at d a ca) (row_at d b cb) x y ≡ same_row (dictionary_row (row_at d a) a k) (dictionary_row (row_at d b) b l) (i + h) (j + h)
     key_same = sym (one_row (row_at d a ca) (row_at d b cb) x y) ∙ key_answer
 
--- a pair of keys as one number
-abbrev pub pair_of : ℕ → ℕ → ℕ
-pair_of x y = x * 4294967296 + y
+-- keys, as they are read
+module _ {p : Pair} {v : Keys} {i j : ℕ} {r : ℕ × ℕ} (k : KeysOf p v) where
+  pub left_key : KeyPair v i j r → r.0 ≡ element_at p.left.image.now p.left.number i
+  left_key y = element_from p.left v.left i k.left_width k.left_bytes k.left_place y.left
 
-held : Option ℕ → ℕ
-held None = 0
+  pub right_key : element_width p.left.image.now p.left.number ≡ element_width p.right.image.now p.right.number → KeyPair v i j r → r.1 ≡ element_at p.right.image.now p.right.number j
+  right_key same y = element_from p.right v.right j (k.right_width ∙ same) k.right_bytes k.right_place y.right
+
+held : Option (ℕ × ℕ) → ℕ × ℕ
+held None = (0, 0)
 held (Some x) = x
 
-same_option : (o : Option ℕ) (v : ℕ) → option_eq eqb o (Some v) ≡ true → o ≡ Some v
-same_option None v e = cc
-same_option (Some u) v e = ap Some (eqb-true u v e)
+-- two pairs of keys are the same
+abbrev pub pair_same : (u v : ℕ × ℕ) → Bool
+pair_same u v = eqb u.0 v.0 && eqb u.1 v.1
+
+same_option : (o : Option (ℕ × ℕ)) (x y : ℕ) → option_eq pair_same o (Some (x, y)) ≡ true → o ≡ Some (x, y)
+same_option None x y e = cc
+same_option (Some (u, v)) x y e =
+    let eu : u ≡ x = eqb-true u x (and_left (eqb u x) (eqb v y) e) in
+    let ev : v ≡ y = eqb-true v y (and_right (eqb u x) (eqb v y) e) in
+    rw (eu, ev)
 
 -- The table of pairs: the rows of a pair that stands in it are equal.
-pub record KeptPairs (g h : ℕ → Row) (table : List (Option ℕ)) : Type 0 where
+pub record KeptPairs (g h : ℕ → Row) (table : List (Option (ℕ × ℕ))) : Type 0 where
   pub sized : length table ≡ 1024
-  pub equal : (p x y : ℕ) → p < 1024 → y < 4294967296 → get_or table p None ≡ Some (pair_of x y) → same_row g h x y ≡ true
+  pub equal : (p x y : ℕ) → p < 1024 → get_or table p None ≡ Some (x, y) → same_row g h x y ≡ true
 
 pub kept_none : (g h : ℕ → Row) → KeptPairs g h (replicate 1024 None)
 kept_none g h = record {
-  sized = length-replicate {A = Option ℕ} 1024 None;
-  equal = λ p x y lt small e. absurd (none-some _ (sym (get_or-replicate {A = Option ℕ} 1024 p None None lt) ∙ e));
+  sized = length-replicate {A = Option (ℕ × ℕ)} 1024 None;
+  equal = λ p x y lt e. absurd (none-some _ (sym (get_or-replicate {A = Option (ℕ × ℕ)} 1024 p None None lt) ∙ e));
 }
 
-module _ {g h : ℕ → Row} {table : List (Option ℕ)} (r : KeptPairs g h table) (x y : ℕ) (small : y < 4294967296) where
+module _ {g h : ℕ → Row} {table : List (Option (ℕ × ℕ))} (r : KeptPairs g h table) (x y : ℕ) where
   -- a pair that stands in the table
-  pub kept_equal : {other : Bool} → other ≡ not (option_eq eqb (get_or table (x % 1024) None) (Some (pair_of x y))) → other ≡ false → same_row g h x y ≡ true
-  kept_equal e f = r.equal (x % 1024) x y (omega arith) small (same_option _ _ (not-false _ (sym e ∙ f)))
+  pub kept_equal : {other : Bool} → other ≡ not (option_eq pair_same (get_or table (x % 1024) None) (Some (x, y))) → other ≡ false → same_row g h x y ≡ true
+  kept_equal e f = r.equal (x % 1024) x y (omega arith) (same_option _ x y (not-false _ (sym e ∙ f)))
 
   -- one pair more
-  pub kept_more : same_row g h x y ≡ true → KeptPairs g h (set table (x % 1024) (Some (pair_of x y)))
+  pub kept_more : same_row g h x y ≡ true → KeptPairs g h (set table (x % 1024) (Some (x, y)))
   unfolding held
-  kept_more same = record { sized = length-set table (x % 1024) _ ∙ r.sized; equal = λ p u v lt low e. cases p u v lt low e (ℕ_discrete p (x % 1024)) }
+  kept_more same = record { sized = length-set table (x % 1024) _ ∙ r.sized; equal = λ p u v lt e. cases p u v lt e (ℕ_discrete p (x % 1024)) }
     where
-      cases : (p u v : ℕ) → p < 1024 → v < 4294967296 → get_or (set table (x % 1024) (Some (pair_of x y))) p None ≡ Some (pair_of u v) → Dec (p ≡ x % 1024) → same_row g h u v ≡ true
-      cases p u v lt low e (yes q) =
-          let stored : Some (pair_of x y) ≡ Some (pair_of u v) = sym (rw q (get_or-set_same table (x % 1024) (Some (pair_of x y)) None (omega (arith, r.sized)))) ∙ e in
-          let one : pair_of x y ≡ pair_of u v = ap held stored in
-          let eu : u ≡ x = omega (arith, one) in
-          let ev : v ≡ y = omega (arith, one) in
+      cases : (p u v : ℕ) → p < 1024 → get_or (set table (x % 1024) (Some (x, y))) p None ≡ Some (u, v) → Dec (p ≡ x % 1024) → same_row g h u v ≡ true
+      cases p u v lt e (yes q) =
+          let stored : Some (x, y) ≡ Some (u, v) = sym (rw q (get_or-set_same table (x % 1024) (Some (x, y)) None (omega (arith, r.sized)))) ∙ e in
+          let eu : u ≡ x = sym (ap (λ o. (held o).0) stored) in
+          let ev : v ≡ y = sym (ap (λ o. (held o).1) stored) in
           rw (eu, ev) same
-      cases p u v lt low e (no ne) = r.equal p u v lt low (sym (get_or-set_other table (x % 1024) p (Some (pair_of x y)) None ne) ∙ e)
+      cases p u v lt e (no ne) = r.equal p u v lt (sym (get_or-set_other table (x % 1024) p (Some (x, y)) None ne) ∙ e)

@@ -227,6 +227,9 @@ module _ {a b : List ℕ} {k l i j n d : ℕ} (r : Sides a b k l i j n d) (deep 
   pub range_sides : Sides a b k l i j n (suc (d - 1))
   range_sides = rw less r
 
+  pub range_once : Sides a b k l i j n 1
+  range_once = record { left = r.left; right = r.right; alike = (range_sides.alike.0, λ c lt. tt) }
+
   pub range_rows : range_equal (row_at (suc (d - 1)) a k) (row_at (suc (d - 1)) b l) i j n ≡ range_equal (row_at d a k) (row_at d b l) i j n
   range_rows = rw less
 

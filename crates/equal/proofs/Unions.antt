@@ -8,7 +8,9 @@ use Prim.Native.Nat.{ℕ, zero, suc, ◌+◌, ◌-◌, ◌<◌, ◌≤◌}
 use native.Mathlib.Omega.{arith}
 use lib.Dec.{eqb}
 use lib.ListN.{length}
-use Rattle.image.specs.Bytes.{bytes_at}
+use native.Mathlib.Decide.{ℕ_discrete}
+use Rattle.image.specs.Bytes.{byte_at, bytes_at}
+use Rattle.image.specs.Reads.{Read}
 use Rattle.image.specs.Types.{same_bytes}
 use borrow.Author.Tests.{eqb-true, eq-eqb, ne_eqb, lt-ltb}
 use Rattle.image.specs.declared.type_code.Layout.TheVariants.{DenseUnion, SparseUnion}
@@ -113,6 +115,11 @@ module _ {a b : List ℕ} {k l i j n d x y : ℕ} (r : Parts a b k l i j n d) (m
         rw (named_right, named_left)
         (sym (ids_same (row_at d a) (row_at d b) a b k l (type_id_at a k x) (type_id_at b l y) u v m.left.high m.right.high (sym ei ∙ same ∙ ee)))
 
+-- the id of element j, as it is read
+pub id_at : (s : List ℕ) (k j : ℕ) {p : ℕ} → Read (buffer_place s k 0) 32 p → byte_at s (p + j) ≡ type_id_at s k j
+unfolding type_id_at
+id_at s k j ep = rw (← ep.value)
+
 -- element h of a range of dense unions, as its ids and offsets are read
 module _ {a b : List ℕ} {k l i j n d : ℕ} (r : Parts a b k l i j n d) (dense : layout_of (code_of a k) ≡ DenseUnion) (h : ℕ) (lt : h < n) where
   dense_named : Named a b k l (i + h) (j + h)
@@ -123,7 +130,7 @@ module _ {a b : List ℕ} {k l i j n d : ℕ} (r : Parts a b k l i j n d) (dense
   }
 
   module _ {id ie : ℕ} (ei : id ≡ type_id_at a k (i + h)) (ee : ie ≡ type_id_at b l (j + h)) where
-    pub dense_differs : (id ≡ ie → ⊥) → same_row (dense_row (row_at d a) a k) (dense_row (row_at d b) b l) (i + h) (j + h) ≡ false
+    dense_differs : (id ≡ ie → ⊥) → same_row (dense_row (row_at d a) a k) (dense_row (row_at d b) b l) (i + h) (j + h) ≡ false
     unfolding same_row dense_row
     dense_differs ne = named_differs r dense_named ei ee _ _ ne
 
@@ -149,7 +156,7 @@ module _ {a b : List ℕ} {k l i j n d : ℕ} (r : Parts a b k l i j n d) (spars
   }
 
   module _ {id ie : ℕ} (ei : id ≡ type_id_at a k (i + h)) (ee : ie ≡ type_id_at b l (j + h)) where
-    pub sparse_differs : (id ≡ ie → ⊥) → same_row (sparse_row (row_at d a) a k) (sparse_row (row_at d b) b l) (i + h) (j + h) ≡ false
+    sparse_differs : (id ≡ ie → ⊥) → same_row (sparse_row (row_at d a) a k) (sparse_row (row_at d b) b l) (i + h) (j + h) ≡ false
     unfolding same_row sparse_row
     sparse_differs ne = named_differs r sparse_named ei ee _ _ ne
 
@@ -209,8 +216,16 @@ module _ {a b : List ℕ} {k l i j n d : ℕ} (r : Parts a b k l i j n d) (spars
 
 -- the same, with the children as they are found
 module _ {a b : List ℕ} {k l i j n d : ℕ} (r : Parts a b k l i j n d) (dense : layout_of (code_of a k) ≡ DenseUnion) (h : ℕ) (lt : h < n) {id ie : ℕ} (ei : id ≡ type_id_at a k (i + h)) (ee : ie ≡ type_id_at b l (j + h)) where
-  pub dense_never : child_with_id a k id ≡ child_end a k → ⊥
+  dense_never : child_with_id a k id ≡ child_end a k → ⊥
   dense_never e = omega (arith, e, ap (child_with_id a k) ei, (dense_named r dense h lt).left.high)
+
+  -- where the ids differ, or name no child
+  pub dense_fails : (id ≡ ie → child_with_id a k id ≡ child_end a k) → same_row (dense_row (row_at d a) a k) (dense_row (row_at d b) b l) (i + h) (j + h) ≡ false
+  dense_fails none = cases (ℕ_discrete id ie)
+    where
+      cases : Dec (id ≡ ie) → same_row (dense_row (row_at d a) a k) (dense_row (row_at d b) b l) (i + h) (j + h) ≡ false
+      cases (yes e) = absurd (dense_never (none e))
+      cases (no ne) = dense_differs r dense h lt ei ee ne
 
   module _ (same : id ≡ ie) where
     dense_place : first_child a k + (child_with_id a k id - first_child a k) ≡ child_with_id a k id
@@ -225,8 +240,16 @@ module _ {a b : List ℕ} {k l i j n d : ℕ} (r : Parts a b k l i j n d) (dense
 
 -- the same, with the children as they are found
 module _ {a b : List ℕ} {k l i j n d : ℕ} (r : Parts a b k l i j n d) (sparse : layout_of (code_of a k) ≡ SparseUnion) (h : ℕ) (lt : h < n) {id ie : ℕ} (ei : id ≡ type_id_at a k (i + h)) (ee : ie ≡ type_id_at b l (j + h)) where
-  pub sparse_never : child_with_id a k id ≡ child_end a k → ⊥
+  sparse_never : child_with_id a k id ≡ child_end a k → ⊥
   sparse_never e = omega (arith, e, ap (child_with_id a k) ei, (sparse_named r sparse h lt).left.high)
+
+  -- where the ids differ, or name no child
+  pub sparse_fails : (id ≡ ie → child_with_id a k id ≡ child_end a k) → same_row (sparse_row (row_at d a) a k) (sparse_row (row_at d b) b l) (i + h) (j + h) ≡ false
+  sparse_fails none = cases (ℕ_discrete id ie)
+    where
+      cases : Dec (id ≡ ie) → same_row (sparse_row (row_at d a) a k) (sparse_row (row_at d b) b l) (i + h) (j + h) ≡ false
+      cases (yes e) = absurd (sparse_never (none e))
+      cases (no ne) = sparse_differs r sparse h lt ei ee ne
 
   module _ (same : id ≡ ie) where
     sparse_place : first_child a k + (child_with_id a k id - first_child a k) ≡ child_with_id a k id

@@ -2,9 +2,12 @@
 ghost use Rattle.std.specs.Prelude.{◌≡◌};
 ghost use Rattle.image.specs.declared.type_code.Layout.TheVariants.{Dictionary};
 ghost use Rattle.image.specs.Row.{dictionary_row};
+ghost use Rattle.image.specs.Reads.{Nth};
+ghost use Rattle.equal.specs.Keys.{KeysOf, KeyPair};
 ghost use Rattle.values.specs.Pair.{equal_rows, nested, PartsIn};
 
 use crate::equal_row;
+use image::bytes::Numbers;
 use values::leaf::leaves_of;
 use values::pair::{Pair, Rows};
 
@@ -13,29 +16,56 @@ const LONG: usize = 64;
 
 const KEPT: usize = 1024;
 
-// A long range: a pair of keys whose values are equal is kept, as one number, at the place that its left key gives, and is
-// not compared again while it stands there.
+// The keys of two dictionaries.
+#[derive(Clone, Copy)]
+struct Keys<'a> {
+    left: Numbers<'a>,
+    right: Numbers<'a>,
+}
+
+impl<'a> Keys<'a> {
+    // Those of two nodes, which have one width.
+    fn new(pair: &Pair<'a>) -> Keys<'a>
+        ensures { KeysOf pair.now result }
+    {
+        let width = pair.left.element_width();
+        Keys {
+            left: pair.left.numbers(0, width),
+            right: pair.right.numbers(0, width),
+        }
+    }
+
+    // Key i of the left and key j of the right.
+    #[inline(always)]
+    fn at(self, i: usize, j: usize) -> (usize, usize)
+        requires { Nth self.left.place self.left.width i × Nth self.right.place self.right.width j }
+        ensures { KeyPair self.entry i j result }
+    {
+        (self.left.at(i), self.right.at(j))
+    }
+}
+
+// A long range: a pair of keys whose values are equal is kept at the place that its left key gives, and is not compared again
+// while it stands there. Keys are kept as `u32`, which they fit: an entry of the table takes 12 bytes so, where it would take
+// 24.
 #[cycle(rows)]
 fn long_equal(pair: &Pair, rows: Rows, depth: usize) -> bool
     requires { PartsIn Dictionary pair.now rows depth }
     ensures { result ≡ equal_rows (nested dictionary_row depth) pair.now rows }
 {
-    let width = pair.left.element_width();
-    let left = pair.left.numbers(0, width);
-    let right = pair.right.numbers(0, width);
+    let keys = Keys::new(pair);
     let child = pair.child(0);
     let leaves = leaves_of(child);
     let mut kept = [None; KEPT];
     for row in 0..rows.count {
-        let x = left.at(rows.left + row);
-        let y = right.at(rows.right + row);
-        let keys = x * 4294967296 + y;
+        let (x, y) = keys.at(rows.left + row, rows.right + row);
+        let both = (x as u32, y as u32);
         let place = x % KEPT;
-        if kept[place] != Some(keys) {
-            if !equal_row(&child, leaves, x, y, depth) {
+        if kept[place] != Some(both) {
+            if !equal_row(&child, &leaves, x, y, depth) {
                 return false;
             }
-            kept[place] = Some(keys);
+            kept[place] = Some(both);
         }
     }
     true
@@ -51,15 +81,12 @@ pub fn equal(pair: &Pair, rows: Rows, depth: usize) -> bool
     if LONG <= rows.count {
         return long_equal(pair, rows, depth);
     }
-    let width = pair.left.element_width();
-    let left = pair.left.numbers(0, width);
-    let right = pair.right.numbers(0, width);
+    let keys = Keys::new(pair);
     let child = pair.child(0);
     let leaves = leaves_of(child);
     for k in 0..rows.count {
-        let x = left.at(rows.left + k);
-        let y = right.at(rows.right + k);
-        if !equal_row(&child, leaves, x, y, depth) {
+        let (x, y) = keys.at(rows.left + k, rows.right + k);
+        if !equal_row(&child, &leaves, x, y, depth) {
             return false;
         }
     }

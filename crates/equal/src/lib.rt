@@ -18,7 +18,7 @@ ghost use Rattle.values.specs.Parts.{Sides};
 ghost use Rattle.values.specs.Pair.{equal_rows, values_at, one_row, same_masks, SidesOf, PartsOf, LeavesOf};
 
 use image::record::MAX_DEPTH;
-use image::type_code::{Layout, TypeCode};
+use image::type_code::Layout;
 use values::boolean::boolean_equal;
 use values::byte_view::{byte_view_equal, masked_views_equal};
 use values::data::{contains_nulls, valid_rows};
@@ -30,18 +30,22 @@ use values::utils::equal_nulls;
 use values::variable_size::variable_sized_equal;
 
 // The elements of two ranges are equal, none of them null: the rule of their layout.
+// Kept: pair, rows and depth are three arguments in the whole cycle, and no struct. Each call on children, on a part of the rows
+// or one level down would make it anew, `Ranges { pair: &child, rows: items, depth: depth }` for `&child, items, depth`; and what
+// is known of the three, which a ghost field would say, is said of rows in one part of the cycle (`SidesOf`), of elements in
+// another (`PartsOf`), and of elements of a layout in each rule (`PartsIn`).
 #[cycle(rows)]
 fn equal_values(pair: &Pair, rows: Rows, depth: usize) -> bool
     requires { PartsOf pair.now rows depth }
     ensures { result ≡ equal_rows (values_at depth) pair.now rows }
 {
-    let layout = TypeCode::layout(pair.left.code());
+    let layout = pair.left.layout();
     match layout {
         Layout::Null => null_equal(),
-        Layout::Boolean => boolean_equal(*pair, rows),
-        Layout::FixedWidth => primitive_equal(*pair, rows),
-        Layout::VariableSize => variable_sized_equal(*pair, rows),
-        Layout::View => byte_view_equal(*pair, rows),
+        Layout::Boolean => boolean_equal(pair, rows),
+        Layout::FixedWidth => primitive_equal(pair, rows),
+        Layout::VariableSize => variable_sized_equal(pair, rows),
+        Layout::View => byte_view_equal(pair, rows),
         Layout::List => list::equal(pair, rows, depth),
         Layout::ListView => list_view::equal(pair, rows, depth),
         Layout::FixedList => fixed_list::equal(pair, rows, depth),
@@ -62,12 +66,12 @@ fn equal_valid(pair: &Pair, rows: Rows, depth: usize) -> bool
     ensures { result ≡ equal_rows (row_at (suc depth)) pair.now rows }
 {
     let n = rows.count;
-    let layout = TypeCode::layout(pair.left.code());
+    let layout = pair.left.layout();
     if let Layout::FixedWidth = layout {
-        return masked_equal(*pair, rows);
+        return masked_equal(pair, rows);
     }
     if let Layout::View = layout {
-        return masked_views_equal(*pair, rows);
+        return masked_views_equal(pair, rows);
     }
     let elements = pair.elements(rows);
     let mut k: usize = 0;
@@ -88,14 +92,14 @@ fn equal_valid(pair: &Pair, rows: Rows, depth: usize) -> bool
 
 // Row s of one node and row t of another are equal, by what was read of the nodes if there is such.
 #[cycle(rows)]
-fn equal_row(pair: &Pair, leaves: Option<Leaves>, s: usize, t: usize, depth: usize) -> bool
+fn equal_row(pair: &Pair, leaves: &Option<Leaves>, s: usize, t: usize, depth: usize) -> bool
     requires sides { SidesOf pair.now (one_row s t) depth }
-    requires leaves { LeavesOf pair.now leaves }
+    requires leaves { LeavesOf pair.now leaves.now }
     ensures { result ≡ equal_rows (row_at depth) pair.now (one_row s t) }
 {
     if 0 < depth {
         if let Some(read) = leaves {
-            return leaf_equal(*pair, read, s, t, depth - 1);
+            return leaf_equal(pair, read, s, t);
         }
     }
     let row = Rows {
@@ -115,7 +119,7 @@ pub fn equal_range(pair: &Pair, rows: Rows, depth: usize) -> bool
     if depth == 0 {
         return true;
     }
-    if !equal_nulls(*pair, rows) {
+    if !equal_nulls(pair, rows) {
         return false;
     }
     if contains_nulls(pair.left, rows.left, rows.count) {
@@ -125,6 +129,7 @@ pub fn equal_range(pair: &Pair, rows: Rows, depth: usize) -> bool
 }
 
 // Two ranges of rows of two tables are equal.
+// Kept: two images and no `Pair`, which would have to be known to be one of roots.
 pub fn rows_equal(a: &[u8], b: &[u8], rows: Rows) -> bool
     requires { Sides a.now b.now 0 0 rows.left rows.right rows.count max_depth }
     ensures { result ≡ range_equal (row_at max_depth a.now 0) (row_at max_depth b.now 0) rows.left rows.right rows.count }

@@ -14,7 +14,7 @@ pub fn equal(pair: &Pair, rows: Rows, depth: usize) -> bool
     requires { PartsIn Lists pair.now rows depth }
     ensures { result ≡ equal_rows (nested list_row depth) pair.now rows }
 {
-    if !lengths_equal(*pair, rows) {
+    if !lengths_equal(pair, rows) {
         return false;
     }
     let from = pair.left.offset_at(rows.left);

@@ -26,7 +26,7 @@ pub fn equal(pair: &Pair, rows: Rows, depth: usize) -> bool
     }
     let mut i = run_of(pair.left, s);
     let mut j = run_of(pair.right, t);
-    if let Some(runs) = same_runs(*pair, rows, i, j) {
+    if let Some(runs) = same_runs(pair, rows, i, j) {
         let whole = Rows {
             left: i,
             right: j,
@@ -39,7 +39,7 @@ pub fn equal(pair: &Pair, rows: Rows, depth: usize) -> bool
     let right = pair.right.ends();
     // Kept: no `for`, since a step is as long as the shorter run goes on; a loop with a label, as document 01 has it here.
     'runs: while k < n {
-        if !equal_row(&values, leaves, i, j, depth) {
+        if !equal_row(&values, &leaves, i, j, depth) {
             equal = false;
             break 'runs;
         }

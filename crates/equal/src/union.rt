@@ -2,7 +2,7 @@
 ghost use Rattle.std.specs.Prelude.{◌≡◌};
 ghost use Rattle.image.specs.declared.type_code.Layout.TheVariants.{DenseUnion, SparseUnion};
 ghost use Rattle.image.specs.Row.{dense_row, sparse_row};
-ghost use Rattle.values.specs.Pair.{equal_rows, nested, PartsIn, NamedOf};
+ghost use Rattle.values.specs.Pair.{equal_rows, nested, PartsIn, NamedAt};
 
 use crate::{equal_range, structure};
 use image::bytes::byte;
@@ -13,14 +13,17 @@ const BLOCK: usize = 4096;
 
 const SEVERAL: usize = 8;
 
-// The children that a type id of the left names, which stand at one place among the children of each.
-fn named(pair: Pair, id: u8) -> Option<Pair>
-    ensures { NamedOf pair.entry id result }
+// The children that the type ids at places x and y name, which stand at one place among the children of each: none where
+// the ids differ, or name none.
+fn named_at<'a>(pair: &Pair<'a>, x: usize, y: usize) -> Option<Pair<'a>>
+    ensures { NamedAt pair.now x y result }
 {
-    match pair.left.child_with_id(id) {
-        None => None,
-        Some(child) => Some(pair.child(child - pair.left.first_child())),
+    let id = byte(pair.left.image, x);
+    if id != byte(pair.right.image, y) {
+        return None;
     }
+    let child = pair.left.child_with_id(id)?;
+    Some(pair.child(child - pair.left.first_child()))
 }
 
 // Dense unions: the type ids, and the row of the child that each id names, at its offset.
@@ -35,11 +38,7 @@ pub fn dense(pair: &Pair, rows: Rows, depth: usize) -> bool
     let left = a.numbers(1, 4);
     let right = b.numbers(1, 4);
     for k in 0..rows.count {
-        let id = byte(a.image, ia + (rows.left + k));
-        if id != byte(b.image, ib + (rows.right + k)) {
-            return false;
-        }
-        let Some(child) = named(*pair, id) else {
+        let Some(child) = named_at(pair, ia + (rows.left + k), ib + (rows.right + k)) else {
             return false;
         };
         let row = Rows {
@@ -75,11 +74,7 @@ fn block(pair: &Pair, rows: Rows, depth: usize) -> bool
         }
     }
     for k in 0..n {
-        let type_id = byte(a.image, ia + (rows.left + k));
-        if type_id != byte(b.image, ib + (rows.right + k)) {
-            return false;
-        }
-        let Some(child) = named(*pair, type_id) else {
+        let Some(child) = named_at(pair, ia + (rows.left + k), ib + (rows.right + k)) else {
             return false;
         };
         if !equal_range(&child, rows.part(k, 1), depth) {
@@ -99,10 +94,10 @@ pub fn sparse(pair: &Pair, rows: Rows, depth: usize) -> bool
 {
     let n = rows.count;
     for h in 0..n / BLOCK {
-        if !block(pair, rows.part(4096 * h, BLOCK), depth) {
+        if !block(pair, rows.part(BLOCK * h, BLOCK), depth) {
             return false;
         }
     }
-    let k = 4096 * (n / BLOCK);
+    let k = BLOCK * (n / BLOCK);
     block(pair, rows.part(k, n - k), depth)
 }

@@ -385,12 +385,12 @@ module _ {s places b : List ℕ} {d k first n i : ℕ} {next : List ℕ} {mid f 
   field_more lt v = record { going = going_more g.going lt v.done }
 
 -- what a match on the layout tells
-module _ (s : List ℕ) (k : ℕ) {code : ℕ} {l : Layout} where
-  pub layout_told : {m : Layout} → l ≡ layout_of code → code ≡ code_of s k → l ≡ m → layout_of (code_of s k) ≡ m
-  layout_told e c is = ap layout_of (sym c) ∙ sym e ∙ is
+module _ (s : List ℕ) (k : ℕ) {l : Layout} where
+  pub layout_told : {m : Layout} → l ≡ layout_of (code_of s k) → l ≡ m → layout_of (code_of s k) ≡ m
+  layout_told e is = sym e ∙ is
 
-  pub last_told : true ≡ last_arm l → l ≡ layout_of code → code ≡ code_of s k → last_arm (layout_of (code_of s k)) ≡ true
-  last_told last e c = ap last_arm (ap layout_of (sym c) ∙ sym e) ∙ sym last
+  pub last_told : true ≡ last_arm l → l ≡ layout_of (code_of s k) → last_arm (layout_of (code_of s k)) ≡ true
+  last_told last e = ap last_arm (sym e) ∙ sym last
 
 -- A list and its rows, as code has its count and its child.
 module _ {s places b : List ℕ} {f : State} {d k n : ℕ} (start : RowWalk s places b d k f) (e : layout_of (code_of s k) ≡ Lists) (mark : byte_at b 0 ≡ 1) (many : n ≡ number_at 4 b 1) where

@@ -7,6 +7,10 @@ use Prim.Native.Nat.{ℕ, zero, suc, ◌+◌, ◌*◌, ◌-◌, ◌/◌, ◌%◌
 use native.Mathlib.Omega.{arith}
 use lib.ListN.{length, replicate, set}
 use lib.Pow.{pow-add, pow_mono}
+use Rattle.std.specs.Int.Bits.{bit_and, bit_or}
+use Rattle.std.proofs.lemmas.Nat.{or_disjoint}
+use Rattle.std.proofs.lemmas.Nat.Bits.{and_pow}
+use native.Mathlib.Nat.{div-eq_of_lt}
 use Rattle.image.specs.Bytes.{byte_at, number_bytes}
 use Rattle.image.specs.Row.{Row, Rows, none, more, one, rows_then}
 use Rattle.image.specs.Built.{bits_number, pack_bits, each_number, each_bytes, offsets_from, span}
@@ -119,11 +123,14 @@ offsets_more w x (more q rs) r =
     let e : x + span q + total rs + span r ≡ x + (span q + total rs) + span r = omega arith in
     rw (offsets_more w (x + span q) rs r, e) (simp append_assoc)
 
--- the bit that is set, as code has it
-pub bit_small : (j : ℕ) → 2 ^ (j % 8) ≤ 128
+-- the bit that is set, as code has it: where it and those from it on are 0, it is added
+bit_small : (j : ℕ) → 1 * 2 ^ (j % 8) % 256 ≡ 2 ^ (j % 8)
 bit_small j =
     let seven : j % 8 ≤ 7 = omega arith in
-    pow_mono seven
+    let top : 2 ^ (j % 8) ≤ 128 = pow_mono seven in
+    omega arith
 
-pub bit_value : (j : ℕ) → 1 * 2 ^ (j % 8) % 18446744073709551616 ≡ 2 ^ (j % 8)
-bit_value j = omega (arith, bit_small j)
+pub bit_added : (x j : ℕ) → x < 2 ^ (j % 8) → bit_or x (1 * 2 ^ (j % 8) % 256) ≡ x + 2 ^ (j % 8)
+bit_added x j lt =
+    let free : bit_and x (2 ^ (j % 8)) ≡ 0 = and_pow x (j % 8) ∙ rw (div-eq_of_lt lt) (omega arith) in
+    rw (bit_small j) (or_disjoint x (2 ^ (j % 8)) free)

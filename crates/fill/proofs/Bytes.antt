@@ -3,16 +3,17 @@
 -- before and behind.
 use mathlib.Core.Path.{◌≡◌, refl, sym, ap, ◌∙◌}
 use mathlib.Core.Bool.{Bool, true, false}
-use mathlib.Core.List.{List, ◌++◌, append_assoc}
+use mathlib.Core.List.{List, [], ◌∷◌, ◌++◌, append_assoc, append-nil}
 use mathlib.Core.Logic.{◌⊎◌, inl, inr}
-use Prim.Native.Nat.{ℕ, zero, suc, ◌+◌, ◌-◌, ◌≤◌, ◌<◌}
+use Prim.Native.Nat.{ℕ, zero, suc, ◌+◌, ◌-◌, ◌/◌, ◌%◌, ◌≤◌, ◌<◌, ◌^◌}
 use native.Mathlib.Nat.{add-zero}
 use native.Mathlib.Omega.{arith}
 use lib.ListN.{length, take, drop, replicate, length-append, length-drop, length-replicate, replicate-append-replicate, get_or-append}
-use lib.Seq.{length-take-le, take-append_seam, drop-append-add, get_or-append-add, get_or-drop, ext_get_or}
+use lib.Seq.{length-take-le, take-add, drop-drop, take-append_seam, drop-append-add, get_or-append-add, get_or-drop, ext_get_or}
 use lib.Dec.{ltb}
 use borrow.Author.Tests.{ltb-true, ltb-false}
-use Rattle.std.proofs.lemmas.List.{take_all}
+use borrow.Rule.Slice.PartMut.{put_mid}
+use Rattle.std.proofs.lemmas.List.{nil_from_length, take_all}
 use Rattle.image.specs.Bytes.{byte_at, bytes_at}
 use Rattle.laws.proofs.Lengths.{bytes_length}
 use Rattle.rows.specs.Output.{over}
@@ -127,3 +128,27 @@ padded_zeros n x w fits =
 -- a slice from a place on
 pub from_place : (b : List ℕ) (k : ℕ) → take (length b - k) (drop k b) ≡ drop k b
 from_place b k = take_all (length b - k) (drop k b) (omega (arith, length-drop k b))
+
+-- bytes that are put over a slice from a place on, as code lends it
+pub over_from : (out : List ℕ) (at o : ℕ) (x : List ℕ) → put_mid at (length out - at) out (over (drop at out) o x) ≡ over out (at + o) x
+unfolding over
+over_from out at o x =
+    let none : drop (length out - at) (drop at out) ≡ [] = nil_from_length (drop (length out - at) (drop at out)) (omega (arith, length-drop (length out - at) (drop at out), length-drop at out)) in
+    let front : take (at + o) out ≡ take at out ++ take o (drop at out) = take-add at o out in
+    let back : at + (o + length x) ≡ at + o + length x = omega arith in
+    let behind : drop (o + length x) (drop at out) ≡ drop (at + o + length x) out = drop-drop (o + length x) at out ∙ ap (λ (n : ℕ). drop n out) back in
+    rw (none, append-nil, front, behind) (sym (append_assoc (take at out) (take o (drop at out)) (x ++ drop (at + o + length x) out)))
+
+-- A bit of such a slice: that it is inside and free, and that it is set in the whole.
+module _ (out : List ℕ) (at j : ℕ) where
+  abbrev slice : List ℕ
+  slice = take (length out - at) (drop at out)
+
+  byte_there : byte_at slice (j / 8) ≡ byte_at out (at + j / 8)
+  byte_there = rw (from_place out at) (get_or-drop at out (j / 8) 0)
+
+  pub bit_there : (at + j / 8 < length out) × (byte_at out (at + j / 8) < 2 ^ (j % 8)) → (j / 8 < length slice) × (byte_at slice (j / 8) < 2 ^ (j % 8))
+  bit_there both = (rw (from_place out at) (omega (arith, length-drop at out, both.0)), rw byte_there both.1)
+
+  pub bit_over : {bits : List ℕ} → bits ≡ over slice (j / 8) ((byte_at slice (j / 8) + 2 ^ (j % 8)) ∷ []) → put_mid at (length out - at) out bits ≡ over out (at + j / 8) ((byte_at out (at + j / 8) + 2 ^ (j % 8)) ∷ [])
+  bit_over e = rw (e, byte_there, from_place out at) (over_from out at (j / 8) ((byte_at out (at + j / 8) + 2 ^ (j % 8)) ∷ []))

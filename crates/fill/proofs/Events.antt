@@ -367,9 +367,9 @@ module _ {s places : List ℕ} {f : State} {k : ℕ} (g : Getting s places f k 0
     gap_ended lengths h put counts = ended lengths put counts (layout_of (code_of s k)) refl h
 
 -- what the test of the layout tells
-module _ (s : List ℕ) (k : ℕ) {code : ℕ} {l : Layout} {b : Bool} where
-  pub has_told : b ≡ has_offsets l → l ≡ layout_of code → code ≡ code_of s k → b ≡ true → has_offsets (layout_of (code_of s k)) ≡ true
-  has_told h e c t = rw (← c, ← e, ← h) t
+module _ (s : List ℕ) (k : ℕ) {l : Layout} {b : Bool} where
+  pub has_told : b ≡ has_offsets l → l ≡ layout_of (code_of s k) → b ≡ true → has_offsets (layout_of (code_of s k)) ≡ true
+  has_told h e t = rw (← e, ← h) t
 
-  pub has_not : b ≡ has_offsets l → l ≡ layout_of code → code ≡ code_of s k → b ≡ false → has_offsets (layout_of (code_of s k)) ≡ false
-  has_not h e c t = rw (← c, ← e, ← h) t
+  pub has_not : b ≡ has_offsets l → l ≡ layout_of (code_of s k) → b ≡ false → has_offsets (layout_of (code_of s k)) ≡ false
+  has_not h e t = rw (← e, ← h) t

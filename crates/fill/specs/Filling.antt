@@ -1,5 +1,5 @@
 -- What is known while the parts of an image are filled, row by row: each part holds what the rows so far make, and zeros behind.
-use Rattle.std.specs.Prelude.{◌≡◌, Bool, true, false, List, [], ◌++◌, map, ◌⊎◌, ℕ, suc, ◌+◌, ◌*◌, ◌-◌, ◌≤◌, ◌<◌, ◌^◌, length, get_or, replicate, Ok}
+use Rattle.std.specs.Prelude.{◌≡◌, Bool, true, false, List, [], ◌++◌, map, ◌⊎◌, ℕ, suc, ◌+◌, ◌*◌, ◌-◌, ◌≤◌, ◌<◌, ◌^◌, length, get_or, set, replicate, Ok}
 use Rattle.image.specs.declared.type_code.Layout.{Layout}
 use Rattle.image.specs.declared.type_code.Layout.TheVariants.{Null, Boolean, FixedWidth, VariableSize, View, List as Lists, ListView, FixedList, Struct, DenseUnion, SparseUnion, Dictionary, Runs}
 use Rattle.image.specs.Bytes.{byte_at, bytes_at}
@@ -26,11 +26,6 @@ filling out rows spans = record { out = out; rows = rows; spans = spans }
 
 abbrev pub state : Filling → State
 state x = filling x.out.now (map (λ t. t.rows) x.tallies) (map (λ t. t.span) x.tallies)
-
--- what a filling was made of is what it has: the places, and the buffer that is lent to it
-pub record SameLent (x y : Filling) : Type 0 where
-  pub places : y.places.now ≡ x.places.now
-  pub out : y.out.ghost_name ≡ x.out.ghost_name
 
 -- Part q stands from its place up to that of the next; part i of node k is part 3 * k + i of all.
 abbrev pub part_len : List ℕ → ℕ → ℕ
@@ -175,3 +170,54 @@ pub record RowsWalk (s places b : List ℕ) (d k n : ℕ) (f : State) : Type 0 w
 
 pub record RowsWalked (s places b : List ℕ) (d k n : ℕ) (f₀ f : State) (rest : List ℕ) : Type 0 where
   pub done : Walked s places (rows_of (row_in d s k) n b) (the_rows (rows_of (row_in d s k) n b)) (rows_give d s k (rows_of (row_in d s k) n b)) f₀ f rest
+
+-- What the functions ask of a filling x, and what a filling y is that they leave of it.
+-- what x was made of is what y has: the places, and the buffer that is lent to it
+pub record SameLent (x y : Filling) : Type 0 where
+  pub places : y.places.now ≡ x.places.now
+  pub out : y.out.ghost_name ≡ x.out.ghost_name
+
+-- node k has one row more, and its offsets go up to this; the buffer is as it was
+pub record Counted (k row span : ℕ) (x y : Filling) : Type 0 where
+  pub same : SameLent x y
+  pub out : y.out.now ≡ x.out.now
+  pub rows : (state y).rows ≡ set (state x).rows k (row + 1)
+  pub spans : (state y).spans ≡ set (state x).spans k span
+
+-- node k can take a row whose offsets go on by n
+abbrev pub CanTake : List ℕ → ℕ → ℕ → Filling → Type 0
+CanTake s k n x = Getting s x.places.now (state x) k n
+
+-- each node j has taken the rows g j
+pub record Took (s : List ℕ) (g : ℕ → Rows) (x y : Filling) : Type 0 where
+  pub same : SameLent x y
+  pub filled : Filled s x.places.now g (state x) (state y)
+
+-- node k has taken a row of a Struct that is not null, whatever its child rows; or a list of n rows
+pub record TookStruct (s : List ℕ) (k : ℕ) (x y : Filling) : Type 0 where
+  pub same : SameLent x y
+  pub filled : StructFilled s x.places.now k (state x) (state y)
+
+pub record TookList (s : List ℕ) (k n : ℕ) (x y : Filling) : Type 0 where
+  pub same : SameLent x y
+  pub filled : ListFilled s x.places.now k n (state x) (state y)
+
+-- The walks: over the row under a null of node k, over a row of it with which a string begins, and over n rows.
+pub record AtGap (s : List ℕ) (k d : ℕ) (x : Filling) : Type 0 where
+  pub node : k < node_count s
+  pub ready : Ready s x.places.now (state x)
+  pub rooms : Rooms s x.places.now (gap_gives d s k) (state x)
+
+abbrev pub AtRow : List ℕ → ℕ → ℕ → List ℕ → Filling → Type 0
+AtRow s k d b x = RowWalk s x.places.now b d k (state x)
+
+pub record PastRow (s : List ℕ) (k d : ℕ) (b : List ℕ) (x y : Filling) (rest : List ℕ) : Type 0 where
+  pub same : SameLent x y
+  pub walked : RowWalked s x.places.now b d k (state x) (state y) rest
+
+abbrev pub AtRows : List ℕ → ℕ → ℕ → ℕ → List ℕ → Filling → Type 0
+AtRows s k n d b x = RowsWalk s x.places.now b d k n (state x)
+
+pub record PastRows (s : List ℕ) (k n d : ℕ) (b : List ℕ) (x y : Filling) (rest : List ℕ) : Type 0 where
+  pub same : SameLent x y
+  pub walked : RowsWalked s x.places.now b d k n (state x) (state y) rest

@@ -14,25 +14,22 @@ ghost use Rattle.image.specs.Parse.{rows_in};
 ghost use Rattle.image.specs.Built.{part_at, part_start};
 ghost use Rattle.rows.specs.Output.{over};
 ghost use Rattle.built.specs.Walk.{the_rows};
-ghost use Rattle.fill.specs.Filling.{ToFill, state, SameLent, Ready, Rooms, Filled, RowWalk, RowWalked, RowsWalk, RowsWalked, gap_gives};
+ghost use Rattle.fill.specs.Filling.{ToFill, gap_gives, Took, AtGap, AtRow, PastRow, AtRows, PastRows};
 
 use crate::put::{Filling, MOST_PLACES};
 use image::bytes::le;
 use image::record::{MAX_DEPTH, Node};
+use image::row_bytes::{COUNT_WIDTH, MARK_WIDTH, NULL_MARK};
 use image::type_code::{Layout, TypeCode};
 
-// How many bytes a mark takes, and a mark and a length or count.
-const MARK: usize = 1;
-
-const HEAD: usize = 5;
+// How many bytes stand before a text or the rows of a list: the mark, and the length or count.
+const HEAD: usize = MARK_WIDTH + COUNT_WIDTH;
 
 impl Filling<'_> {
     // The row under a null of a Struct, for a node and for all below it.
     fn fill_gap(&mut self, node: Node, depth: usize)
-        requires node_bound { (node.number < node_count node.image.now) × Ready node.image.now self.old.places.now (state self.old) }
-        requires rooms { Rooms node.image.now self.old.places.now (gap_gives depth node.image.now node.number) (state self.old) }
-        ensures same { SameLent self.old self.new }
-        ensures filled { Filled node.entry.image.now self.old.places.now (gap_gives depth node.entry.image.now node.entry.number) (state self.old) (state self.new) }
+        requires { (AtGap of node) depth self.old }
+        ensures { Took node.entry.image.now (gap_gives depth of node.entry) self.old self.new }
     {
         if depth == 0 {
             return;
@@ -51,11 +48,10 @@ impl Filling<'_> {
     #[cycle(fill)]
     fn fill_list<'b>(&mut self, node: Node, depth: usize, b: &'b [u8]) -> &'b [u8]
         requires layout { (layout_of (code_of of node) ≡ Lists) × (byte_at b.now 0 ≡ 1) }
-        requires row_walk { RowWalk node.image.now self.old.places.now b.now depth node.number (state self.old) }
-        ensures same { SameLent self.old self.new }
-        ensures walked { RowWalked node.entry.image.now self.old.places.now b.now depth node.entry.number (state self.old) (state self.new) result.now }
+        requires row_walk { (AtRow of node) depth b.now self.old }
+        ensures { (PastRow of node.entry) depth b.now self.old self.new result.now }
     {
-        let n = le::<4>(b, MARK);
+        let n = le::<COUNT_WIDTH>(b, MARK_WIDTH);
         self.put_list(node, n);
         self.fill_rows(node.child(0), n, depth - 1, &b[HEAD..])
     }
@@ -64,12 +60,11 @@ impl Filling<'_> {
     #[cycle(fill)]
     fn fill_struct<'b>(&mut self, node: Node, depth: usize, b: &'b [u8]) -> &'b [u8]
         requires layout { (layout_of (code_of of node) ≡ Struct) × (byte_at b.now 0 ≡ 1) }
-        requires row_walk { RowWalk node.image.now self.old.places.now b.now depth node.number (state self.old) }
-        ensures same { SameLent self.old self.new }
-        ensures walked { RowWalked node.entry.image.now self.old.places.now b.now depth node.entry.number (state self.old) (state self.new) result.now }
+        requires row_walk { (AtRow of node) depth b.now self.old }
+        ensures { (PastRow of node.entry) depth b.now self.old self.new result.now }
     {
         self.put_struct(node);
-        let mut rest = &b[MARK..];
+        let mut rest = &b[MARK_WIDTH..];
         for c in 0..node.child_count() {
             rest = self.fill_row(node.child(c), depth - 1, rest);
         }
@@ -79,31 +74,29 @@ impl Filling<'_> {
     // A row of a node, with which the string begins.
     #[cycle(fill)]
     fn fill_row<'b>(&mut self, node: Node, depth: usize, b: &'b [u8]) -> &'b [u8]
-        requires { RowWalk node.image.now self.old.places.now b.now depth node.number (state self.old) }
-        ensures same { SameLent self.old self.new }
-        ensures walked { RowWalked node.entry.image.now self.old.places.now b.now depth node.entry.number (state self.old) (state self.new) result.now }
+        requires { (AtRow of node) depth b.now self.old }
+        ensures { (PastRow of node.entry) depth b.now self.old self.new result.now }
     {
-        if b[0] == 0 {
+        if b[0] == NULL_MARK {
             self.fill_gap(node, depth);
-            return &b[MARK..];
+            return &b[MARK_WIDTH..];
         }
-        let layout = TypeCode::layout(node.code());
-        match layout {
+        match node.layout() {
             Layout::Null => {
                 self.put_gap(node);
-                &b[MARK..]
+                &b[MARK_WIDTH..]
             }
             Layout::Boolean => {
-                self.put_boolean(node, b[MARK]);
-                &b[MARK + 1..]
+                self.put_boolean(node, b[MARK_WIDTH]);
+                &b[MARK_WIDTH + 1..]
             }
             Layout::FixedWidth => {
-                let end = MARK + node.element_width();
-                self.put_fixed(node, &b[MARK..end]);
+                let end = MARK_WIDTH + node.element_width();
+                self.put_fixed(node, &b[MARK_WIDTH..end]);
                 &b[end..]
             }
             Layout::VariableSize => {
-                let end = HEAD + le::<4>(b, MARK);
+                let end = HEAD + le::<COUNT_WIDTH>(b, MARK_WIDTH);
                 self.put_text(node, &b[HEAD..end]);
                 &b[end..]
             }
@@ -115,9 +108,8 @@ impl Filling<'_> {
     // n rows of a node, one after the other.
     #[cycle(fill)]
     fn fill_rows<'b>(&mut self, node: Node, n: usize, depth: usize, b: &'b [u8]) -> &'b [u8]
-        requires { RowsWalk node.image.now self.old.places.now b.now depth node.number n (state self.old) }
-        ensures same { SameLent self.old self.new }
-        ensures walked { RowsWalked node.entry.image.now self.old.places.now b.now depth node.entry.number n (state self.old) (state self.new) result.now }
+        requires { (AtRows of node) n depth b.now self.old }
+        ensures { (PastRows of node.entry) n depth b.now self.old self.new result.now }
     {
         let mut rest = b;
         for i in 0..n {
@@ -132,10 +124,6 @@ pub fn fill(s: &[u8], count: usize, b: &[u8], places: &[usize; MOST_PLACES], out
     requires { ToFill s.now count b.now places.now out.old }
     ensures { out.new ≡ over out.old (part_start s.now (the_rows (rows_in s.now count b.now)) 0) (pieces (part_at s.now (the_rows (rows_in s.now count b.now))) 0 (3 * node_count s.now)) }
 {
-    let root = Node {
-        image: s,
-        number: 0,
-    };
     let mut filling = Filling::new(places, out);
-    filling.fill_rows(root, count, MAX_DEPTH, b);
+    filling.fill_rows(Node::root(s), count, MAX_DEPTH, b);
 }

@@ -10,14 +10,14 @@ ghost use Rattle.image.specs.Row.{fixed, sized};
 ghost use Rattle.image.specs.Built.{gap_row};
 ghost use Rattle.rows.specs.Output.{over};
 ghost use Rattle.built.specs.Walk.{own};
-ghost use Rattle.fill.specs.Filling.{has_offsets, spot_of, Getting, Filled, StructFilled, ListFilled, state, SameLent};
+ghost use Rattle.fill.specs.Filling.{has_offsets, spot_of, state, Counted, CanTake, Took, TookStruct, TookList};
 
 use image::record::{MOST_NODES, Node};
 use image::type_code::{Layout, TypeCode};
 use rows::output::Output;
 
 // The parts of a node: its bitmap, its first and its second buffer.
-const PARTS: usize = 3;
+pub const PARTS: usize = 3;
 
 // How many places an image has at most: one for each part of a node, and its end.
 pub const MOST_PLACES: usize = PARTS * MOST_NODES + 1;
@@ -30,6 +30,9 @@ struct Tally {
 }
 
 // What an image is filled by: where its parts stand, what each node has got, and the buffer.
+// Kept: no image, and no ghost field of what is known, which speaks of the image too. A method has the image in its `Node`; with
+// the image here seven methods would have to make their `Node` of it and a number, as `self.node(k)`, and give the number of a
+// child on, as `node.child(c).number`.
 #[derive(Drop)]
 pub(crate) struct Filling<'a> {
     places: &'a [usize; MOST_PLACES],
@@ -47,25 +50,13 @@ struct Spot {
     span: usize,
 }
 
-// Sets bit j of the bits that start at a place, where it and those behind it in its byte are 0.
-// Kept: the parts of a node lie anywhere in the buffer, so each write has its own place and none goes on from the last.
-fn set_bit(out: &mut [u8], place: usize, j: usize)
-    requires j_in_bounds { place + j / 8 < length out.old }
-    requires j_bound { byte_at out.old (place + j / 8) < 2 ^ (j % 8) }
-    ensures { out.new ≡ over out.old (place + j / 8) ((byte_at out.old (place + j / 8) + 2 ^ (j % 8)) ∷ []) }
+// Sets bit j of bits, where it and those behind it in its byte are 0.
+fn set_bit(bits: &mut [u8], j: usize)
+    requires j_in_bounds { j / 8 < length bits.old }
+    requires j_bound { byte_at bits.old (j / 8) < 2 ^ (j % 8) }
+    ensures { bits.new ≡ over bits.old (j / 8) ((byte_at bits.old (j / 8) + 2 ^ (j % 8)) ∷ []) }
 {
-    let i = place + j / 8;
-    let bit: usize = 1 << (j % 8);
-    out[i] = (usize::from(out[i]) + bit) as u8;
-}
-
-// Puts bytes at a place.
-// Kept: one call of the library; an `Output` made for it is no plainer.
-fn put(out: &mut [u8], at: usize, bytes: &[u8])
-    requires { at + length bytes.now ≤ length out.old }
-    ensures { out.new ≡ over out.old at bytes.now }
-{
-    out[at..at + bytes.len()].copy_from_slice(bytes);
+    bits[j / 8] |= 1 << (j % 8);
 }
 
 // The nodes of a layout have offsets.
@@ -119,10 +110,7 @@ impl<'a> Filling<'a> {
     // One row more of a node, whose offsets are so far now.
     fn count_row(&mut self, node: Node, row: usize, span: usize)
         requires { (row < 2 ^ 40) × (node.number < 256) }
-        ensures same { SameLent self.old self.new }
-        ensures out_after { self.new.out.now ≡ self.old.out.now }
-        ensures rows_after { (state self.new).rows ≡ set (state self.old).rows node.entry.number (row + 1) }
-        ensures spans_after { (state self.new).spans ≡ set (state self.old).spans node.entry.number span }
+        ensures { Counted node.entry.number row span self.old self.new }
     {
         self.tallies[node.number as usize] = Tally {
             rows: row + 1,
@@ -132,13 +120,11 @@ impl<'a> Filling<'a> {
 
     // The row under a null: no bit and no value is set, and a text or list is empty.
     pub(crate) fn put_gap(&mut self, node: Node)
-        requires { Getting node.image.now self.old.places.now (state self.old) node.number 0 }
-        ensures same { SameLent self.old self.new }
-        ensures filled { Filled node.entry.image.now self.old.places.now (own (gap_row of node.entry) node.entry.number) (state self.old) (state self.new) }
+        requires { (CanTake of node) 0 self.old }
+        ensures { Took node.entry.image.now (own (gap_row of node.entry) node.entry.number) self.old self.new }
     {
         let spot = self.spot_of(node);
-        let layout = TypeCode::layout(node.code());
-        if has_offsets(layout) {
+        if has_offsets(node.layout()) {
             put_end(node, spot.first, spot.row, spot.span, self.out);
         }
         self.count_row(node, spot.row, spot.span);
@@ -147,12 +133,11 @@ impl<'a> Filling<'a> {
     // A Struct's row that is not null: its bit.
     pub(crate) fn put_struct(&mut self, node: Node)
         requires layout { layout_of (code_of of node) ≡ Struct }
-        requires getting { Getting node.image.now self.old.places.now (state self.old) node.number 0 }
-        ensures same { SameLent self.old self.new }
-        ensures filled { StructFilled node.entry.image.now self.old.places.now node.entry.number (state self.old) (state self.new) }
+        requires getting { (CanTake of node) 0 self.old }
+        ensures { (TookStruct of node.entry) self.old self.new }
     {
         let spot = self.spot_of(node);
-        set_bit(self.out, spot.bitmap, spot.row);
+        set_bit(&mut self.out[spot.bitmap..], spot.row);
         self.count_row(node, spot.row, spot.span);
     }
 
@@ -160,15 +145,14 @@ impl<'a> Filling<'a> {
     pub(crate) fn put_boolean(&mut self, node: Node, x: u8)
         requires layout { layout_of (code_of of node) ≡ Boolean }
         requires x_bound { x ≤ 1 }
-        requires getting { Getting node.image.now self.old.places.now (state self.old) node.number 0 }
-        ensures same { SameLent self.old self.new }
-        ensures filled { Filled node.entry.image.now self.old.places.now (own (fixed (x ∷ [])) node.entry.number) (state self.old) (state self.new) }
+        requires getting { (CanTake of node) 0 self.old }
+        ensures { Took node.entry.image.now (own (fixed (x ∷ [])) node.entry.number) self.old self.new }
     {
         let spot = self.spot_of(node);
-        set_bit(self.out, spot.bitmap, spot.row);
+        set_bit(&mut self.out[spot.bitmap..], spot.row);
         self.count_row(node, spot.row, spot.span);
         if x == 1 {
-            set_bit(self.out, spot.first, spot.row);
+            set_bit(&mut self.out[spot.first..], spot.row);
         }
     }
 
@@ -176,41 +160,40 @@ impl<'a> Filling<'a> {
     pub(crate) fn put_fixed(&mut self, node: Node, value: &[u8])
         requires layout { layout_of (code_of of node) ≡ FixedWidth }
         requires width { length value.now ≡ (element_width of node) }
-        requires getting { Getting node.image.now self.old.places.now (state self.old) node.number 0 }
-        ensures same { SameLent self.old self.new }
-        ensures filled { Filled node.entry.image.now self.old.places.now (own (fixed value.now) node.entry.number) (state self.old) (state self.new) }
+        requires getting { (CanTake of node) 0 self.old }
+        ensures { Took node.entry.image.now (own (fixed value.now) node.entry.number) self.old self.new }
     {
         let spot = self.spot_of(node);
-        set_bit(self.out, spot.bitmap, spot.row);
-        put(self.out, spot.first + spot.row * value.len(), value);
+        set_bit(&mut self.out[spot.bitmap..], spot.row);
+        let place = spot.first + spot.row * value.len();
+        self.out[place..place + value.len()].copy_from_slice(value);
         self.count_row(node, spot.row, spot.span);
     }
 
     // A text: its bit, its end among the offsets, and its bytes.
     pub(crate) fn put_text(&mut self, node: Node, text: &[u8])
         requires layout { layout_of (code_of of node) ≡ VariableSize }
-        requires getting { Getting node.image.now self.old.places.now (state self.old) node.number (length text.now) }
-        ensures same { SameLent self.old self.new }
-        ensures filled { Filled node.entry.image.now self.old.places.now (own (sized text.now) node.entry.number) (state self.old) (state self.new) }
+        requires getting { (CanTake of node) (length text.now) self.old }
+        ensures { Took node.entry.image.now (own (sized text.now) node.entry.number) self.old self.new }
     {
         let spot = self.spot_of(node);
         let end = spot.span + text.len();
-        set_bit(self.out, spot.bitmap, spot.row);
+        set_bit(&mut self.out[spot.bitmap..], spot.row);
         put_end(node, spot.first, spot.row, end, self.out);
-        put(self.out, spot.second + spot.span, text);
+        let place = spot.second + spot.span;
+        self.out[place..place + text.len()].copy_from_slice(text);
         self.count_row(node, spot.row, end);
     }
 
     // A list of n rows: its bit, and its end among the offsets.
     pub(crate) fn put_list(&mut self, node: Node, n: usize)
         requires layout { layout_of (code_of of node) ≡ Lists }
-        requires getting { Getting node.image.now self.old.places.now (state self.old) node.number n }
-        ensures same { SameLent self.old self.new }
-        ensures filled { ListFilled node.entry.image.now self.old.places.now node.entry.number n (state self.old) (state self.new) }
+        requires getting { (CanTake of node) n self.old }
+        ensures { (TookList of node.entry) n self.old self.new }
     {
         let spot = self.spot_of(node);
         let end = spot.span + n;
-        set_bit(self.out, spot.bitmap, spot.row);
+        set_bit(&mut self.out[spot.bitmap..], spot.row);
         put_end(node, spot.first, spot.row, end, self.out);
         self.count_row(node, spot.row, end);
     }

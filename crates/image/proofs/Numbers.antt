@@ -86,11 +86,14 @@ pub number_four : (s : List ℕ) (i : ℕ) → number_at 4 s i ≡ byte_at s i +
 unfolding number_at
 number_four s i = rw (add-one i, add-two i, add-three i) (omega arith)
 
-pub number_eight : (s : List ℕ) (i : ℕ) → number_at 8 s i ≡ number_at 4 s i + 4294967296 * number_at 4 s (i + 4)
+pub number_eight : (s : List ℕ) (i : ℕ) → number_at 8 s i ≡ byte_at s i + 256 * byte_at s (i + 1) + 65536 * byte_at s (i + 2) + 16777216 * byte_at s (i + 3) + 4294967296 * byte_at s (i + 4) + 1099511627776 * byte_at s (i + 5) + 281474976710656 * byte_at s (i + 6) + 72057594037927936 * byte_at s (i + 7)
 unfolding number_at
 number_eight s i =
-    let e : i + 4 ≡ suc (suc (suc (suc i))) = omega arith in
-    rw e (omega arith)
+    let four : i + 4 ≡ suc (suc (suc (suc i))) = omega arith in
+    let five : i + 5 ≡ suc (suc (suc (suc (suc i)))) = omega arith in
+    let six : i + 6 ≡ suc (suc (suc (suc (suc (suc i))))) = omega arith in
+    let seven : i + 7 ≡ suc (suc (suc (suc (suc (suc (suc i)))))) = omega arith in
+    rw (add-one i, add-two i, add-three i, four, five, six, seven) (omega arith)
 
 pub bit_past : (s : List ℕ) (place j : ℕ) → length s ≤ place + j / 8 → false ≡ bit_at s place j
 unfolding bit_at

@@ -10,30 +10,34 @@ pub fn byte(s: &[u8], i: usize) -> u8
     if i < s.len() { s[i] } else { 0 }
 }
 
-// Kept: numbers of two, four and eight bytes are written out, and not by a loop or the library's `from_le_bytes`: made in a loop over their bytes, they are read byte by byte where a
-// loop over rows takes many rows at once.
-fn two(s: &[u8], i: usize) -> usize
+fn two(s: &[u8], i: usize) -> u16
     requires { i + 2 ≤ length s.now }
-    ensures { Read (number_at 2 s.now i) 16 result }
+    ensures { result ≡ number_at 2 s.now i }
 {
-    usize::from(s[i]) + 256 * usize::from(s[i + 1])
+    u16::from_le_bytes([s[i], s[i + 1]])
 }
 
-fn four(s: &[u8], i: usize) -> usize
+fn four(s: &[u8], i: usize) -> u32
     requires { i + 4 ≤ length s.now }
-    ensures { Read (number_at 4 s.now i) 32 result }
+    ensures { result ≡ number_at 4 s.now i }
 {
-    usize::from(s[i])
-        + 256 * usize::from(s[i + 1])
-        + 65536 * usize::from(s[i + 2])
-        + 16777216 * usize::from(s[i + 3])
+    u32::from_le_bytes([s[i], s[i + 1], s[i + 2], s[i + 3]])
 }
 
-fn eight(s: &[u8], i: usize) -> usize
+fn eight(s: &[u8], i: usize) -> u64
     requires { i + 8 ≤ length s.now }
-    ensures { Read (number_at 8 s.now i) 64 result }
+    ensures { result ≡ number_at 8 s.now i }
 {
-    four(s, i) + 4294967296 * four(s, i + 4)
+    u64::from_le_bytes([
+        s[i],
+        s[i + 1],
+        s[i + 2],
+        s[i + 3],
+        s[i + 4],
+        s[i + 5],
+        s[i + 6],
+        s[i + 7],
+    ])
 }
 
 // The number that the W bytes at a place make, which lie inside: one load.
@@ -42,13 +46,13 @@ pub fn load<const W: usize>(s: &[u8], i: usize) -> usize
     ensures { Read (number_at W s.now i) (8 * W) result }
 {
     if W == 2 {
-        return two(s, i);
+        return usize::from(two(s, i));
     }
     if W == 4 {
-        return four(s, i);
+        return four(s, i) as usize;
     }
     if W == 8 {
-        return eight(s, i);
+        return eight(s, i) as usize;
     }
     let mut x: usize = 0;
     for k in (0..W).rev() {
@@ -84,7 +88,8 @@ pub fn le<const W: usize>(s: &[u8], i: usize) -> usize
 }
 
 // The same, of w bytes.
-// Kept: the width is known only when the program runs; numbers of four and of eight bytes, which most columns have, are one load.
+// Kept: a match on a number: the width is known only when the program runs, and each arm names one that is known where it is
+// compiled.
 pub fn number(s: &[u8], i: usize, w: usize) -> usize
     requires { w ≤ 8 }
     ensures { Read (number_at w s.now i) (8 * w) result }
@@ -97,19 +102,14 @@ pub fn number(s: &[u8], i: usize, w: usize) -> usize
 }
 
 // Bit j of the bits that start at a place.
-// Kept: the sum of place and j / 8 may pass the largest number there is, so the length is tested before they are added.
+// Kept: a slice and a place, here and in what reads bytes and numbers: what lies past the slice's end is no part of it.
 pub fn bit(s: &[u8], place: usize, j: usize) -> bool
     ensures { result ≡ bit_at s.now place j }
 {
-    let n = s.len();
-    if n <= place {
+    let Some(at) = place.checked_add(j / 8) else {
         return false;
-    }
-    if n - place <= j / 8 {
-        return false;
-    }
-    let x = usize::from(s[place + j / 8]);
-    (x >> (j % 8)) % 2 == 1
+    };
+    (usize::from(byte(s, at)) >> (j % 8)) % 2 == 1
 }
 
 // Numbers of one width that stand one after the other from a place on.
@@ -121,7 +121,8 @@ pub struct Numbers<'a> {
 }
 
 impl Numbers<'_> {
-    // Number j.
+    // Number j. It is part of what calls it: a call for each number takes longer than the loads.
+    #[inline(always)]
     pub fn at(self, j: usize) -> usize
         requires { Nth self.place self.width j }
         ensures { Read (number_at self.entry.width self.entry.bytes.now (self.entry.place + j * self.entry.width)) (8 * self.entry.width) result }

@@ -4,12 +4,13 @@ ghost use Rattle.std.specs.Prelude.{◌≡◌, Bool, true, ℕ, ◌+◌, ◌*◌
 ghost use Rattle.image.specs.Ranges.{any};
 ghost use Rattle.image.specs.Of.{◌of◌};
 ghost use Rattle.image.specs.Reads.{Read, BitmapOf, ChildrenById, NamedChild, EndsOf, TellsKept};
-ghost use Rattle.image.specs.Record.{length_of, offset_of, buffer_place};
+ghost use Rattle.image.specs.Record.{code_of, length_of, offset_of, buffer_place};
+ghost use Rattle.image.specs.TypeCode.{layout_of};
 ghost use Rattle.image.specs.Element.{valid, element_width, element_at};
 
 use crate::bytes::{Numbers, bit};
 use crate::record::Node;
-use crate::type_code::TypeCode;
+use crate::type_code::{Layout, TypeCode};
 
 // The size of a view.
 pub const VIEW_SIZE: usize = 16;
@@ -18,7 +19,8 @@ pub const VIEW_SIZE: usize = 16;
 pub const INLINE_LENGTH: usize = 12;
 
 // The bitmap of a node that has one, for a loop that asks for many rows: where it starts, and the bit of row 0.
-// Kept: without the bytes, which `Bits` of `values` has: a loop has the node beside it, whose image they are in.
+// Kept: beside `Bits` of `values`, which has the bytes and reads words: its methods belong to that crate, and would be
+// functions, or stand here, if the struct did. Here one bit is read, of a node that a loop has at hand.
 #[derive(Clone, Copy)]
 pub struct Bitmap {
     pub place: usize,
@@ -48,6 +50,13 @@ impl<'a> Node<'a> {
             None => true,
             Some(bits) => bit(self.image, bits.place, bits.first + i),
         }
+    }
+
+    // The layout of the node's rows.
+    pub fn layout(self) -> Layout
+        ensures { result ≡ layout_of (code_of of self.entry) }
+    {
+        TypeCode::layout(self.code())
     }
 
     // The width in bytes of an element of the first buffer.

@@ -9,4 +9,5 @@ pub mod element;
 pub mod labels;
 pub mod names;
 pub mod record;
+pub mod row_bytes;
 pub mod type_code;

@@ -68,6 +68,25 @@ pub struct Node<'a> {
 }
 
 impl<'a> Node<'a> {
+    // The root of an image.
+    pub fn root(image: &'a [u8]) -> Node<'a>
+        ensures image { result.image ≡ image.entry }
+        ensures number { result.number ≡ 0 }
+    {
+        Node { image, number: 0 }
+    }
+
+    // The node of a number in the same image.
+    pub fn other(self, number: u32) -> Node<'a>
+        ensures image { result.image ≡ self.entry.image }
+        ensures number { result.number ≡ number }
+    {
+        Node {
+            image: self.image,
+            number: number,
+        }
+    }
+
     // Where the node's record starts.
     fn record_place(self) -> usize
         ensures { Read (record_place self.entry.number) 38 result }
@@ -189,10 +208,7 @@ impl<'a> Node<'a> {
         ensures number { result.number ≡ (first_child of self.entry) + c }
         ensures near { result.number < c + 2 ^ 16 }
     {
-        Node {
-            image: self.image,
-            number: self.first_child() + c,
-        }
+        self.other(self.first_child() + c)
     }
 
     // The number of children.

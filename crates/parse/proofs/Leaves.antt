@@ -9,15 +9,19 @@ use native.Mathlib.Omega.{arith}
 use lib.Dec.{eqb, leb}
 use lib.ListN.{length, get_or}
 use borrow.Author.Tests.{le-leb, lt-leb, lt-ltb, le-ltb}
-use Rattle.std.proofs.Common.{Some, None}
+use Rattle.std.proofs.Common.{Option, Some, None}
 use Rattle.std.specs.List.{IsSplitAt}
 use Rattle.image.specs.Bytes.{byte_at, number_at}
 use Rattle.image.specs.Reads.{Read}
 use Rattle.image.specs.Utf8.{well_formed}
 use Rattle.image.specs.Parse.{Parsed, failed, parsed, bytes_in, number_in, checked_text}
 use Rattle.built.specs.Typed.{text_fits}
-use Rattle.parse.specs.Scan.{boolean_in, text_in, nothing, sized_adds, largest, Counted, Begun, Scans, Leaves, Grown}
+use Rattle.parse.specs.Scan.{boolean_in, text_in, nothing, sized_adds, largest, Counted, Begun, Scans, Grown}
 use Rattle.parse.proofs.Scans.{stopped, reached}
+
+-- a scan of bytes that add nothing, whatever the spans are
+abbrev Leaves : List ℕ → Parsed (List ℕ) → Option (List ℕ) → Type 0
+Leaves b p answer = (spans : List ℕ) → Scans b 0 p nothing spans spans answer
 
 -- n bytes in front, or fewer
 module _ (n : ℕ) (b : List ℕ) where
@@ -107,8 +111,8 @@ module _ (code k : ℕ) (b : List ℕ) where
       text_ill e = stopped refl (text_is ∙ rw e)
 
       -- the length can be added to the span of the node
-      pub text_room : {before : List ℕ} → Begun b before → k < 256 → (k < length before) × (get_or before k 0 + n ≤ largest)
-      text_room {before} begun few = (omega (arith, begun.sized), omega (arith, begun.room k few, number.took, cut.0))
+      pub text_room : {before : List ℕ} → Begun b before → k < 256 → get_or before k 0 + n + length rest ≤ largest
+      text_room {before} begun few = omega (arith, begun.room k few, number.took, cut.4)
 
       pub text_go : {before after : List ℕ} → text_fits code x ≡ true → Grown before after k n → Scans b 0 (text_in code b) (sized_adds k) before after (Some rest)
       unfolding sized_adds

@@ -104,8 +104,8 @@ module _ (d : ℕ) (s : List ℕ) (k : ℕ) (b : List ℕ) where
 
     module _ {before mid rest : List ℕ} (h : Scans bytes n (rows_of (row_in d s (first_child s k)) n bytes) (rows_add d s (first_child s k)) before mid (Some rest)) where
       -- the count can be added to the span of the node
-      pub list_room : Begun b before → k < 256 → (k < length mid) × (get_or mid k 0 + n ≤ largest)
-      list_room begun few = (omega (arith, h.sized, begun.sized), omega (arith, h.tells.spans k few, h.tells.took k, begun.room k few, number.took))
+      pub list_room : Begun b before → k < 256 → get_or mid k 0 + n + length rest ≤ largest
+      list_room begun few = omega (arith, h.tells.spans k few, h.tells.took k, begun.room k few, number.took)
 
       pub list_go : {after : List ℕ} → Grown mid after k n → Scans b 0 (list_of d s k b) (counted_adds d s k) before after (Some rest)
       unfolding counted_adds

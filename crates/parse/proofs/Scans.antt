@@ -21,13 +21,6 @@ module _ {A : Type 0} {b : List ℕ} {m : ℕ} {p : Parsed A} {adds : A → ℕ 
   pub reached : {rest : List ℕ} → length after ≡ length before → Reached b m p adds before after rest → Scans b m p adds before after (Some rest)
   reached sized r = record { sized = sized; tells = r }
 
-  -- the spans have room for what is left
-  pub begun_next : {rest : List ℕ} → Begun b before → Scans b m p adds before after (Some rest) → Begun rest after
-  begun_next h go = record {
-    sized = go.sized ∙ h.sized;
-    room = λ j lt. omega (arith, h.room j lt, go.tells.spans j lt, go.tells.took j);
-  }
-
   -- a value that is made of what was read
   module _ {B : Type 0} (g : A → B) {adds-made : B → ℕ → ℕ} (same : (x : A) (j : ℕ) → adds-made (g x) j ≡ adds x j) where
     pub made_scans : {answer : Option (List ℕ)} → Scans b m p adds before after answer → Scans b m (made g p) adds-made before after answer

@@ -23,7 +23,7 @@ use Rattle.image.specs.Row.{fixed, sized, joined, counted}
 use Rattle.image.specs.RowBytes.{count}
 use Rattle.image.specs.Parse.{Parsed, failed, made, bytes_in, value_in, row_in}
 use Rattle.image.proofs.CodeTable.{constant, at_layouts}
-use Rattle.parse.specs.Scan.{value_of, boolean_in, text_in, list_of, struct_of, nothing, row_adds, sized_adds, counted_adds, joined_adds, Within, Scans, Leaves}
+use Rattle.parse.specs.Scan.{value_of, boolean_in, text_in, list_of, struct_of, nothing, row_adds, sized_adds, counted_adds, joined_adds, Within, Scans}
 use Rattle.parse.proofs.Totals.{fixed_adds, sized_adds_lem, counted_adds_lem, joined_adds_lem}
 use Rattle.parse.proofs.Scans.{stopped, reached, made_scans}
 
@@ -96,8 +96,8 @@ module _ (d : ℕ) (s : List ℕ) (k : ℕ) (b : List ℕ) {before after : List 
   struct_value e h = value_of_lem Struct e (made_scans joined (joined_adds_lem d s k) h)
 
 -- A value that adds to no span.
-module _ (d : ℕ) (s : List ℕ) (k : ℕ) (b spans : List ℕ) where
-  pub null_value : layout_of (code_of s k) ≡ Null → Scans b 0 (value_of d s k b) (row_adds (suc d) s k) spans spans (Some b)
+module _ (d : ℕ) (s : List ℕ) (k : ℕ) (b : List ℕ) {before : List ℕ} where
+  pub null_value : layout_of (code_of s k) ≡ Null → Scans b 0 (value_of d s k b) (row_adds (suc d) s k) before before (Some b)
   null_value e =
       value_of_lem d s k b Null e
       (reached refl (record {
@@ -107,19 +107,19 @@ module _ (d : ℕ) (s : List ℕ) (k : ℕ) (b spans : List ℕ) where
         took = λ j. omega (arith, fixed_adds (suc d) s k [] j);
       }))
 
-  module _ {answer : Option (List ℕ)} where
-    fixed_value : (p : Parsed (List ℕ)) → Leaves b p answer → Scans b 0 (made fixed p) (row_adds (suc d) s k) spans spans answer
+  module _ {after : List ℕ} {answer : Option (List ℕ)} where
+    fixed_value : (p : Parsed (List ℕ)) → Scans b 0 p nothing before after answer → Scans b 0 (made fixed p) (row_adds (suc d) s k) before after answer
     unfolding nothing
-    fixed_value p h = made_scans fixed (λ x j. fixed_adds (suc d) s k x j) (h spans)
+    fixed_value p h = made_scans fixed (λ x j. fixed_adds (suc d) s k x j) h
 
-    pub boolean_value : layout_of (code_of s k) ≡ Boolean → Leaves b (boolean_in b) answer → Scans b 0 (value_of d s k b) (row_adds (suc d) s k) spans spans answer
+    pub boolean_value : layout_of (code_of s k) ≡ Boolean → Scans b 0 (boolean_in b) nothing before after answer → Scans b 0 (value_of d s k b) (row_adds (suc d) s k) before after answer
     unfolding boolean_in
     boolean_value e h = value_of_lem d s k b Boolean e (rw (← made_when (leb (byte_at b 0) 1) (bytes_in 1 b)) (fixed_value (boolean_in b) h))
 
-    pub bytes_value_lem : (w : ℕ) → layout_of (code_of s k) ≡ FixedWidth → w ≡ element_width s k → Leaves b (bytes_in w b) answer → Scans b 0 (value_of d s k b) (row_adds (suc d) s k) spans spans answer
+    pub bytes_value_lem : (w : ℕ) → layout_of (code_of s k) ≡ FixedWidth → w ≡ element_width s k → Scans b 0 (bytes_in w b) nothing before after answer → Scans b 0 (value_of d s k b) (row_adds (suc d) s k) before after answer
     bytes_value_lem w e width h = value_of_lem d s k b FixedWidth e (rw (← width) (fixed_value (bytes_in w b) h))
 
   -- 23 keeps the other layouts out: those at these places of the declaration
-  pub other_value : (l : Layout) → layout_of (code_of s k) ≡ l → OneOf (4 ∷ 6 ∷ 7 ∷ 9 ∷ 10 ∷ 11 ∷ 12 ∷ []) (tag_of the_type l) → Scans b 0 (value_of d s k b) (row_adds (suc d) s k) spans spans None
+  pub other_value : (l : Layout) → layout_of (code_of s k) ≡ l → OneOf (4 ∷ 6 ∷ 7 ∷ 9 ∷ 10 ∷ 11 ∷ 12 ∷ []) (tag_of the_type l) → Scans b 0 (value_of d s k b) (row_adds (suc d) s k) before before None
   other_value l e one =
       value_of_lem d s k b l e (stopped refl (sym (at_layouts (4 ∷ 6 ∷ 7 ∷ 9 ∷ 10 ∷ 11 ∷ 12 ∷ []) failed (λ x. value_in x (row_in d s) s k b) refl l one)))

@@ -1,2 +1,3 @@
 pub mod Answer
 pub mod Scan
+pub mod Scanned

@@ -84,10 +84,6 @@ pub record Scans {A : Type 0} (b : List ℕ) (m : ℕ) (p : Parsed A) (adds : A 
   pub sized : length after ≡ length before
   pub tells : MatchOption answer (p ≡ failed) (λ rest. Reached b m p adds before after rest)
 
--- the same of bytes that add nothing, whatever the spans are
-abbrev pub Leaves : List ℕ → Parsed (List ℕ) → Option (List ℕ) → Type 0
-Leaves b p answer = (spans : List ℕ) → Scans b 0 p nothing spans spans answer
-
 -- the span of node k has grown by n, and no other
 pub record Grown (before after : List ℕ) (k n : ℕ) : Type 0 where
   pub sized : length after ≡ length before

@@ -10,7 +10,7 @@ ghost use Rattle.image.specs.Faults.{check_image};
 ghost use Rattle.image.specs.Parse.{readable, rows_in};
 ghost use Rattle.parse.specs.Answer.{are_rows, Spanned};
 
-use crate::scan::scan_rows;
+use crate::leaf::Scan;
 use image::record::{MAX_DEPTH, Node};
 
 // Whether the string b is so many rows of the type that the image has, and nothing more. Where it is, entry j of spans is
@@ -21,9 +21,10 @@ pub fn is_rows(image: &[u8], count: usize, b: &[u8], spans: &mut [usize]) -> boo
     ensures value { result ≡ are_rows (rows_in image.now count b.now) }
     ensures spanned { Spanned image.now (rows_in image.now count b.now) spans.new }
 {
-    let root = Node { image, number: 0 };
-    match scan_rows(root, MAX_DEPTH, count, b, spans) {
-        Some(rest) => rest.is_empty(),
+    let root = Node::root(image);
+    let mut scan = Scan { text: b, spans };
+    match scan.rows(root, MAX_DEPTH, count) {
+        Some(_) => scan.text.is_empty(),
         None => false,
     }
 }

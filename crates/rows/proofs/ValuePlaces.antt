@@ -3,7 +3,7 @@
 use mathlib.Core.Path.{◌≡◌, refl}
 use mathlib.Core.Bool.{Bool, true, false}
 use mathlib.Core.List.{List}
-use Prim.Native.Nat.{ℕ, suc, ◌+◌, ◌*◌, ◌-◌, ◌≤◌, ◌<◌}
+use Prim.Native.Nat.{ℕ, suc, ◌+◌, ◌*◌, ◌-◌, ◌≤◌, ◌<◌, ◌^◌}
 use native.Mathlib.Nat.{one-mul}
 use native.Mathlib.Numerals.{add-one}
 use native.Mathlib.Omega.{arith}
@@ -13,7 +13,7 @@ use borrow.Author.Tests.{lt-ltb, le-ltb, leb-true, leb-false}
 use Rattle.image.specs.declared.type_code.Layout.{Layout}
 use Rattle.image.specs.declared.type_code.Layout.TheVariants.{Null, Boolean, FixedWidth, VariableSize, View, List as Lists, ListView, FixedList, Struct, DenseUnion, SparseUnion, Dictionary, Runs}
 use Rattle.image.specs.declared.type_code.Count.TheVariants.{Exactly}
-use Rattle.image.specs.Record.{node_count, code_of, p1_of, length_of, first_child, child_count, buffer_place}
+use Rattle.image.specs.Record.{record_place, entry_place, node_count, code_of, length_of, first_child, child_count, first_buffer, buffer_place}
 use Rattle.image.specs.TypeCode.{layout_of, child_rule}
 use Rattle.image.specs.Element.{element_width, element_place, element_at, variable_text, type_id_at, child_end, child_with_id, view_length, view_data, run_at}
 use Rattle.laws.specs.Accepted.{AcceptedImage, IdKnown}
@@ -22,7 +22,7 @@ use Rattle.accepted.proofs.Nodes.{child_node, first_child_node, part_node}
 use Rattle.accepted.proofs.Fixed.{spanned, spanned_small}
 use Rattle.accepted.proofs.Texts.{text_rises, text_inside}
 use Rattle.accepted.proofs.Views.{shown_short, shown_long, viewed, view_place_lem}
-use Rattle.accepted.proofs.ChildRows.{fixed_list_within, fixed_list_small, key_below, dense_known, dense_within, sparse_known, sparse_within}
+use Rattle.accepted.proofs.ChildRows.{fixed_list_within, key_below, dense_known, dense_within, sparse_known, sparse_within}
 use Rattle.accepted.proofs.RunEnds.{run_first, runs_cover}
 use Rattle.std.specs.Prelude.{Option, Some, None, ⊤}
 use Rattle.image.specs.Bytes.{bytes_at}
@@ -85,12 +85,12 @@ union_unknown s k id i e =
     rw none
 
 -- the bytes of a view lie inside
-shown_inside : {s : List ℕ} {k v : ℕ} → Viewed s k v (view_length s v) → (b : Bool) → leb (view_length s v) 12 ≡ b → view_data s k v + view_length s v ≤ length s
-shown_inside {s} {k} {v} r true short =
-    let at = shown_short s k v (view_length s v) r (leb-true _ 12 short) in
+shown_inside : {s : List ℕ} {k e v : ℕ} → Viewed s k e v → (b : Bool) → leb (view_length s v) 12 ≡ b → view_data s k v + view_length s v ≤ length s
+shown_inside {s} {v = v} r true short =
+    let at = shown_short r (leb-true (view_length s v) 12 short) in
     omega (arith, at.place, at.inside)
-shown_inside {s} {k} {v} r false long =
-    let at = shown_long r (leb-false _ 12 long) refl refl refl refl in
+shown_inside {s} {v = v} r false long =
+    let at = shown_long r (leb-false (view_length s v) 12 long) refl refl refl in
     omega (arith, at.place, at.inside)
 
 module _ {s : List ℕ} {k j : ℕ} (r : Part s k j 1) where
@@ -142,20 +142,20 @@ module _ {s : List ℕ} {k j : ℕ} (r : Part s k j 1) where
     list_ends : element_at s k (suc j) ≤ length_of s (first_child s k)
     list_ends = ((part_node r).places.lists lists).within (suc j) (omega (arith, r.high))
 
-  -- the child rows of a fixed-size list
-  pub fixed_list_fits : layout_of (code_of s k) ≡ FixedList → j * p1_of s k + p1_of s k ≤ 1073741824
-  fixed_list_fits lists = rw one-mul at (fixed_list_small r lists)
-
   -- the row of a union whose id is known
   union_placed : (i : ℕ) → IdKnown s k j → i < length_of s (child_with_id s k (type_id_at s k j)) → Placed s (union_value s k (type_id_at s k j) i)
   union_placed i known within =
       rw (lt-ltb _ _ known.high)
       (child_placed (type_id_at s k j) 1 (child_with_id s k (type_id_at s k j)) i 1 r.image (omega arith) (omega (arith, known.high, (part_node r).tree.ends)) (omega arith))
 
+  -- where the entries of the node's buffers start
+  entries_small : entry_place s (first_buffer s k + 0) < 2 ^ 40
+  unfolding entry_place record_place
+  entries_small = omega (arith, (part_node r).buffers.ends, r.image.tables.few_nodes, r.image.tables.few_buffers)
+
   -- the bytes of a view, the rows of a Struct's children and of a run's values
   pub view_inside : layout_of (code_of s k) ≡ View → view_data s k (element_place s k j) + view_length s (element_place s k j) ≤ length s
-  unfolding view_length
-  view_inside views = shown_inside (rw (view_place_lem r views {p = buffer_place s k 0} refl) at (viewed r views refl refl)) _ refl
+  view_inside views = shown_inside (rw (view_place_lem r views {p = buffer_place s k 0} refl) at (viewed r views refl (record { value = refl; small = entries_small }))) _ refl
 
   struct_placed : layout_of (code_of s k) ≡ Struct → Placed s (value_of Struct s k j)
   unfolding child_end

@@ -1,7 +1,7 @@
 // What a row that is not null is made of: a number in front, bytes of the image, and ranges of child rows. Whatever goes
 // row by row over a table goes by this.
 ghost use Rattle.std.specs.Prelude.{◌≡◌, ◌+◌, ◌<◌, ◌^◌};
-ghost use Rattle.image.specs.declared.type_code.Layout.TheVariants.{Boolean, FixedWidth, VariableSize, View, List as Lists, ListView, FixedList, Struct, DenseUnion, SparseUnion, Dictionary};
+ghost use Rattle.image.specs.declared.type_code.Layout.TheVariants.{Boolean, FixedWidth, VariableSize, View as Views, List as Lists, ListView, FixedList, Struct, DenseUnion, SparseUnion, Dictionary};
 ghost use Rattle.image.specs.Of.{◌of◌};
 ghost use Rattle.image.specs.Record.{code_of, first_child};
 ghost use Rattle.image.specs.TypeCode.{layout_of};
@@ -11,10 +11,11 @@ ghost use Rattle.accepted.specs.Runs.{kept_run};
 ghost use Rattle.rows.specs.Value.{content, leaf_value, nested_value, is_null};
 ghost use Rattle.rows.specs.ValueOf.{text_value, rows_value, union_value, value_of};
 
-use accepted::byte_view::view_bytes;
+use accepted::byte_view::View;
 use image::bytes::{bit, byte, le};
 use image::element::VIEW_SIZE;
 use image::record::Node;
+use image::row_bytes::COUNT_WIDTH;
 use image::type_code::{Layout, TypeCode};
 
 // Child rows: of each of `parts` children from `child` on, `count` rows from `start` on.
@@ -29,6 +30,9 @@ pub struct ChildRows {
 #[derive(Clone, Copy)]
 pub struct Value<'a> {
     // the number in front: a text's length, a list's count, a union's id, a Boolean's bit
+    // Kept: 0 in 0 bytes where there is none, and no `Option`: nothing asks whether there is one, since a number without bytes
+    // takes no room and puts nothing. With an `Option` `put_own` and `measure_row` would each have a case more, and so would
+    // `front_bytes`, `tagged_first` and the length of a value (`own_length`).
     pub head: usize,
     // how many bytes the number takes: 0, 1 or 4
     pub width: usize,
@@ -38,9 +42,7 @@ pub struct Value<'a> {
     pub rows: Option<ChildRows>,
 }
 
-// How many bytes a length or a count takes, and how many an id or a Boolean.
-const COUNT_WIDTH: usize = 4;
-
+// How many bytes an id or a Boolean takes.
 const ID_WIDTH: usize = 1;
 
 // A value without child rows.
@@ -135,13 +137,15 @@ impl<'a> Element<'a> {
 
     // The same of views, in the view or in a data buffer.
     fn view_value(self) -> Value<'a>
-        requires { layout_of (code_of of self.node) ≡ View }
-        ensures { content result ≡ (value_of View of self.entry.node) self.entry.j }
+        requires { layout_of (code_of of self.node) ≡ Views }
+        ensures { content result ≡ (value_of Views of self.entry.node) self.entry.j }
     {
-        let view = self.node.buffer_place(0) + self.j * VIEW_SIZE;
-        let size = le::<4>(self.node.image, view);
-        let place = view_bytes(self.node, view, size);
-        text(&self.node.image[place..place + size])
+        let view = View {
+            node: self.node,
+            entries: self.node.node_entry(0),
+            place: self.node.buffer_place(0) + self.j * VIEW_SIZE,
+        };
+        text(view.bytes())
     }
 
     // "List kinds and Map: u32 count, child rows." From one offset up to the next.
@@ -251,7 +255,7 @@ pub fn value_at(node: Node, j: usize, run: usize) -> Value<'_>
     ensures { content result ≡ (value_of (layout_of (code_of of node.entry)) of node.entry) j }
 {
     let element = Element { node, j };
-    let layout = TypeCode::layout(node.code());
+    let layout = node.layout();
     match layout {
         Layout::Null => leaf(0, 0, &[]),
         Layout::Boolean => element.boolean_value(),

@@ -3,63 +3,50 @@ ghost use Rattle.image.specs.Of.{◌of◌};
 ghost use Rattle.image.specs.Row.{row_at, range};
 ghost use Rattle.image.specs.RowBytes.{row_bytes, rows_bytes};
 ghost use Rattle.accepted.specs.Parts.{Side};
-ghost use Rattle.accepted.specs.Runs.{Kept, Remembered};
+ghost use Rattle.accepted.specs.Runs.{Remembered};
 ghost use Rattle.rows.specs.Output.{Fits, Put};
 ghost use Rattle.rows.specs.Value.{content, own_bytes};
 
 use crate::output::Output;
 use crate::value::{Value, is_null, value_at};
-use accepted::column::{Column, KeptRuns};
+use accepted::column::{Column, Cursor, KeptRuns};
 use image::record::Node;
-
-// The first byte of a row: of a null, and of any other row.
-const MARK_WIDTH: usize = 1;
-
-const NULL: usize = 0;
-
-const VALID: usize = 1;
+use image::row_bytes::{MARK_WIDTH, NULL_MARK, VALUE_MARK};
 
 // What a value has before its child rows.
 fn put_own(v: Value, out: &mut Output)
     requires { Fits out.old.bytes.now out.old.at (own_bytes (content v)) }
     ensures { Put out.old out.new (own_bytes (content v.entry)) }
 {
-    out.put_number(VALID, MARK_WIDTH);
+    out.put_number(usize::from(VALUE_MARK), MARK_WIDTH);
     out.put_number(v.head, v.width);
     out.put_bytes(v.bytes);
 }
 
-// Row i of a node, beside which a run is kept.
+// A row of a node.
 #[cycle(write_row_write_rows)]
-fn write_row(
-    column: Column,
-    i: usize,
-    run: usize,
-    depth: usize,
-    runs: &mut KeptRuns,
-    out: &mut Output,
-)
-    requires side { (Side of column.node) i 1 }
-    requires kept { (Kept of column.node) column i run }
-    requires remembered { Remembered column.node.image.now runs.old }
-    requires fits { Fits out.old.bytes.now out.old.at (row_bytes ((row_at depth of column.node) i)) }
-    ensures put { Put out.old out.new (row_bytes ((row_at depth of column.entry.node) i)) }
-    ensures remembered_after { Remembered column.entry.node.image.now runs.new }
+fn write_row(cursor: Cursor, depth: usize, runs: &mut KeptRuns, out: &mut Output)
+    requires side { (Side of cursor.column.now.node) cursor.row 1 }
+    requires remembered { Remembered cursor.column.now.node.image.now runs.old }
+    requires fits { Fits out.old.bytes.now out.old.at (row_bytes ((row_at depth of cursor.column.now.node) cursor.row)) }
+    ensures put { Put out.old out.new (row_bytes ((row_at depth of cursor.entry.column.now.node) cursor.entry.row)) }
+    ensures remembered_after { Remembered cursor.entry.column.now.node.image.now runs.new }
 {
-    if is_null(column.node, i, depth) {
-        out.put_number(NULL, MARK_WIDTH);
+    if is_null(cursor.column.node, cursor.row, depth) {
+        out.put_number(usize::from(NULL_MARK), MARK_WIDTH);
         return;
     }
-    let v = value_at(column.node, column.offset + i, run);
+    let v = value_at(
+        cursor.column.node,
+        cursor.column.offset + cursor.row,
+        cursor.run,
+    );
     put_own(v, out);
     let Some(rows) = v.rows else {
         return;
     };
     for c in 0..rows.parts {
-        let child = Node {
-            image: column.node.image,
-            number: rows.child + c,
-        };
+        let child = cursor.column.node.other(rows.child + c);
         write_rows(child, rows.start, rows.count, depth - 1, runs, out);
     }
 }
@@ -86,17 +73,16 @@ pub fn write_rows(
     if n == 0 {
         return;
     }
+    let end = i + n;
     let column = Column::new(node);
-    let mut run = column.first_run(i, runs);
-    let mut k: usize = 0;
-    while k < n {
-        let stay = column.stay(i + k, n - k, run);
+    let mut cursor = column.first(i, runs);
+    while cursor.row < end {
+        let stay = cursor.stay(end - cursor.row);
         let at = out.at;
-        write_row(column, i + k, run, depth, runs, out);
+        write_row(cursor, depth, runs, out);
         let size = out.at - at;
         out.put_times(size, stay.rows - 1);
-        run = stay.next;
-        k += stay.rows;
+        cursor = stay.next;
     }
-    column.remember(i + k, run, runs);
+    cursor.remember(runs);
 }

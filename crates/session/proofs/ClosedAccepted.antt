@@ -4,13 +4,12 @@ use mathlib.Core.Path.{◌≡◌, refl, sym, ◌∙◌}
 use mathlib.Core.Bool.{Bool, true, false, cond, false≢true}
 use mathlib.Core.List.{List, [], ◌∷◌}
 use Prim.Native.Nat.{ℕ, ◌+◌}
-use lib.ListN.{length, drop}
+use lib.ListN.{length}
 use lib.Seq.{paste}
 use Rattle.image.specs.declared.answer.Side.TheVariants.{Left, Right}
 use Rattle.image.specs.Faults.{Checked, check_image}
 use Rattle.std.proofs.Common.{Ok, Err}
-use Rattle.session.specs.Frames.{Asked}
-use Rattle.session.specs.declared.frame.Frame.TheVariants.{Piece, Close, Compare, CompareRange, Write, Empty}
+use Rattle.session.specs.Frames.{Asked, Piece, Close, Compare, CompareRange, Write, Empty}
 use Rattle.session.specs.declared.reply.Reply.TheVariants.{Done}
 use Rattle.session.specs.declared.reply.Refusal.TheVariants.{PastStore, Closed}
 use Rattle.session.specs.Frames.{frame_of}
@@ -49,22 +48,22 @@ close_sound store s sound = by_closed s.closed
     by_closed true = sound
     by_closed false = by_check (check_image (image_of s store)) refl
 
-frame_sound : (f : Asked) (b left right : List ℕ) (state : State) (out : List ℕ) → Sound state.left left → Sound state.right right → BothSound (obeyed f b left right state out)
+frame_sound : (f : Asked) (left right : List ℕ) (state : State) (out : List ℕ) → Sound state.left left → Sound state.right right → BothSound (obeyed f left right state out)
 unfolding piece_stepped close_stepped write_stepped empty_stepped
-frame_sound (Ok (Piece Left)) b left right state out p q = record { left = piece_sound left state.left (drop 1 b) p; right = q }
-frame_sound (Ok (Piece Right)) b left right state out p q = record { left = p; right = piece_sound right state.right (drop 1 b) q }
-frame_sound (Ok (Close Left)) b left right state out p q = record { left = close_sound left state.left p; right = q }
-frame_sound (Ok (Close Right)) b left right state out p q = record { left = p; right = close_sound right state.right q }
-frame_sound (Ok Compare) b left right state out p q = record { left = p; right = q }
-frame_sound (Ok (CompareRange i j n)) b left right state out p q = record { left = p; right = q }
-frame_sound (Ok (Write side i n)) b left right state out p q = record { left = p; right = q }
-frame_sound (Ok (Empty Left)) b left right state out p q = record { left = open_sound emptied left refl; right = q }
-frame_sound (Ok (Empty Right)) b left right state out p q = record { left = p; right = open_sound emptied right refl }
-frame_sound (Err fault) b left right state out p q = record { left = p; right = q }
+frame_sound (Ok (Piece Left bytes)) left right state out p q = record { left = piece_sound left state.left bytes p; right = q }
+frame_sound (Ok (Piece Right bytes)) left right state out p q = record { left = p; right = piece_sound right state.right bytes q }
+frame_sound (Ok (Close Left)) left right state out p q = record { left = close_sound left state.left p; right = q }
+frame_sound (Ok (Close Right)) left right state out p q = record { left = p; right = close_sound right state.right q }
+frame_sound (Ok Compare) left right state out p q = record { left = p; right = q }
+frame_sound (Ok (CompareRange i j n)) left right state out p q = record { left = p; right = q }
+frame_sound (Ok (Write side i n)) left right state out p q = record { left = p; right = q }
+frame_sound (Ok (Empty Left)) left right state out p q = record { left = open_sound emptied left refl; right = q }
+frame_sound (Ok (Empty Right)) left right state out p q = record { left = p; right = open_sound emptied right refl }
+frame_sound (Err fault) left right state out p q = record { left = p; right = q }
 
 line_sound : (line : List ℕ) (a : After) → BothSound a → BothSound (next line a)
 unfolding after_line after_frame
-line_sound line a sound = frame_sound (frame_of (bytes_of line)) (bytes_of line) a.left a.right a.stepped.state a.out sound.left sound.right
+line_sound line a sound = frame_sound (frame_of (bytes_of line)) a.left a.right a.stepped.state a.out sound.left sound.right
 
 lines_sound : (lines : List (List ℕ)) (a : After) → BothSound a → BothSound (after_lines lines a)
 unfolding after_lines

@@ -2,8 +2,10 @@
 -- By induction on the length that is taken.
 use mathlib.Core.Path.{◌≡◌, refl, ap}
 use mathlib.Core.List.{List, [], ◌∷◌, ◌++◌}
-use Prim.Native.Nat.{ℕ, zero, suc}
-use lib.ListN.{length, take}
+use Prim.Native.Nat.{ℕ, zero, suc, ◌-◌}
+use native.Mathlib.Omega.{arith}
+use lib.ListN.{length, take, drop, length-drop}
+use lib.Seq.{take_all}
 
 pub front : (n : ℕ) (xs : List ℕ) → take (length (take n xs)) xs ≡ take n xs
 front zero xs = refl
@@ -20,3 +22,7 @@ pub front_over : (n : ℕ) (xs ys : List ℕ) → take n (take n xs ++ ys) ≡ t
 front_over zero xs ys = refl
 front_over (suc n) [] ys = refl
 front_over (suc n) (x ∷ xs) ys = ap (λ (r : List ℕ). x ∷ r) (front_over n xs ys)
+
+-- what is lent of a list after its first
+pub after_first : (xs : List ℕ) → take (length xs - 1) (drop 1 xs) ≡ drop 1 xs
+after_first xs = take_all (length xs - 1) (drop 1 xs) (simp length-drop (omega arith))

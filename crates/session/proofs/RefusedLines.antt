@@ -4,7 +4,7 @@ use mathlib.Core.Path.{◌≡◌, refl}
 use mathlib.Core.Bool.{Bool, true, false, cond, false≢true}
 use mathlib.Core.List.{List}
 use Prim.Native.Nat.{ℕ, ◌+◌}
-use lib.ListN.{length, drop}
+use lib.ListN.{length}
 use lib.Seq.{paste}
 use Rattle.image.specs.declared.answer.Side.{Side}
 use Rattle.image.specs.declared.answer.Side.TheVariants.{Left, Right}
@@ -12,8 +12,7 @@ use Rattle.image.specs.Faults.{Checked, check_image}
 use Rattle.std.proofs.Common.{Ok, Err}
 use Rattle.answers.specs.Answers.{write_answer, write_output}
 use Rattle.api.proofs.RefusedWrites.{refused_unwritten}
-use Rattle.session.specs.Frames.{Asked}
-use Rattle.session.specs.declared.frame.Frame.TheVariants.{Piece, Close, Compare, CompareRange, Write, Empty}
+use Rattle.session.specs.Frames.{Asked, Piece, Close, Compare, CompareRange, Write, Empty}
 use Rattle.session.specs.declared.reply.Reply.TheVariants.{Done}
 use Rattle.session.specs.declared.reply.Refusal.TheVariants.{PastStore, Closed, Open}
 use Rattle.session.specs.Frames.{frame_of}
@@ -64,35 +63,35 @@ write_refused store s side i n out = by_closed s.closed
     by_closed true e = refused_unwritten (image_of s store) i n out (λ k wrote. false≢true (rw wrote at e))
     by_closed false e = refl
 
-frame_refused : (f : Asked) (b left right : List ℕ) (state : State) (out : List ℕ) → refusal (obeyed f b left right state out).stepped.reply ≡ true →
-    ((obeyed f b left right state out).left ≡ left) × ((obeyed f b left right state out).right ≡ right) × ((obeyed f b left right state out).out ≡ out)
-    × ((obeyed f b left right state out).stepped.state ≡ refused_state f state)
+frame_refused : (f : Asked) (left right : List ℕ) (state : State) (out : List ℕ) → refusal (obeyed f left right state out).stepped.reply ≡ true →
+    ((obeyed f left right state out).left ≡ left) × ((obeyed f left right state out).right ≡ right) × ((obeyed f left right state out).out ≡ out)
+    × ((obeyed f left right state out).stepped.state ≡ refused_state f state)
 unfolding piece_stepped close_stepped write_stepped written_out empty_stepped
-frame_refused (Ok (Piece Left)) b left right state out e =
-    let side = piece_refused left state.left (drop 1 b) e in
+frame_refused (Ok (Piece Left bytes)) left right state out e =
+    let side = piece_refused left state.left bytes e in
     (side.1, refl, refl, rw side.0 refl)
-frame_refused (Ok (Piece Right)) b left right state out e =
-    let side = piece_refused right state.right (drop 1 b) e in
+frame_refused (Ok (Piece Right bytes)) left right state out e =
+    let side = piece_refused right state.right bytes e in
     (refl, side.1, refl, rw side.0 refl)
-frame_refused (Ok (Close Left)) b left right state out e = (refl, refl, refl, rw (close_refused left state.left e) (cases state.left.closed))
+frame_refused (Ok (Close Left)) left right state out e = (refl, refl, refl, rw (close_refused left state.left e) (cases state.left.closed))
   where
     cases : (c : Bool) → ◌≡◌ {A = State} (record { left = cond c state.left emptied; right = state.right }) (cond c state (record { left = emptied; right = state.right }))
     cases true = refl
     cases false = refl
-frame_refused (Ok (Close Right)) b left right state out e = (refl, refl, refl, rw (close_refused right state.right e) (cases state.right.closed))
+frame_refused (Ok (Close Right)) left right state out e = (refl, refl, refl, rw (close_refused right state.right e) (cases state.right.closed))
   where
     cases : (c : Bool) → ◌≡◌ {A = State} (record { left = state.left; right = cond c state.right emptied }) (cond c state (record { left = state.left; right = emptied }))
     cases true = refl
     cases false = refl
-frame_refused (Ok Compare) b left right state out e = (refl, refl, refl, refl)
-frame_refused (Ok (CompareRange i j n)) b left right state out e = (refl, refl, refl, refl)
-frame_refused (Ok (Write side i n)) b left right state out e = (refl, refl, write_refused (store_of side left right) (side_of side state) side i n out e, refl)
-frame_refused (Ok (Empty Left)) b left right state out e = absurd (false≢true e)
-frame_refused (Ok (Empty Right)) b left right state out e = absurd (false≢true e)
-frame_refused (Err fault) b left right state out e = (refl, refl, refl, refl)
+frame_refused (Ok Compare) left right state out e = (refl, refl, refl, refl)
+frame_refused (Ok (CompareRange i j n)) left right state out e = (refl, refl, refl, refl)
+frame_refused (Ok (Write side i n)) left right state out e = (refl, refl, write_refused (store_of side left right) (side_of side state) side i n out e, refl)
+frame_refused (Ok (Empty Left)) left right state out e = absurd (false≢true e)
+frame_refused (Ok (Empty Right)) left right state out e = absurd (false≢true e)
+frame_refused (Err fault) left right state out e = (refl, refl, refl, refl)
 
 pub refused_keeps : (line : List ℕ) (a : After) → refusal (next line a).stepped.reply ≡ true → Unchanged line a
 unfolding after_line after_frame
 refused_keeps line a e =
-    let same = frame_refused (frame_of (bytes_of line)) (bytes_of line) a.left a.right a.stepped.state a.out e in
+    let same = frame_refused (frame_of (bytes_of line)) a.left a.right a.stepped.state a.out e in
     record { left = same.0; right = same.1; out = same.2; state = same.3 }

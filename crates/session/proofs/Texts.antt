@@ -12,7 +12,7 @@ use borrow.Rule.Slice.PartMut.{put_mid}
 use Rattle.image.specs.Bytes.{number_bytes}
 use mathlib.Core.Bool.{Bool, true, false}
 use mir.Val.{bool_byte}
-use Rattle.answers.specs.Numbers.{yes_value}
+use Rattle.answers.specs.Numbers.{side_number, yes_value}
 use Rattle.std.proofs.Common.{Ok, Err}
 use Rattle.image.specs.declared.answer.Side.{Side}
 use Rattle.image.specs.declared.answer.Fault.{Fault}
@@ -34,6 +34,10 @@ byte_then x k bytes part h e =
     let end : 1 + k ≡ 1 + length part = omega (arith, e) in
     let one : take 1 (set bytes 0 x) ≡ x ∷ [] = puts bytes (x ∷ []) h in
     take-put_mid 1 (1 + k - 1) (set bytes 0 x) part (1 + k) end (omega (arith, length-set bytes 0 x)) ∙ rw one refl
+
+-- a number, and behind it a side's
+pub number_side : (number : ℕ) (bytes : List ℕ) (side : Side) {x : ℕ} → 2 ≤ length bytes → x ≡ side_number side → take 2 (set (set bytes 0 number) 1 x) ≡ number ∷ side_number side ∷ []
+number_side number bytes side h e = rw e (puts bytes (number ∷ side_number side ∷ []) h)
 
 -- a number, and behind it two bytes that are copied
 pub number_then : (number node : ℕ) (bytes part : List ℕ) → 1 ≤ length bytes → part ≡ number_bytes 2 node → take 3 (put_mid 1 2 (set bytes 0 number) part) ≡ number ∷ number_bytes 2 node

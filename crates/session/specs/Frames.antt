@@ -1,15 +1,25 @@
 -- Frames ("Frames: 01 or 02 and 1 to 64 bytes, a piece left or right; 03 side, close; 04 compare all; 05 and three u32
 -- (left start, right start, count); 06 side, u32 start, u32 count, write; 07 side, empty and open. Sides: 00 left, 01
 -- right.").
-use Rattle.std.specs.Prelude.{cond, List, ℕ, length, eqb, ltb, Result, Ok, Err}
+use Rattle.std.specs.Prelude.{cond, List, [], ℕ, length, drop, eqb, ltb, Option, Some, None, Result, Ok, Err}
+use Rattle.std.specs.Borrow.{Bor}
 use Rattle.image.specs.declared.answer.Side.{Side}
 use Rattle.image.specs.declared.answer.Side.TheVariants.{Left, Right}
 use Rattle.image.specs.Bytes.{byte_at, number_at}
 use Rattle.answers.specs.Answers.{◌>>=◌}
 use Rattle.session.specs.declared.frame.Frame.{Frame}
-use Rattle.session.specs.declared.frame.Frame.TheVariants.{Piece, Close, Compare, CompareRange, Write, Empty}
+use Rattle.session.specs.declared.frame.Frame.TheVariants.{Piece as FramePiece, Close as FrameClose, Compare as FrameCompare, CompareRange as FrameRange, Write as FrameWrite, Empty as FrameEmpty}
 use Rattle.session.specs.declared.frame.FrameFault.{FrameFault}
 use Rattle.session.specs.declared.frame.FrameFault.TheVariants.{NotHexadecimal, UnknownCommand, WrongForm}
+
+-- what a line asks for; a piece is its bytes
+pub data Command : Type 0 where
+  Piece : Side → List ℕ → Command
+  Close : Side → Command
+  Compare : Command
+  CompareRange : ℕ → ℕ → ℕ → Command
+  Write : Side → ℕ → ℕ → Command
+  Empty : Side → Command
 
 -- "3 wrong length"
 unfoldable pub of_length : ℕ → List ℕ → Result (Unit {0}) FrameFault
@@ -27,10 +37,10 @@ only_side b = do
 
 -- what is asked, or why the bytes are no frame
 abbrev pub Asked : Type 0
-Asked = Result Frame FrameFault
+Asked = Result Command FrameFault
 
 unfoldable pub piece_frame : List ℕ → Side → Asked
-piece_frame b side = cond (ltb (length b) 2) (Err WrongForm) (Ok (Piece side))
+piece_frame b side = cond (ltb (length b) 2) (Err WrongForm) (Ok (Piece side (drop 1 b)))
 
 unfoldable pub close_frame : List ℕ → Asked
 close_frame b = do
@@ -72,3 +82,22 @@ by_kind kind b =
 -- what the bytes of a line ask for; no bytes are a line that is refused by 1
 unfoldable pub frame_of : List ℕ → Asked
 frame_of b = cond (eqb (length b) 0) (Err NotHexadecimal) (by_kind (byte_at b 0) b)
+
+-- what a frame asks for, which lends the bytes of a piece
+abbrev pub command_of : Frame → Command
+command_of (FramePiece side piece) = Piece side piece.now
+command_of (FrameClose side) = Close side
+command_of FrameCompare = Compare
+command_of (FrameRange i j n) = CompareRange i j n
+command_of (FrameWrite side i n) = Write side i n
+command_of (FrameEmpty side) = Empty side
+
+-- what a frame asks for, or why there is none
+abbrev pub asked_by : Result Frame FrameFault → Asked
+asked_by (Ok frame) = Ok (command_of frame)
+asked_by (Err fault) = Err fault
+
+-- bytes that are lent where there are any
+abbrev pub lent_bytes : Option (Bor (List ℕ)) → List ℕ
+lent_bytes None = []
+lent_bytes (Some bytes) = bytes.now

@@ -52,8 +52,8 @@ unfoldable pub rest : List ℕ → Found
 rest [] = good []
 rest (c ∷ cs) = scan (c ∷ cs) begin
 
--- the next byte of a line, after one that ends at a place, begins at r: past one space, if something follows it
-pub record NextByte (line : List ℕ) (at r : ℕ) : Type 0 where
-  pub from : at ≤ r
-  pub within : r ≤ length line
-  pub found : scan (drop at line) between ≡ rest (drop r line)
+-- what is left of a line after a byte, and what is left of it where the next one begins: past one space, if something follows it
+pub record NextByte (left next : List ℕ) : Type 0 where
+  pub within : length next ≤ length left
+  pub part : next ≡ drop (length left - length next) left
+  pub found : scan left between ≡ rest next

@@ -1,9 +1,8 @@
 -- A session: "Both start empty and open", "One output line each".
 use Rattle.std.specs.Prelude.{◌≡◌, Bool, true, cond, List, [], ◌∷◌, ℕ, Ok, Err, is_err}
 use Rattle.image.specs.Faults.{check_image}
-use Rattle.session.specs.declared.frame.Frame.TheVariants.{Piece, Close, Compare, CompareRange, Write, Empty}
 use Rattle.session.specs.declared.reply.Reply.TheVariants.{Done}
-use Rattle.session.specs.Frames.{Asked, frame_of}
+use Rattle.session.specs.Frames.{Asked, Piece, Close, Compare, CompareRange, Write, Empty, frame_of}
 use Rattle.session.specs.Lines.{bytes_of}
 use Rattle.session.specs.Replies.{Replied, reply_line}
 use Rattle.session.specs.Steps.{SideState, State, image_of, start_state, side_of, replied, empty_stepped, After, after, after_line}
@@ -32,7 +31,7 @@ refusal = is_err
 -- The state after a refused frame: as it was, but that "a close whose image is refused leaves its side so", empty and open.
 -- Only an open side's image is checked.
 abbrev pub refused_state : Asked → State → State
-refused_state (Ok (Piece side)) state = state
+refused_state (Ok (Piece side bytes)) state = state
 refused_state (Ok (Close side)) state = cond (side_of side state).closed state (empty_stepped side state).state
 refused_state (Ok Compare) state = state
 refused_state (Ok (CompareRange i j n)) state = state

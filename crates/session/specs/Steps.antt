@@ -1,15 +1,15 @@
 -- What a line does: the reply, the state after it, both stores and the output, for every line and every state.
-use Rattle.std.specs.Prelude.{Bool, true, false, cond, ◌&&◌, List, ℕ, ◌+◌, length, take, drop, ltb, Ok, Err}
+use Rattle.std.specs.Prelude.{Bool, true, false, cond, ◌&&◌, List, ℕ, ◌+◌, length, take, ltb, Result, Ok, Err}
 use Rattle.std.proofs.Math.Seq.{paste}
 use Rattle.image.specs.declared.answer.Side.{Side}
 use Rattle.image.specs.declared.answer.Side.TheVariants.{Left, Right}
 use Rattle.image.specs.Faults.{Checked, check_image}
 use Rattle.answers.specs.Answers.{compare_answer, compare_range_answer, write_answer, write_output}
-use Rattle.session.specs.declared.frame.Frame.TheVariants.{Piece, Close, Compare, CompareRange, Write, Empty}
 use Rattle.session.specs.declared.reply.Reply.TheVariants.{Done}
+use Rattle.session.specs.declared.reply.Refusal.{Refusal}
 use Rattle.session.specs.declared.reply.Refusal.TheVariants.{NoFrame, Faulty, PastStore, Closed, Open}
 use Rattle.session.specs.Lines.{bytes_of}
-use Rattle.session.specs.Frames.{Asked, frame_of}
+use Rattle.session.specs.Frames.{Asked, Piece, Close, Compare, CompareRange, Write, Empty, frame_of}
 use Rattle.session.specs.Replies.{Replied, compared_reply, ranges_reply, written_reply}
 
 -- one side: how much of its store is used, and whether it is closed
@@ -47,6 +47,10 @@ start_state = record { left = emptied; right = emptied }
 -- a side's image: what was stored, and not the whole store
 unfoldable pub image_of : SideState → List ℕ → List ℕ
 image_of s store = take s.used store
+
+-- the image of a side that is closed; 42 of a side that is open
+abbrev pub accepted_of : SideState → List ℕ → Result (List ℕ) Refusal
+accepted_of s store = cond s.closed (Ok (image_of s store)) (Err Open)
 
 -- 40: "piece past its store"
 unfoldable pub past_store : List ℕ → SideState → List ℕ → Bool
@@ -152,18 +156,18 @@ pub record After : Type 0 where
 abbrev pub after : Stepped → List ℕ → List ℕ → List ℕ → After
 after stepped left right out = record { stepped = stepped; left = left; right = right; out = out }
 
--- a frame that stands in the bytes b; a piece is the bytes after the first
-abbrev pub obeyed : Asked → List ℕ → List ℕ → List ℕ → State → List ℕ → After
-obeyed (Ok (Piece side)) b left right state out = after (piece_stepped side (drop 1 b) left right state) (piece_left side (drop 1 b) left state) (piece_right side (drop 1 b) right state) out
-obeyed (Ok (Close side)) b left right state out = after (close_stepped side left right state) left right out
-obeyed (Ok Compare) b left right state out = after (replied (compares_reply left right state) state) left right out
-obeyed (Ok (CompareRange i j n)) b left right state out = after (replied (range_reply left right state i j n) state) left right out
-obeyed (Ok (Write side i n)) b left right state out = after (write_stepped side left right state i n out) left right (written_out side left right state i n out)
-obeyed (Ok (Empty side)) b left right state out = after (empty_stepped side state) left right out
-obeyed (Err fault) b left right state out = after (replied (Err (NoFrame fault)) state) left right out
+-- what a line asks for, obeyed
+abbrev pub obeyed : Asked → List ℕ → List ℕ → State → List ℕ → After
+obeyed (Ok (Piece side bytes)) left right state out = after (piece_stepped side bytes left right state) (piece_left side bytes left state) (piece_right side bytes right state) out
+obeyed (Ok (Close side)) left right state out = after (close_stepped side left right state) left right out
+obeyed (Ok Compare) left right state out = after (replied (compares_reply left right state) state) left right out
+obeyed (Ok (CompareRange i j n)) left right state out = after (replied (range_reply left right state i j n) state) left right out
+obeyed (Ok (Write side i n)) left right state out = after (write_stepped side left right state i n out) left right (written_out side left right state i n out)
+obeyed (Ok (Empty side)) left right state out = after (empty_stepped side state) left right out
+obeyed (Err fault) left right state out = after (replied (Err (NoFrame fault)) state) left right out
 
 unfoldable pub after_frame : List ℕ → List ℕ → List ℕ → State → List ℕ → After
-after_frame b left right state out = obeyed (frame_of b) b left right state out
+after_frame b left right state out = obeyed (frame_of b) left right state out
 
 -- a line
 unfoldable pub after_line : List ℕ → List ℕ → List ℕ → State → List ℕ → After

@@ -1,5 +1,5 @@
 // Lines of lower-case hexadecimal.
-ghost use Rattle.std.specs.Prelude.{◌≡◌, ◌≤◌, length};
+ghost use Rattle.std.specs.Prelude.{◌≡◌};
 ghost use Rattle.std.specs.Option.{option_copied};
 ghost use Rattle.session.specs.Lines.{digit_value, frame_in, NextByte};
 
@@ -12,7 +12,7 @@ const SPACE: u8 = b' ';
 pub const LINE_FEED: u8 = b'\n';
 
 // The value of a digit, 0 to 9 and a to f.
-// Kept: the library's `to_digit` takes capitals too, which no line has.
+// Kept: the library's `to_digit` takes capitals too, for which a line is refused.
 fn digit(c: u8) -> Option<u8>
     ensures { result ≡ digit_value c }
 {
@@ -23,19 +23,14 @@ fn digit(c: u8) -> Option<u8>
     }
 }
 
-// Where the next byte begins after one that ends at a place: past one space, if something follows it.
-// Kept: `decode` goes by places, of which this is the next.
-fn after_byte(line: &[u8], at: usize) -> usize
-    requires { at ≤ length line.now }
-    ensures { NextByte line.now at result }
+// What is left of a line where the next byte begins, after one that ends: past one space, if something follows it.
+fn after_byte(left: &[u8]) -> &[u8]
+    ensures { NextByte left.now result.now }
 {
-    if line.len() - at < 2 {
-        return at;
+    match left {
+        [SPACE, next @ ..] if !next.is_empty() => next,
+        _ => left,
     }
-    if line[at] == SPACE {
-        return at + 1;
-    }
-    at
 }
 
 // The bytes that a line stands for, at the front of the buffer: None where the line is not 1 to 65 bytes of hexadecimal.
@@ -43,23 +38,19 @@ pub fn decode<'a>(line: &[u8], buffer: &'a mut [u8; LONGEST_FRAME]) -> Option<&'
     ensures { option_copied result ≡ frame_in line.now }
 {
     let bytes: &mut [u8] = buffer;
-    let mut at: usize = 0;
+    let mut left = line;
     let mut n: usize = 0;
-    // Kept: a loop over places, since a byte has two characters and at times a space before the next.
-    while at < line.len() {
-        if line.len() - at < 2 {
-            return None;
-        }
-        let high = digit(line[at])?;
-        let low = digit(line[at + 1])?;
+    // Kept: no `for`, since a byte has two characters and at times a space before the next.
+    while let [high, low, after @ ..] = left {
+        let byte = 16 * digit(*high)? + digit(*low)?;
         if n == LONGEST_FRAME {
             return None;
         }
-        bytes[n] = 16 * high + low;
+        bytes[n] = byte;
         n += 1;
-        at = after_byte(line, at + 2);
+        left = after_byte(after);
     }
-    if n == 0 {
+    if n == 0 || !left.is_empty() {
         return None;
     }
     Some(&bytes[..n])

@@ -6,7 +6,7 @@ ghost use Rattle.session.specs.Replies.{range_refusal, written_reply, refusal_nu
 use crate::frame::FrameFault;
 use crate::line::LINE_FEED;
 use crate::sizes::{LONGEST_REPLY, OUTPUT};
-use answers::numbers::side_number;
+use answers::numbers::{OUT_OF_RANGE, TOO_LONG, UNEQUAL_TYPES};
 use answers::{RangeRefusal, SideFault, WriteRefusal};
 use image::answer::{Fault, Side};
 
@@ -48,12 +48,12 @@ impl Refusal {
         match self {
             Refusal::NoFrame(fault) => fault as u8,
             Refusal::Faulty(fault) => fault.number,
-            Refusal::UnequalTypes => 20,
-            Refusal::OutOfRange(_) => 21,
+            Refusal::UnequalTypes => UNEQUAL_TYPES,
+            Refusal::OutOfRange(_) => OUT_OF_RANGE,
             Refusal::PastStore => 40,
             Refusal::Closed => 41,
             Refusal::Open => 42,
-            Refusal::TooLong => 43,
+            Refusal::TooLong => TOO_LONG,
         }
     }
 }
@@ -120,7 +120,7 @@ fn refusal_bytes<'a>(refusal: Refusal, bytes: &'a mut [u8; LONGEST_BYTES]) -> &'
             &bytes[..3]
         }
         Refusal::OutOfRange(side) => {
-            bytes[1] = side_number(side);
+            bytes[1] = side as u8;
             &bytes[..2]
         }
         _ => &bytes[..1],
@@ -180,7 +180,10 @@ fn print(bytes: &[u8], text: &mut [u8; LONGEST_REPLY]) -> usize
 }
 
 // The line that a reply is printed as, put at the front of a text, and how many characters it has.
-// Kept: a number and no slice, here and in `print`: the text is the caller's, who prints its front after the turn.
+// Kept: a number and no slice, here and in `print`: of a text that a result borrows from there is no `text.new`, by which a turn
+// promises every byte of the text, those behind the line too. Tried: a clause on what the lent text ends as (`follows_so`), which
+// the check proves of what hands on a field or a call's result, and not of `print`, which writes. The buffers above are given up
+// by `render`, and nothing is promised of what they hold then.
 pub fn render(
     reply: Result<Reply, Refusal>,
     out: &[u8; OUTPUT],

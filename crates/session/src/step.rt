@@ -2,11 +2,12 @@
 ghost use Rattle.std.specs.Prelude.{◌≡◌, Ok};
 ghost use Rattle.std.specs.Borrow.{sem};
 ghost use Rattle.session.specs.declared.reply.Reply.TheVariants.{Done};
-ghost use Rattle.session.specs.Steps.{closed_both, compares_reply, range_reply};
-ghost use Rattle.session.specs.Stores.{state_of, store_at, LendsStore, after_of, after_frame_of, after_line_of};
+ghost use Rattle.session.specs.Frames.{command_of};
+ghost use Rattle.session.specs.Steps.{compares_reply, range_reply};
+ghost use Rattle.session.specs.Stores.{state_of, store_at, LendsStore, after_of, after_command_of, after_line_of};
 ghost use Rattle.session.specs.Input.{fresh};
 
-use crate::frame::{Frame, FrameFault, parse};
+use crate::frame::{Frame, parse};
 use crate::line::{LONGEST_FRAME, decode};
 use crate::reply::{Refusal, Reply};
 use crate::sizes::OUTPUT;
@@ -33,34 +34,19 @@ impl Stores {
         }
     }
 
-    // Both sides are closed.
-    fn both_closed(&self) -> bool
-        ensures { result ≡ closed_both (state_of self.now) }
-    {
-        if !self.left.closed {
-            return false;
-        }
-        self.right.closed
-    }
-
     // The comparison of both sides: refused where one is open.
     fn compare(&self) -> Result<Reply, Refusal>
         ensures { result ≡ compares_reply self.now.left.bytes self.now.right.bytes (state_of self.now) }
     {
-        if !self.both_closed() {
-            return Err(Refusal::Open);
-        }
-        Ok(Reply::Answer(compare(self.left.image(), self.right.image())?))
+        let equal = compare(self.left.accepted()?, self.right.accepted()?)?;
+        Ok(Reply::Answer(equal))
     }
 
     // The comparison of ranges of both sides.
     fn compare_range(&self, i: usize, j: usize, n: usize) -> Result<Reply, Refusal>
         ensures { result ≡ range_reply self.now.left.bytes self.now.right.bytes (state_of self.now) i j n }
     {
-        if !self.both_closed() {
-            return Err(Refusal::Open);
-        }
-        let equal = compare_range(self.left.image(), self.right.image(), i, j, n)?;
+        let equal = compare_range(self.left.accepted()?, self.right.accepted()?, i, j, n)?;
         Ok(Reply::Answer(equal))
     }
 }
@@ -87,11 +73,11 @@ impl Session {
     }
 
     // A frame, obeyed.
-    fn obey(&mut self, frame: &[u8]) -> Result<Reply, Refusal>
-        ensures { after_of result self.new ≡ after_frame_of frame.now self.old }
+    fn obey(&mut self, frame: Frame<'_>) -> Result<Reply, Refusal>
+        ensures { after_of result self.new ≡ after_command_of (command_of frame.entry) self.old }
     {
-        match parse(frame)? {
-            Frame::Piece(side) => self.stores.of(side).piece(&frame[1..]),
+        match frame {
+            Frame::Piece(side, piece) => self.stores.of(side).piece(piece),
             Frame::Close(side) => self.stores.of(side).close(),
             Frame::Compare => self.stores.compare(),
             Frame::CompareRange(i, j, n) => self.stores.compare_range(i, j, n),
@@ -108,7 +94,7 @@ impl Session {
         ensures { after_of result self.new ≡ after_line_of line.now self.old }
     {
         let mut buffer = [0u8; LONGEST_FRAME];
-        let frame = decode(line, &mut buffer).ok_or(FrameFault::NotHexadecimal)?;
+        let frame = parse(decode(line, &mut buffer))?;
         self.obey(frame)
     }
 }

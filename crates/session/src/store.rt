@@ -13,14 +13,14 @@ pub struct Store {
     // how many of them are used
     used: usize,
     // Kept: open or closed, a store has the same fields; an enum would say them twice.
-    pub closed: bool,
+    closed: bool,
     ghost within: { used ≤ 24576 },
 }
 
 impl Store {
     ghost use Rattle.std.specs.Prelude.{◌≡◌, replicate};
-    ghost use Rattle.session.specs.Steps.{side_stepped, emptied, image_of, piece_side, piece_store, close_side, write_reply, write_out};
-    ghost use Rattle.session.specs.Stores.{side_of_store};
+    ghost use Rattle.session.specs.Steps.{side_stepped, emptied, image_of, accepted_of, piece_side, piece_store, close_side, write_reply, write_out};
+    ghost use Rattle.session.specs.Stores.{side_of_store, lent_of};
 
     // A store that is empty and open.
     pub fn new() -> Store
@@ -35,10 +35,20 @@ impl Store {
     }
 
     // The side's image: what was stored, and not the whole store.
-    pub fn image(&self) -> &[u8]
+    fn image(&self) -> &[u8]
         ensures { result.now ≡ image_of (side_of_store self.now) self.now.bytes }
     {
         &self.bytes[..self.used]
+    }
+
+    // The image of a side that is closed: refused where it is open.
+    pub fn accepted(&self) -> Result<&[u8], Refusal>
+        ensures { lent_of result ≡ accepted_of (side_of_store self.now) self.now.bytes }
+    {
+        if !self.closed {
+            return Err(Refusal::Open);
+        }
+        Ok(self.image())
     }
 
     // A piece: refused where the side is closed, or where the piece does not fit into the store.
@@ -83,10 +93,7 @@ impl Store {
         ensures value { result ≡ write_reply self.now.bytes (side_of_store self.now) side i n out.old }
         ensures out_after { out.new ≡ write_out self.now.bytes (side_of_store self.now) i n out.old }
     {
-        if !self.closed {
-            return Err(Refusal::Open);
-        }
-        written_reply(write(self.image(), i, n, out), side)
+        written_reply(write(self.accepted()?, i, n, out), side)
     }
 
     // Empty and open.

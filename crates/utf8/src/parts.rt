@@ -8,7 +8,7 @@ ghost use Rattle.utf8.specs.Cuts.{begins};
 ghost use Rattle.utf8.specs.Walks.{Left, Further, Passed, ends_well, ill, plain};
 
 use crate::ascii::{SMALL_BLOCK, high_among};
-use crate::walk::{Walk, in_one};
+use crate::walk::{BETWEEN, ILL_FORMED, Walk, in_one};
 
 // So many bytes of each part are looked at together.
 const BLOCK: usize = 64;
@@ -83,7 +83,7 @@ fn are_plain(walks: Walks<'_>, n: usize) -> bool
 {
     let mut all_between = true;
     for walk in walks {
-        all_between = all_between & (walk.state == 0);
+        all_between = all_between & (walk.state == BETWEEN);
     }
     if !all_between {
         return false;
@@ -125,7 +125,7 @@ fn walk_blocks(walks: Walks<'_>) -> Walks<'_>
 fn is_ill(walks: Walks<'_>) -> bool
     ensures { result ≡ list_any ill walks.entry }
 {
-    walks.iter().any(|walk| walk.state == 8)
+    walks.iter().any(|walk| walk.state == ILL_FORMED)
 }
 
 // Each of four walks ends between characters.

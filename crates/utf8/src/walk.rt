@@ -4,6 +4,11 @@ ghost use Rattle.image.specs.Utf8.{well_formed};
 
 use crate::table::next;
 
+// The state between characters, and that of a text that is ill-formed whatever follows.
+pub(crate) const BETWEEN: u8 = 0;
+
+pub(crate) const ILL_FORMED: u8 = 8;
+
 // What is left of a text that is being walked, and the state that the walk is in.
 // Kept: a state is a number, since it is an index of the table, whose entries are states.
 #[derive(Clone, Copy)]
@@ -23,7 +28,7 @@ impl<'a> Walk<'a> {
     {
         Walk {
             left: text,
-            state: 0,
+            state: BETWEEN,
         }
     }
 
@@ -57,7 +62,7 @@ impl<'a> Walk<'a> {
         for b in self.left {
             state = next(state, *b);
         }
-        state == 0
+        state == BETWEEN
     }
 }
 

@@ -4,7 +4,7 @@ use mathlib.Core.Path.{◌≡◌, refl, sym, ap, subst, ◌∙◌}
 use Rattle.std.specs.Prelude.{◌≢◌}
 use mathlib.Core.Bool.{Bool, true, false, not, ◌&&◌, ◌||◌, and-false, false≢true}
 use mathlib.Core.List.{List}
-use Prim.Native.Nat.{ℕ, zero, suc, ◌+◌, ◌*◌, ◌-◌, ◌<◌, ◌≤◌, ◌^◌}
+use Prim.Native.Nat.{ℕ, zero, suc, ◌+◌, ◌*◌, ◌-◌, ◌<◌, ◌≤◌}
 use native.Mathlib.Nat.{add-zero, zero-add, eq-or-lt_of_le}
 use mathlib.Core.Logic.{◌⊎◌, inl, inr}
 use native.Mathlib.Omega.{arith}
@@ -14,8 +14,8 @@ use borrow.Author.Tests.{eqb-true, ne_eqb, lt-ltb, le-ltb, lt-leb, not-true}
 use Rattle.image.specs.declared.type_code.Layout.TheVariants.{VariableSize, View}
 use Rattle.image.specs.Ranges.{any}
 use Rattle.image.specs.Bytes.{byte_at, bytes_at, number_at}
-use Rattle.image.specs.Reads.{Packed}
-use Rattle.image.specs.Record.{node_count, code_of, length_of, offset_of, elements_of, buffer_place, buffer_length, buffer_count}
+use Rattle.image.specs.Reads.{Read, Packed}
+use Rattle.image.specs.Record.{node_count, code_of, length_of, offset_of, elements_of, first_buffer, entry_place, buffer_place, buffer_length, buffer_count}
 use Rattle.image.specs.TypeCode.{layout_of, entry_of, entries, is_text}
 use Rattle.image.specs.Element.{valid, element_width, element_place, element_at, view_length, view_buffer, view_offset, view_data, text_at}
 use Rattle.image.specs.Faults.{text_row_fault, fault19}
@@ -25,17 +25,17 @@ use Rattle.image.proofs.Numbers.{packed_from, width_most}
 use Rattle.image.proofs.Ranges.{any_none, any_below}
 use Rattle.laws.specs.Accepted.{NoneBelow, OffsetsRise}
 use Rattle.laws.proofs.Accepted.{tables, after_14, after_17, after_18}
-use Rattle.accepted.specs.Parts.{Viewed, ViewBytes}
-use Rattle.accepted.proofs.Views.{shown_short, shown_long}
+use Rattle.accepted.specs.Parts.{Viewed, ViewBytes, ViewRow, view_place}
+use Rattle.accepted.proofs.Views.{shown_short, data_buffer}
 use Rattle.utf8.specs.Ascii.{any_high}
 use Rattle.utf8.specs.Cuts.{Cut}
 use Rattle.utf8.proofs.Plain.{plain_part}
 use Rattle.utf8.proofs.Cutting.{part_formed}
 use Rattle.image.specs.declared.bytes.Numbers.{Numbers}
-use Rattle.validate.specs.declared.texts.Span.{Span}
+use Rattle.image.specs.declared.record.Node.{Node}
 use Rattle.validate.specs.Numbers.{Holds}
 use Rattle.validate.specs.Views.{ViewsInside}
-use Rattle.validate.specs.Texts.{TextNode, ViewNode, OffsetNode, ViewsRead, TextsRead, TextRow, EachBuffer, buffer_bytes, plain_buffer, formed_buffer, text_start, splits, Stretch}
+use Rattle.validate.specs.Texts.{TextNode, ViewNode, OffsetNode, TextsRead, TextRow, EachBuffer, buffer_bytes, plain_buffer, formed_buffer, text_start, splits}
 use Rattle.validate.proofs.Elements.{shift}
 use Rattle.validate.proofs.Lower.{text_offsets, views}
 
@@ -70,74 +70,79 @@ module _ {s : List ℕ} {k : ℕ} (t : ViewNode s k) where
   unfolding elements_of
   views_start = omega (arith, views_inside.views)
 
-module _ {s : List ℕ} {k : ℕ} (t : ViewNode s k) {first : ℕ} (r : ViewsRead s k first) (i : ℕ) where
-  view_place_lem : first + i * 16 ≡ buffer_place s k 0 + (offset_of s k + i) * 16
-  view_place_lem = rw r (shift (buffer_place s k 0) (offset_of s k) i 16)
-
-  pub view_fits : i < length_of s k → first + i * 16 + 16 ≤ length s
+module _ {s : List ℕ} {k : ℕ} (t : ViewNode s k) (i : ℕ) where
+  pub view_fits : i < length_of s k → view_place s k i + 16 ≤ length s
   unfolding elements_of
-  view_fits lt = omega (arith, view_place_lem, (views_inside t).views)
+  view_fits lt = omega (arith, (views_inside t).views)
 
-  view_element : first + i * 16 ≡ element_place s k (offset_of s k + i)
+  view_element : view_place s k i ≡ element_place s k (offset_of s k + i)
   unfolding element_place
-  view_element = rw (views_inside t).wide view_place_lem
+  view_element = rw (views_inside t).wide
 
-  module _ {len : ℕ} (el : len ≡ number_at 4 s (first + i * 16)) where
-    pub viewed : TextRow s k i → Viewed s k (first + i * 16) len
-    unfolding view_length
-    viewed row = record {
-      tables = tables t.text.below;
-      buffers = after_14 t.text.below k t.text.node (omega arith);
-      fits = view_fits row.row;
-      size = el;
-      view = rw view_element ((after_18 t.text.below k t.text.node (omega arith)).view (view_layout _ t.views) i row.row row.not_null);
-    }
+  pub view_text : bytes_at s (view_data s k (view_place s k i)) (view_length s (view_place s k i)) ≡ text_at s k (offset_of s k + i)
+  unfolding text_at
+  view_text = rw (t.views, ← view_element)
 
-    pub view_text : {p : ℕ} → ViewBytes s k (first + i * 16) len p → bytes_at s p len ≡ text_at s k (offset_of s k + i)
-    unfolding text_at view_length
-    view_text b = rw (t.views, ← view_element, b.place, el)
+-- any view as it is read
+pub first_fits : {s : List ℕ} {k first : ℕ} → ViewNode s k → first ≡ buffer_place s k 0 + offset_of s k * 16 → (i : ℕ) → i < length_of s k → first + i * 16 + 16 ≤ length s
+first_fits t e i lt = omega (arith, e, view_fits t i lt)
+
+-- the view of a row that is not null
+module _ {s : List ℕ} {k : ℕ} (t : ViewNode s k) {i : ℕ} (row : TextRow s k i) where
+  pub view_row : ViewRow s k i
+  view_row = record {
+    tables = tables t.text.below;
+    buffers = after_14 t.text.below k t.text.node (omega arith);
+    fits = view_fits t i row.row;
+    view = rw (view_element t i) ((after_18 t.text.below k t.text.node (omega arith)).view (view_layout _ t.views) i row.row row.not_null);
+  }
+
+  viewed : Viewed s k (entry_place s (first_buffer s k)) (view_place s k i)
+  viewed = record { tables = view_row.tables; buffers = view_row.buffers; entries = refl; fits = view_row.fits; view = view_row.view }
 
   -- a short view without a byte above 7F
-  pub plain_short : {len : ℕ} → len ≡ number_at 4 s (first + i * 16) → TextRow s k i → len ≤ 12
-      → any_high (bytes_at s (first + i * 16) 16) ≡ false → well_formed (text_at s k (offset_of s k + i)) ≡ true
-  plain_short {len} el row short none =
-      ap well_formed (sym (view_text el (shown_short s k (first + i * 16) len (viewed el row) short)))
-      ∙ plain_part s (first + i * 16) 16 none (first + i * 16 + 4) len (omega arith) (omega arith)
+  pub plain_short : view_length s (view_place s k i) ≤ 12 → any_high (bytes_at s (view_place s k i) 16) ≡ false → well_formed (text_at s k (offset_of s k + i)) ≡ true
+  plain_short short none =
+      rw (← view_text t i, ← (shown_short viewed short).place)
+      (plain_part s (view_place s k i) 16 none (view_place s k i + 4) (view_length s (view_place s k i)) (omega arith) (omega arith))
 
   -- a long view is a part of its data buffer
-  module _ {len : ℕ} (el : len ≡ number_at 4 s (first + i * 16)) (row : TextRow s k i) (long : 12 < len) {b : ℕ} (eb : b ≡ number_at 4 s (first + i * 16 + 8)) where
-    data_buffer : 1 + b < buffer_count s k
-    unfolding view_buffer
-    data_buffer = rw eb ((viewed el row).view.buffer (rw (← (viewed el row).size) long))
+  module _ (long : 12 < view_length s (view_place s k i)) {b : ℕ} (eb : b ≡ 1 + view_buffer s (view_place s k i)) where
+    here : b < buffer_count s k
+    here = rw eb (data_buffer viewed long)
 
-    pub few_buffers : 1 + b < 2 ^ 16
-    few_buffers = omega (arith, data_buffer, (tables t.text.below).few_buffers, (after_14 t.text.below k t.text.node (omega arith)).ends)
-
-    pub buffer_inside : buffer_place s k (1 + b) + buffer_length s k (1 + b) ≤ length s
-    buffer_inside = (after_14 t.text.below k t.text.node (omega arith)).inside (1 + b) data_buffer
-
-    within : {p : ℕ} → ViewBytes s k (first + i * 16) len p → (buffer_place s k (1 + b) ≤ p) × (p + len ≤ buffer_place s k (1 + b) + buffer_length s k (1 + b))
-    unfolding view_data view_buffer
-    within {p} at-bytes =
-        let size : len ≡ view_length s (first + i * 16) = (viewed el row).size in
-        let place : p ≡ buffer_place s k (1 + b) + view_offset s (first + i * 16) = at-bytes.place ∙ rw (← size, lt-leb len 12 long, eb) in
-        let inside : view_offset s (first + i * 16) + len ≤ buffer_length s k (1 + b) = rw (size, eb) ((viewed el row).view.inside (rw (← size) long)) in
+    within : (buffer_place s k b ≤ view_data s k (view_place s k i)) × (view_data s k (view_place s k i) + view_length s (view_place s k i) ≤ buffer_place s k b + buffer_length s k b)
+    unfolding view_data
+    within =
+        let place : view_data s k (view_place s k i) ≡ buffer_place s k b + view_offset s (view_place s k i) = rw (lt-leb (view_length s (view_place s k i)) 12 long, eb) in
+        let inside : view_offset s (view_place s k i) + view_length s (view_place s k i) ≤ buffer_length s k b = rw eb (viewed.view.inside long) in
         (omega arith, omega arith)
 
     -- where the buffer has no byte above 7F
     pub plain_long : EachBuffer (plain_buffer s k) (buffer_count s k) → well_formed (text_at s k (offset_of s k + i)) ≡ true
     plain_long plain =
-        let at-bytes = shown_long (viewed el row) long refl refl refl refl in
-        ap well_formed (sym (view_text el at-bytes))
-        ∙ plain_part s (buffer_place s k (1 + b)) (buffer_length s k (1 + b)) (plain.each (1 + b) (omega arith) data_buffer) _ len (within at-bytes).0 (within at-bytes).1
+        rw (← view_text t i)
+        (plain_part s (buffer_place s k b) (buffer_length s k b) (plain.each b (omega (arith, eb)) here) _ (view_length s (view_place s k i)) within.0 within.1)
 
     -- where the buffer is well-formed and no tail stands at either end of the text, the text is well-formed
-    pub cut_view : {p x y : ℕ} → ViewBytes s k (first + i * 16) len p → x ≡ buffer_place s k (1 + b) → y ≡ buffer_length s k (1 + b) → EachBuffer (formed_buffer s k) (buffer_count s k)
-        → Cut s (x + y) p → Cut s (x + y) (p + len) → well_formed (text_at s k (offset_of s k + i)) ≡ true
-    cut_view at-bytes ex ey formed start end =
-        ap well_formed (sym (view_text el at-bytes))
-        ∙ part_formed s (buffer_place s k (1 + b)) (buffer_length s k (1 + b)) _ len (within at-bytes).0 (within at-bytes).1 (rw (← ex, ← ey) start) (rw (← ex, ← ey) end)
-        (formed.each (1 + b) (omega arith) data_buffer)
+    cut_view : {p n x y : ℕ} → p ≡ view_data s k (view_place s k i) → n ≡ view_length s (view_place s k i) → x ≡ buffer_place s k b → y ≡ buffer_length s k b → EachBuffer (formed_buffer s k) (buffer_count s k)
+        → Cut s (x + y) p → Cut s (x + y) (p + n) → well_formed (text_at s k (offset_of s k + i)) ≡ true
+    cut_view ep en ex ey formed start end =
+        rw (← view_text t i)
+        (part_formed s (buffer_place s k b) (buffer_length s k b) _ (view_length s (view_place s k i)) within.0 within.1 (rw (← ex, ← ey, ← ep) start) (rw (← ex, ← ey, ← ep, ← en) end)
+        (formed.each b (omega (arith, eb)) here))
+
+-- the same of a view as it is read
+pub cut_row : {n m : Node} {v i : ℕ} → ViewNode n.image.now n.number → TextRow n.image.now n.number i
+    → m ≡ n → v ≡ view_place n.image.now n.number i → {len b p x y : ℕ} → Read (view_length m.image.now v) 32 len → 12 < len → b ≡ 1 + view_buffer m.image.now v
+    → ViewBytes m.image.now m.number v p → x ≡ buffer_place n.image.now n.number b → y ≡ buffer_length n.image.now n.number b
+    → Cut n.image.now (x + y) p → Cut n.image.now (x + y) (p + len)
+    → EachBuffer (formed_buffer n.image.now n.number) (buffer_count n.image.now n.number) → well_formed (text_at n.image.now n.number (offset_of n.image.now n.number + i)) ≡ true
+cut_row t row en ep el long eb ebytes ex ey start end formed =
+    let size = rw (en, ep) at el.value in
+    let number = rw (en, ep) at eb in
+    let place = rw (en, ep) at ebytes.place in
+    cut_view t row (omega (arith, size, long)) number place size ex ey formed start end
 
 -- data buffers one after the other
 pub buffer_none : (P : ℕ → Type 0) → EachBuffer P 1
@@ -178,7 +183,7 @@ module _ {s : List ℕ} {k : ℕ} (t : OffsetNode s k) where
   rising : OffsetsRise s k (buffer_length s k 1)
   rising = (after_17 t.text.below k t.text.node (omega arith)).variable_size by_offsets
 
-  start_inside : (i : ℕ) → i ≤ length_of s k → text_start s k i ≤ length s
+  pub start_inside : (i : ℕ) → i ≤ length_of s k → text_start s k i ≤ length s
   unfolding elements_of
   start_inside i le =
       let two : buffer_count s k ≡ 2 = (after_14 t.text.below k t.text.node (omega arith)).exactly 2 (rw by_offsets) in
@@ -215,72 +220,68 @@ module _ {s : List ℕ} {k : ℕ} (t : OffsetNode s k) {v : Numbers} {start : �
   pub start_read : (i : ℕ) {x : ℕ} → x ≡ number_at v.width v.bytes.now (v.place + i * v.width) → start + x ≡ text_start s k i
   start_read i e = rw (r.start, offset_read i e)
 
-  -- the bytes from one text's start up to another's
-  module _ {i j x y : ℕ} (le : i ≤ j) (end : j ≤ length_of s k) (ex : x ≡ number_at v.width v.bytes.now (v.place + i * v.width)) (ey : y ≡ number_at v.width v.bytes.now (v.place + j * v.width)) where
-    pub starts_apart : x ≤ y
-    starts_apart = omega (arith, start_read i ex, start_read j ey, starts_rise t i j le end)
+-- the bytes from one text's start up to the next
+module _ {s : List ℕ} {k : ℕ} (t : OffsetNode s k) (i : ℕ) (lt : i < length_of s k) where
+  pub starts_apart : text_start s k i ≤ text_start s k (i + 1)
+  starts_apart = starts_rise t i (i + 1) (omega arith) (omega arith)
 
-    pub starts_inside : start + y ≤ length s
-    starts_inside = omega (arith, start_read j ey, start_inside t j end)
-
-  pub offset_text : {i x y : ℕ} → i < length_of s k → x ≡ number_at v.width v.bytes.now (v.place + i * v.width) → y ≡ number_at v.width v.bytes.now (v.place + (i + 1) * v.width)
-      → bytes_at s (start + x) (start + y - (start + x)) ≡ text_at s k (offset_of s k + i)
+  pub offset_text : bytes_at s (text_start s k i) (text_start s k (i + 1) - text_start s k i) ≡ text_at s k (offset_of s k + i)
   unfolding text_at
-  offset_text {i} {x} {y} lt ex ey =
+  offset_text =
       let next : offset_of s k + (i + 1) ≡ suc (offset_of s k + i) = omega arith in
-      let last : y ≡ element_at s k (suc (offset_of s k + i)) = rw next at (offset_read (i + 1) ey) in
-      let len : start + y - (start + x) ≡ y - x = omega arith in
-      rw (len, t.no_views, r.start, offset_read i ex, last)
+      let len : text_start s k (i + 1) - text_start s k i ≡ element_at s k (offset_of s k + (i + 1)) - element_at s k (offset_of s k + i) = omega arith in
+      rw (len, next, t.no_views)
 
-  pub stretch : {n x y : ℕ} → n ≡ length_of s k → x ≡ number_at v.width v.bytes.now (v.place + 0 * v.width) → y ≡ number_at v.width v.bytes.now (v.place + n * v.width)
-      → Stretch s k (record { place = start + x; len = y - x })
-  stretch {n} {x} {y} en ex ey =
-      let le : x ≤ y = starts_apart {i = 0} {j = n} (omega arith) (omega arith) ex ey in
-      record {
-        start = start_read 0 ex;
-        end = omega (arith, le, start_read n ey, ap (text_start s k) en);
-        inside = omega (arith, le, starts_inside {i = 0} {j = n} (omega arith) (omega arith) ex ey);
-      }
+-- A look at all texts together, from where the first starts up to where the last ends.
+module _ {s : List ℕ} {k : ℕ} (t : OffsetNode s k) where
+  all_rise : text_start s k 0 ≤ text_start s k (length_of s k)
+  all_rise = starts_rise t 0 (length_of s k) (omega arith) (omega arith)
 
--- A look at all texts together.
-module _ {s : List ℕ} {k : ℕ} (t : OffsetNode s k) {a : Span} (all : Stretch s k a) where
-  formed_row : (i : ℕ) → well_formed (bytes_at s (text_start s k i) (text_start s k (i + 1) - text_start s k i)) ≡ true → text_row_fault s k i ≡ false
-  unfolding text_row_fault text_at
-  formed_row i h =
-      let next : suc (offset_of s k + i) ≡ offset_of s k + (i + 1) = omega arith in
-      let len : element_at s k (offset_of s k + (i + 1)) - element_at s k (offset_of s k + i) ≡ text_start s k (i + 1) - text_start s k i = omega arith in
-      rw (t.no_views, next, len, h) (and-false (valid s k i))
+  formed_row : (i : ℕ) → i < length_of s k → well_formed (bytes_at s (text_start s k i) (text_start s k (i + 1) - text_start s k i)) ≡ true → text_row_fault s k i ≡ false
+  unfolding text_row_fault
+  formed_row i lt h = rw (← offset_text t i lt, h) (and-false (valid s k i))
 
   module _ (i : ℕ) (lt : i < length_of s k) where
-    up : text_start s k i ≤ text_start s k (i + 1)
-    up = starts_rise t i (i + 1) (omega arith) (omega arith)
+    from : text_start s k 0 ≤ text_start s k i
+    from = starts_rise t 0 i (omega arith) (omega arith)
 
-    from : a.place ≤ text_start s k i
-    from = omega (arith, all.start, starts_rise t 0 i (omega arith) (omega arith))
+    upto : text_start s k i + (text_start s k (i + 1) - text_start s k i) ≤ text_start s k 0 + (text_start s k (length_of s k) - text_start s k 0)
+    upto = omega (arith, from, starts_apart t i lt, starts_rise t (i + 1) (length_of s k) (omega arith) (omega arith))
 
-    upto : text_start s k i + (text_start s k (i + 1) - text_start s k i) ≤ a.place + a.len
-    upto = omega (arith, up, all.end, starts_rise t (i + 1) (length_of s k) (omega arith) (omega arith))
-
-  pub plain_together : any_high (bytes_at s a.place a.len) ≡ false → any (text_row_fault s k) 0 (length_of s k) ≡ false
+  plain_together : any_high (bytes_at s (text_start s k 0) (text_start s k (length_of s k) - text_start s k 0)) ≡ false → any (text_row_fault s k) 0 (length_of s k) ≡ false
   plain_together e =
-      any_none (text_row_fault s k) 0 (length_of s k) (λ i low lt. formed_row i (plain_part s a.place a.len e (text_start s k i) _ (from i (omega arith)) (upto i (omega arith))))
+      any_none (text_row_fault s k) 0 (length_of s k) (λ i low lt. formed_row i (omega arith) (plain_part s _ _ e (text_start s k i) _ (from i (omega arith)) (upto i (omega arith))))
 
-  module _ (none : any (splits s k (a.place + a.len)) 0 (length_of s k) ≡ false) where
-    cut_at_lem : (j : ℕ) → j ≤ length_of s k → Cut s (a.place + a.len) (text_start s k j)
+  module _ (none : any (splits s k (text_start s k (length_of s k))) 0 (length_of s k) ≡ false) where
+    cut_at_lem : (j : ℕ) → j ≤ length_of s k → Cut s (text_start s k 0 + (text_start s k (length_of s k) - text_start s k 0)) (text_start s k j)
     unfolding splits
     cut_at_lem j le = cases (eq-or-lt_of_le {n = j} {m = length_of s k} le)
       where
-        cases : (j ≡ length_of s k) ⊎ (j < length_of s k) → Cut s (a.place + a.len) (text_start s k j)
-        cases (inl e) lt = absurd (omega (arith, all.end, ap (text_start s k) e))
-        cases (inr before) lt = and_fails (ltb (text_start s k j) (a.place + a.len)) _ (any_below (splits s k (a.place + a.len)) _ none j before) (lt-ltb _ _ lt)
+        end : text_start s k 0 + (text_start s k (length_of s k) - text_start s k 0) ≡ text_start s k (length_of s k)
+        end = omega (arith, all_rise)
 
-    pub cut_together : well_formed (bytes_at s a.place a.len) ≡ true → any (text_row_fault s k) 0 (length_of s k) ≡ false
-    cut_together e = any_none (text_row_fault s k) 0 (length_of s k) (λ i low lt. formed_row i (row i (omega arith)))
+        cases : (j ≡ length_of s k) ⊎ (j < length_of s k) → Cut s (text_start s k 0 + (text_start s k (length_of s k) - text_start s k 0)) (text_start s k j)
+        cases (inl e) lt = absurd (omega (arith, end, ap (text_start s k) e))
+        cases (inr before) lt = and_fails (ltb (text_start s k j) (text_start s k (length_of s k))) _ (any_below (splits s k (text_start s k (length_of s k))) _ none j before) (lt-ltb _ _ (omega (arith, end)))
+
+    cut_together : well_formed (bytes_at s (text_start s k 0) (text_start s k (length_of s k) - text_start s k 0)) ≡ true → any (text_row_fault s k) 0 (length_of s k) ≡ false
+    cut_together e = any_none (text_row_fault s k) 0 (length_of s k) (λ i low lt. formed_row i (omega arith) (row i (omega arith)))
       where
         row : (i : ℕ) → i < length_of s k → well_formed (bytes_at s (text_start s k i) (text_start s k (i + 1) - text_start s k i)) ≡ true
         row i lt =
-            let end : text_start s k i + (text_start s k (i + 1) - text_start s k i) ≡ text_start s k (i + 1) = omega (arith, up i lt) in
-            part_formed s a.place a.len (text_start s k i) _ (from i lt) (upto i lt) (cut_at_lem i (omega arith)) (rw end (cut_at_lem (i + 1) (omega arith))) e
+            let end : text_start s k i + (text_start s k (i + 1) - text_start s k i) ≡ text_start s k (i + 1) = omega (arith, starts_apart t i lt) in
+            part_formed s _ _ (text_start s k i) _ (from i lt) (upto i lt) (cut_at_lem i (omega arith)) (rw end (cut_at_lem (i + 1) (omega arith))) e
+
+-- the same of both places as they are read
+module _ {s : List ℕ} {k : ℕ} (t : OffsetNode s k) {n x y : ℕ} (en : n ≡ length_of s k) (ex : x ≡ text_start s k 0) (ey : y ≡ text_start s k n) where
+  pub read_rise : x ≤ y
+  read_rise = rw (ex, ey, en) (all_rise t)
+
+  pub read_plain : any_high (bytes_at s x (y - x)) ≡ false → any (text_row_fault s k) 0 (length_of s k) ≡ false
+  read_plain e = plain_together t (rw (ex, ey, en) at e)
+
+  pub read_cut : any (splits s k y) 0 (length_of s k) ≡ false → well_formed (bytes_at s x (y - x)) ≡ true → any (text_row_fault s k) 0 (length_of s k) ≡ false
+  read_cut none e = cut_together t (rw (ey, en) at none) (rw (ex, ey, en) at e)
 
 -- the text of row i starts with a tail
 module _ (s : List ℕ) (k end i : ℕ) {x : ℕ} (e : x ≡ text_start s k i) where

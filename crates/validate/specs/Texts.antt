@@ -1,5 +1,5 @@
 -- What is read once of a node whose rows are text, and what is read of a row.
-use Rattle.std.specs.Prelude.{◌≡◌, Bool, true, false, ◌&&◌, List, ℕ, ◌+◌, ◌*◌, ◌<◌, ◌≤◌, eqb, ltb, length}
+use Rattle.std.specs.Prelude.{◌≡◌, Bool, true, false, ◌&&◌, List, ℕ, ◌+◌, ◌*◌, ◌<◌, ◌≤◌, eqb, ltb}
 use Rattle.std.specs.Borrow.{Bor}
 use Rattle.image.specs.Bytes.{byte_at, bytes_at}
 use Rattle.image.specs.Record.{node_count, code_of, length_of, offset_of, buffer_count, buffer_place, buffer_length}
@@ -9,7 +9,6 @@ use Rattle.image.specs.Utf8.{has, tail, well_formed}
 use Rattle.laws.specs.Accepted.{NoneBelow}
 use Rattle.utf8.specs.Ascii.{any_high}
 use Rattle.image.specs.declared.bytes.Numbers.{Numbers}
-use Rattle.validate.specs.declared.texts.Span.{Span}
 use Rattle.validate.specs.declared.texts.Buffers.{Buffers}
 use Rattle.validate.specs.declared.texts.Buffers.TheVariants.{Formed, Plain}
 
@@ -27,10 +26,6 @@ pub record ViewNode (s : List ℕ) (k : ℕ) : Type 0 where
 pub record OffsetNode (s : List ℕ) (k : ℕ) : Type 0 where
   pub text : TextNode s k
   pub no_views : eqb (code_of s k) 31 ≡ false
-
--- where the view of row 0 stands
-abbrev pub ViewsRead : List ℕ → ℕ → ℕ → Type 0
-ViewsRead s k first = first ≡ buffer_place s k 0 + offset_of s k * 16
 
 -- the offsets from row 0's on, and where the text starts that they count in
 pub record TextsRead (s : List ℕ) (k : ℕ) (offsets : Numbers) (from : ℕ) : Type 0 where
@@ -75,9 +70,3 @@ text_start s k i = buffer_place s k 1 + element_at s k (offset_of s k + i)
 -- before an end, the text of row i starts with a tail
 unfoldable pub splits : List ℕ → ℕ → ℕ → ℕ → Bool
 splits s k end i = ltb (text_start s k i) end && has tail (byte_at s (text_start s k i))
-
--- from the first row's text up to the last's
-pub record Stretch (s : List ℕ) (k : ℕ) (r : Span) : Type 0 where
-  pub start : r.place ≡ text_start s k 0
-  pub end : r.place + r.len ≡ text_start s k (length_of s k)
-  pub inside : r.place + r.len ≤ length s

@@ -4,7 +4,6 @@ use Rattle.image.specs.Reads.{Read}
 use Rattle.image.specs.Record.{max_depth, node_count, child_start, buffer_start}
 use Rattle.image.specs.Faults.{level_end, first_faulty}
 use Rattle.validate.specs.declared.tree.Parent.{Parent}
-use Rattle.validate.specs.declared.tree.Walk.{Walk}
 
 -- the result is the sum x of k counts, each a u16
 pub record Sum (x k r : ℕ) : Type 0 where
@@ -32,13 +31,13 @@ pub record Parents (s : List ℕ) (k : ℕ) (p : Parent) : Type 0 where
   pub reached : p.node < k → k < p.end
 
 -- the sums before node k, its parent, and those of the whole image
-pub record Walks (s : List ℕ) (k : ℕ) (w : Walk) : Type 0 where
-  pub children : Sum (child_start s k) k w.children
-  pub buffers : Sum (buffer_start s k) k w.buffers
-  pub parent : Parents s k w.parent
-  pub all_children : w.all_children ≡ child_start s (node_count s)
-  pub all_buffers : w.all_buffers ≡ buffer_start s (node_count s)
-  pub shallow : w.shallow ≡ level_end s max_depth
+pub record Walks (s : List ℕ) (k children buffers : ℕ) (parent : Parent) (all_children all_buffers shallow : ℕ) : Type 0 where
+  pub children_before : Sum (child_start s k) k children
+  pub buffers_before : Sum (buffer_start s k) k buffers
+  pub above : Parents s k parent
+  pub children_in_all : all_children ≡ child_start s (node_count s)
+  pub buffers_in_all : all_buffers ≡ buffer_start s (node_count s)
+  pub levels : shallow ≡ level_end s max_depth
 
 -- the first node that has a fault of the number, or none
 abbrev pub FirstFaulty : ℕ → List ℕ → Option ℕ → Type 0

@@ -5,7 +5,7 @@ ghost use Rattle.image.specs.Faults.{fault16, child_under};
 
 use crate::buffers::is_under;
 use image::record::Node;
-use image::type_code::{Layout, TypeCode};
+use image::type_code::Layout;
 
 // A child of the node has under `rows` rows.
 fn child_under(node: Node, rows: usize) -> bool
@@ -23,8 +23,7 @@ fn child_under(node: Node, rows: usize) -> bool
 pub fn fault_16(node: Node) -> bool
     ensures { result ≡ fault16 of node.entry }
 {
-    let layout = TypeCode::layout(node.code());
-    match layout {
+    match node.layout() {
         Layout::FixedList => is_under(node.child(0).length(), node.elements(), node.p1()),
         Layout::Struct | Layout::SparseUnion => child_under(node, node.elements()),
         Layout::Runs => node.child(0).length() != node.child(1).length(),

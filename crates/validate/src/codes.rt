@@ -9,6 +9,7 @@ use image::type_code::TypeCode;
 const KNOWN_FLAGS: u8 = 3;
 
 // The node has fault 11.
+// Kept: a return for each test: `||` groups to the left, so that of a chain of three and more each test's answer is a nest of cases.
 pub fn fault_11(node: Node) -> bool
     ensures { result ≡ fault11 of node.entry }
 {
@@ -25,8 +26,5 @@ pub fn fault_11(node: Node) -> bool
     if !TypeCode::p2_fits(c, node.p2() as u32) {
         return true;
     }
-    if !node.has_bitmap() {
-        return false;
-    }
-    !TypeCode::takes_bitmap(c)
+    node.has_bitmap() && !TypeCode::takes_bitmap(c)
 }

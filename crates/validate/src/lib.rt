@@ -17,15 +17,13 @@ ghost use Rattle.image.specs.Of.{◌of◌};
 ghost use Rattle.image.specs.Record.{node_count};
 ghost use Rattle.image.specs.Faults.{fault10, fault, first_faulty, check_image};
 ghost use Rattle.laws.specs.Accepted.{NoneBelow};
-ghost use Rattle.validate.specs.Walks.{Walks, FirstFaulty};
+ghost use Rattle.validate.specs.Walks.{FirstFaulty};
 
 use buffers::{fault_14, fault_15};
 use children::fault_16;
 use codes::fault_11;
 use image::answer::Fault;
-use image::record::{
-    HEADER_SIZE, LONGEST_IMAGE, MOST_NODES, Node, buffer_total, node_count, tables_end,
-};
+use image::record::{HEADER_SIZE, LONGEST_IMAGE, MOST_NODES, buffer_total, node_count, tables_end};
 use names::fault_13;
 use offsets::fault_17;
 use rows::fault_18;
@@ -44,6 +42,7 @@ const FIRST_NUMBER: u8 = 11;
 const NUMBERS_END: u8 = 20;
 
 // 10: the image is shorter than header and tables, longer than the maximum, or has too few or too many nodes or buffers.
+// Kept: a return for each test: `||` groups to the left, so that of a chain of three and more each test's answer is a nest of cases.
 fn fault_10(image: &[u8]) -> bool
     ensures { result ≡ fault10 image.now }
 {
@@ -66,40 +65,37 @@ fn fault_10(image: &[u8]) -> bool
     image.len() < tables_end(image)
 }
 
-// The node has a fault of the number, where no node has one of a lower number.
+// The node of a walk has a fault of the number, where no node has one of a lower number.
 // Kept: a number, as said above.
-fn has_fault(number: u8, node: Node, walk: Walk) -> bool
-    requires walks { (Walks of node) walk }
-    requires none_below { NoneBelow number node.image.now × (11 ≤ number) × (node.number < node_count node.image.now) }
-    ensures { result ≡ (fault number) of node.entry }
+fn has_fault(number: u8, walk: Walk) -> bool
+    requires { NoneBelow number walk.node.image.now × (11 ≤ number) × (walk.node.number < node_count walk.node.image.now) }
+    ensures { result ≡ (fault number) of walk.entry.node }
 {
     match number {
-        11 => fault_11(node),
-        12 => fault_12(node, walk),
-        13 => fault_13(node),
-        14 => fault_14(node, walk),
-        15 => fault_15(node),
-        16 => fault_16(node),
-        17 => fault_17(node),
-        18 => fault_18(node),
-        _ => fault_19(node),
+        11 => fault_11(walk.node),
+        12 => fault_12(walk),
+        13 => fault_13(walk.node),
+        14 => fault_14(walk),
+        15 => fault_15(walk.node),
+        16 => fault_16(walk.node),
+        17 => fault_17(walk.node),
+        18 => fault_18(walk.node),
+        _ => fault_19(walk.node),
     }
 }
 
-// The first node that has a fault of the number; none has one of a lower number.
+// The first node that has a fault of the number, by a walk that starts at the root; none has one of a lower number.
 // Kept: a number, as said above.
-fn first_faulty(image: &[u8], number: u8, start: Walk) -> Option<u16>
-    requires walks { Walks image.now 0 start }
-    requires none_below { NoneBelow number image.now × (11 ≤ number) }
-    ensures { FirstFaulty number image.now result }
+fn first_faulty(number: u8, start: Walk) -> Option<u16>
+    requires { NoneBelow number start.node.image.now × (11 ≤ number) × (start.node.number ≡ 0) }
+    ensures { FirstFaulty number start.entry.node.image.now result }
 {
     let mut walk = start;
-    for k in 0..node_count(image) {
-        let node = Node { image, number: k };
-        if has_fault(number, node, walk) {
+    for k in 0..node_count(start.node.image) {
+        if has_fault(number, walk) {
             return Some(k as u16);
         }
-        walk = walk.next(node);
+        walk = walk.next();
     }
     None
 }
@@ -116,7 +112,7 @@ pub fn check(image: &[u8]) -> Result<(), Fault>
     }
     let start = Walk::start(image);
     for number in FIRST_NUMBER..NUMBERS_END {
-        if let Some(node) = first_faulty(image, number, start) {
+        if let Some(node) = first_faulty(number, start) {
             return Err(Fault { number, node });
         }
     }

@@ -21,11 +21,5 @@ pub fn fault_13(node: Node) -> bool
     ensures { result ≡ fault13 of node.entry }
 {
     let len = node.name_length();
-    if LONGEST_NAME < len {
-        return true;
-    }
-    if len == 0 {
-        return false;
-    }
-    is_outside(node.image, node.name_place(), len)
+    LONGEST_NAME < len || len != 0 && is_outside(node.image, node.name_place(), len)
 }

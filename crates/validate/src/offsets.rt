@@ -10,9 +10,11 @@ ghost use Rattle.validate.specs.Numbers.{Holds};
 
 use crate::rise::rise;
 use image::record::Node;
-use image::type_code::{Layout, TypeCode};
+use image::type_code::Layout;
 
 // The node's offsets at places 0 to e do not rise up to the end.
+// Kept: here, below and in `rows` each function asks that the buffers that it reads hold so many numbers. A struct of numbers
+// and their count that says so would be made at each of these calls, by the same fact, and each reads it alone.
 fn offsets_fall(node: Node, end: usize) -> bool
     requires { (Holds of node) 0 (element_width of node) ((elements_of of node) + 1) }
     ensures { result ≡ not ((offsets_rise of node.entry) end) }
@@ -35,10 +37,7 @@ fn lists_outside(node: Node) -> bool
     for j in 0..node.elements() {
         let offset = offsets.inside(j);
         let size = sizes.inside(j);
-        if end < offset {
-            return true;
-        }
-        if end - offset < size {
+        if end < offset || end - offset < size {
             return true;
         }
     }
@@ -50,8 +49,7 @@ pub fn fault_17(node: Node) -> bool
     requires { NoneBelow 17 node.image.now × (node.number < node_count node.image.now) }
     ensures { result ≡ fault17 of node.entry }
 {
-    let layout = TypeCode::layout(node.code());
-    match layout {
+    match node.layout() {
         Layout::VariableSize => offsets_fall(node, node.buffer_length(1)),
         Layout::List => offsets_fall(node, node.child(0).length()),
         Layout::ListView => lists_outside(node),

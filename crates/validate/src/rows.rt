@@ -32,11 +32,7 @@ fn dense_fault(node: Node) -> bool
         let Some(number) = children[id] else {
             return true;
         };
-        let child = Node {
-            image: node.image,
-            number: number,
-        };
-        if child.length() <= offsets.inside(from + i) {
+        if node.other(number).length() <= offsets.inside(from + i) {
             return true;
         }
     }
@@ -93,10 +89,7 @@ fn ends_nonzero<const W: usize>(bytes: &[u8]) -> bool
     requires { (W ≤ 8) × (W ≤ length bytes.now) × (length bytes.now ≤ W + W) }
     ensures { result ≡ any (nonzero bytes.now) 0 (length bytes.now) }
 {
-    if load::<W>(bytes, 0) != 0 {
-        return true;
-    }
-    load::<W>(bytes, bytes.len() - W) != 0
+    load::<W>(bytes, 0) != 0 || load::<W>(bytes, bytes.len() - W) != 0
 }
 
 // One of the bytes is not zero.
@@ -179,10 +172,7 @@ fn runs_fault(node: Node) -> bool
     requires { EndsInside of node }
     ensures { result ≡ (not (run_ends_rise of node.entry) || last_end_below of node.entry) }
 {
-    if run_ends_fall(node) {
-        return true;
-    }
-    last_end_below(node)
+    run_ends_fall(node) || last_end_below(node)
 }
 
 // The node has fault 18.
@@ -190,8 +180,7 @@ pub fn fault_18(node: Node) -> bool
     requires { NoneBelow 18 node.image.now × (node.number < node_count node.image.now) }
     ensures { result ≡ fault18 of node.entry }
 {
-    let layout = TypeCode::layout(node.code());
-    match layout {
+    match node.layout() {
         Layout::View => views_fault(node),
         Layout::DenseUnion => dense_fault(node),
         Layout::SparseUnion => sparse_fault(node),

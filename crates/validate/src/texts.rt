@@ -7,9 +7,9 @@ ghost use Rattle.image.specs.Element.{text_at};
 ghost use Rattle.image.specs.Faults.{fault19, text_row_fault};
 ghost use Rattle.image.specs.Utf8.{well_formed};
 ghost use Rattle.laws.specs.Accepted.{NoneBelow};
-ghost use Rattle.validate.specs.Texts.{TextNode, ViewNode, OffsetNode, ViewsRead, TextsRead, TextRow, EachBuffer, TellsBytes, buffer_bytes, formed_buffer, Found, Stretch, splits};
+ghost use Rattle.validate.specs.Texts.{TextNode, ViewNode, OffsetNode, TextsRead, TextRow, EachBuffer, TellsBytes, buffer_bytes, formed_buffer, Found, text_start, splits};
 
-use accepted::byte_view::view_bytes;
+use accepted::byte_view::Views;
 use image::bytes::{Numbers, load};
 use image::element::{INLINE_LENGTH, VIEW_SIZE};
 use image::record::Node;
@@ -29,15 +29,13 @@ enum Buffers {
     Plain,
 }
 
-// A node whose rows are views: where the view of row 0 stands, and what was found of the data buffers.
+// The rows of a node that are views, and what was found of the data buffers.
 #[derive(Clone, Copy)]
-pub struct Views<'a> {
-    node: Node<'a>,
-    first: usize,
+pub struct ViewTexts<'a> {
+    views: Views<'a>,
     buffers: Buffers,
-    ghost views: { ViewNode node.image.now node.number },
-    ghost read: { ViewsRead node.image.now node.number first },
-    ghost found: { Found node.image.now node.number buffers },
+    ghost texts: { ViewNode views.node.image.now views.node.number },
+    ghost found: { Found views.node.image.now views.node.number buffers },
 }
 
 // A node whose rows are texts between offsets: the offsets from row 0's on, and where the text starts that they count in.
@@ -50,22 +48,16 @@ pub struct Texts<'a> {
     ghost read: { TextsRead node.image.now node.number offsets start },
 }
 
-// Where a text stands.
-#[derive(Clone, Copy)]
-pub struct Span {
-    pub place: usize,
-    pub len: usize,
-}
-
 // The views have more bytes in all than the image, so that many share theirs. It chooses a path and no answer.
-fn bytes_shared(node: Node, first: usize) -> bool
-    requires { (ViewNode of node) × (ViewsRead of node) first }
+fn bytes_shared(views: Views) -> bool
+    requires { ViewNode of views.node }
 {
+    let image = views.node.image;
     let mut sum: usize = 0;
-    for i in 0..node.length() {
-        sum += load::<4>(node.image, first + i * VIEW_SIZE);
+    for i in 0..views.node.length() {
+        sum += load::<4>(image, views.first + i * VIEW_SIZE);
     }
-    node.image.len() < sum
+    image.len() < sum
 }
 
 // Each data buffer of views passes the test.
@@ -86,41 +78,41 @@ fn each_buffer<F: Fn(&[u8]) -> bool>(node: Node, test: F) -> bool
 
 // What can be said of the data buffers of views. That they are well-formed is looked at only where views share their bytes:
 // then each is walked once, and no longer for each view.
-fn buffers_of(node: Node, first: usize) -> Buffers
-    requires { (ViewNode of node) × (ViewsRead of node) first }
-    ensures { (Found of node.entry) result }
+fn buffers_of(views: Views) -> Buffers
+    requires { ViewNode of views.node }
+    ensures { (Found of views.entry.node) result }
 {
+    let node = views.node;
     if each_buffer(node, |bytes| !has_high(bytes)) {
         return Buffers::Plain;
     }
-    if bytes_shared(node, first) && each_buffer(node, |bytes| is_utf8(bytes)) {
+    if bytes_shared(views) && each_buffer(node, |bytes| is_utf8(bytes)) {
         return Buffers::Formed;
     }
     Buffers::Unknown
 }
 
-impl<'a> Views<'a> {
+impl<'a> ViewTexts<'a> {
     // What is read once of a node.
-    fn new(node: Node<'a>) -> Views<'a>
+    fn new(node: Node<'a>) -> ViewTexts<'a>
         requires { ViewNode of node }
-        ensures { result.node ≡ node.entry }
+        ensures { result.views.node ≡ node.entry }
     {
-        let first = node.first_place(VIEW_SIZE);
-        Views {
-            node: node,
-            first: first,
-            buffers: buffers_of(node, first),
+        let views = Views::new(node);
+        ViewTexts {
+            views: views,
+            buffers: buffers_of(views),
         }
     }
 
     // The view of row i is a short one without a byte above 7F, or a long one, where no data buffer has such a byte.
     fn is_plain(self, i: usize) -> bool
-        requires { (TextRow of self.node) i }
-        ensures { result ≡ true → well_formed ((text_at of self.entry.node) ((offset_of of self.entry.node) + i)) ≡ true }
+        requires { (TextRow of self.views.node) i }
+        ensures { result ≡ true → well_formed ((text_at of self.entry.views.node) ((offset_of of self.entry.views.node) + i)) ≡ true }
     {
-        let view = self.first + i * VIEW_SIZE;
-        if load::<4>(self.node.image, view) <= INLINE_LENGTH {
-            return !high_among(&self.node.image[view..view + VIEW_SIZE]);
+        let view = self.views.view(i);
+        if view.length() <= INLINE_LENGTH {
+            return !high_among(&self.views.node.image[view.place..view.place + VIEW_SIZE]);
         }
         matches!(self.buffers, Buffers::Plain)
     }
@@ -128,31 +120,28 @@ impl<'a> Views<'a> {
     // The text of row i, a view, is cut out of its data buffer where no tail stands: it is well-formed where the buffer is, as
     // one text. A short view's text stands in no buffer.
     fn cut_well(self, i: usize) -> bool
-        requires { (TextRow of self.node) i }
-        ensures { result ≡ true → EachBuffer (formed_buffer of self.entry.node) (buffer_count of self.entry.node) → well_formed ((text_at of self.entry.node) ((offset_of of self.entry.node) + i)) ≡ true }
+        requires { (TextRow of self.views.node) i }
+        ensures { result ≡ true → EachBuffer (formed_buffer of self.entry.views.node) (buffer_count of self.entry.views.node) → well_formed ((text_at of self.entry.views.node) ((offset_of of self.entry.views.node) + i)) ≡ true }
     {
-        let node = self.node;
-        let view = self.first + i * VIEW_SIZE;
-        let len = load::<4>(node.image, view);
+        let view = self.views.view(i);
+        let len = view.length();
         if len <= INLINE_LENGTH {
             return false;
         }
-        let buffer = (1 + load::<4>(node.image, view + 8)) as u32;
+        let node = self.views.node;
+        let buffer = view.buffer();
         let end = node.buffer_place(buffer) + node.buffer_length(buffer);
-        let start = view_bytes(node, view, len);
+        let start = view.start();
         if is_tail(node.image[start]) {
             return false;
         }
-        if start + len < end {
-            return !is_tail(node.image[start + len]);
-        }
-        true
+        end <= start + len || !is_tail(node.image[start + len])
     }
 
     // The text of row i, a view that is not null, is well-formed.
     fn is_formed(self, i: usize) -> bool
-        requires { (TextRow of self.node) i }
-        ensures { result ≡ well_formed ((text_at of self.entry.node) ((offset_of of self.entry.node) + i)) }
+        requires { (TextRow of self.views.node) i }
+        ensures { result ≡ well_formed ((text_at of self.entry.views.node) ((offset_of of self.entry.views.node) + i)) }
     {
         if self.is_plain(i) {
             return true;
@@ -162,17 +151,14 @@ impl<'a> Views<'a> {
                 return true;
             }
         }
-        let view = self.first + i * VIEW_SIZE;
-        let len = load::<4>(self.node.image, view);
-        let start = view_bytes(self.node, view, len);
-        is_utf8(&self.node.image[start..start + len])
+        is_utf8(self.views.view(i).bytes())
     }
 
     // A row that is not null has an ill-formed text.
     fn any_ill_formed(self) -> bool
-        ensures { result ≡ any (text_row_fault of self.entry.node) 0 (length_of of self.entry.node) }
+        ensures { result ≡ any (text_row_fault of self.entry.views.node) 0 (length_of of self.entry.views.node) }
     {
-        self.node.any_kept(|row| !self.is_formed(row))
+        self.views.node.any_kept(|row| !self.is_formed(row))
     }
 }
 
@@ -189,26 +175,21 @@ impl<'a> Texts<'a> {
         }
     }
 
-    // The text of row i, from its offset up to the next, is well-formed.
+    // Where the text of row i starts, or where the last one ends.
+    fn text_start(self, i: usize) -> usize
+        requires { i ≤ length_of of self.node }
+        ensures value { result ≡ (text_start of self.entry.node) i }
+        ensures inside { result ≤ length self.entry.node.image.now }
+    {
+        self.start + self.offsets.inside(i)
+    }
+
+    // The text of row i, from its start up to the next, is well-formed.
     fn is_formed(self, i: usize) -> bool
         requires { i < length_of of self.node }
         ensures { result ≡ well_formed ((text_at of self.entry.node) ((offset_of of self.entry.node) + i)) }
     {
-        let from = self.start + self.offsets.inside(i);
-        let to = self.start + self.offsets.inside(i + 1);
-        is_utf8(&self.node.image[from..to])
-    }
-
-    // The texts of all rows, which stand one after the other, as one.
-    fn stretch(self) -> Span
-        ensures { (Stretch of self.entry.node) result }
-    {
-        let from = self.offsets.inside(0);
-        let to = self.offsets.inside(self.node.length());
-        Span {
-            place: self.start + from,
-            len: to - from,
-        }
+        is_utf8(&self.node.image[self.text_start(i)..self.text_start(i + 1)])
     }
 
     // A row's text starts inside a letter: with a tail, before the end of all texts.
@@ -217,30 +198,26 @@ impl<'a> Texts<'a> {
         ensures { result ≡ any ((splits of self.entry.node) end) 0 (length_of of self.entry.node) }
     {
         for i in 0..self.node.length() {
-            let start = self.start + self.offsets.inside(i);
-            if start < end {
-                if is_tail(self.node.image[start]) {
-                    return true;
-                }
+            let start = self.text_start(i);
+            if start < end && is_tail(self.node.image[start]) {
+                return true;
             }
         }
         false
     }
 
-    // The texts of all rows are well-formed, as one look at all of them together tells: there is no byte above 7F, or they are
-    // one well-formed text and no row's starts inside a letter. A no tells nothing, since bytes under nulls are among them.
+    // The texts of all rows, which stand one after the other, are well-formed, as one look at all of them together tells: there
+    // is no byte above 7F, or they are one well-formed text and no row's starts inside a letter. A no tells nothing, since bytes
+    // under nulls are among them.
     fn formed_together(self) -> bool
         ensures { result ≡ true → any (text_row_fault of self.entry.node) 0 (length_of of self.entry.node) ≡ false }
     {
-        let all = self.stretch();
-        let text = &self.node.image[all.place..all.place + all.len];
+        let end = self.text_start(self.node.length());
+        let text = &self.node.image[self.text_start(0)..end];
         if !has_high(text) {
             return true;
         }
-        if !walks_well(text) {
-            return false;
-        }
-        !self.letter_split(all.place + all.len)
+        walks_well(text) && !self.letter_split(end)
     }
 
     // A row that is not null has an ill-formed text.
@@ -264,7 +241,7 @@ pub fn fault_19(node: Node) -> bool
         return false;
     }
     if code == TypeCode::UTF8_VIEW {
-        return Views::new(node).any_ill_formed();
+        return ViewTexts::new(node).any_ill_formed();
     }
     Texts::new(node).any_ill_formed()
 }

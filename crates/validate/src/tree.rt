@@ -21,17 +21,19 @@ pub struct Parent {
     pub end: usize,
 }
 
-// What a walk over the nodes knows at a node: the sums of the child and buffer counts before it, which number its first
-// child and its first buffer; its parent; and of the whole image the same sums over all nodes, and how many nodes are
-// not too deep.
+// A walk over the nodes, at one of them, and what it knows there: the sums of the child and buffer counts before the node,
+// which number its first child and its first buffer; its parent; and of the whole image the same sums over all nodes, and how
+// many nodes are not too deep.
 #[derive(Clone, Copy)]
-pub struct Walk {
+pub struct Walk<'a> {
+    pub node: Node<'a>,
     pub children: usize,
     pub buffers: usize,
     pub parent: Parent,
     pub all_children: usize,
     pub all_buffers: usize,
     pub shallow: usize,
+    ghost walks: { Walks node.image.now node.number children buffers parent all_children all_buffers shallow },
 }
 
 // What the nodes below n make in all, each with a count of its own.
@@ -47,7 +49,7 @@ fn sum_below<F: Fn(u32) -> u32>(n: u32, count: F) -> usize
 }
 
 // 1 plus the child counts of the first n nodes.
-// Kept: an image and a number here and in the two below: n is a count, up to that of all nodes, and names none of them.
+// Kept: an image and a number here and in the one below: n is a count, up to that of all nodes, and names none of them.
 fn child_start(image: &[u8], n: u32) -> usize
     ensures { Sum (child_start image.now n) n result }
 {
@@ -62,12 +64,11 @@ fn buffer_start(image: &[u8], n: u32) -> usize
     sum_below(n, |k| Node { image, number: k }.buffer_count())
 }
 
-// How many of the n nodes of an image are not too deep.
-// Kept: n is a count.
-fn level_end(image: &[u8], n: u32) -> u32
-    requires { (n ≡ node_count image.now) × (n < 2 ^ 16) }
+// How many nodes of an image are not too deep.
+fn level_end(image: &[u8]) -> u32
     ensures { result ≡ level_end image.now max_depth }
 {
+    let n = node_count(image);
     let mut end = 0;
     for d in 0..MAX_DEPTH {
         end = child_start(image, end).min(n as usize) as u32;
@@ -89,11 +90,7 @@ fn parent_from(node: Node, from: Parent) -> Parent
                 end: end,
             };
         }
-        let next = Node {
-            image: node.image,
-            number: parent + 1,
-        };
-        end += next.child_count() as usize;
+        end += node.other(parent + 1).child_count() as usize;
     }
     Parent {
         node: node.number,
@@ -101,14 +98,16 @@ fn parent_from(node: Node, from: Parent) -> Parent
     }
 }
 
-impl Walk {
-    // A walk at node 0.
-    pub fn start(image: &[u8]) -> Walk
-        ensures { Walks image.now 0 result }
+impl<'a> Walk<'a> {
+    // A walk at the root.
+    pub fn start(image: &'a [u8]) -> Walk<'a>
+        ensures image { result.node.image ≡ image.entry }
+        ensures root { result.node.number ≡ 0 }
     {
         let n = node_count(image);
-        let root = Node { image, number: 0 };
+        let root = Node::root(image);
         Walk {
+            node: root,
             children: 1,
             buffers: 0,
             parent: Parent {
@@ -117,29 +116,41 @@ impl Walk {
             },
             all_children: child_start(image, n),
             all_buffers: buffer_start(image, n),
-            shallow: level_end(image, n) as usize,
+            shallow: level_end(image) as usize,
         }
     }
 
     // The walk at the next node.
-    pub fn next(self, node: Node) -> Walk
-        requires { (Walks of node) self × (node.number < 2 ^ 16) }
-        ensures { Walks node.entry.image.now (node.entry.number + 1) result }
+    pub fn next(self) -> Walk<'a>
+        requires { self.node.number < 2 ^ 16 }
+        ensures image { result.node.image ≡ self.entry.node.image }
+        ensures number { result.node.number ≡ self.entry.node.number + 1 }
     {
-        let children = self.children + node.child_count() as usize;
-        let buffers = self.buffers + node.buffer_count() as usize;
-        let next = Node {
-            image: node.image,
-            number: node.number + 1,
-        };
+        let next = self.node.other(self.node.number + 1);
         Walk {
-            children: children,
-            buffers: buffers,
+            node: next,
+            children: self.children + self.node.child_count() as usize,
+            buffers: self.buffers + self.node.buffer_count() as usize,
             parent: parent_from(next, self.parent),
             all_children: self.all_children,
             all_buffers: self.all_buffers,
             shallow: self.shallow,
         }
+    }
+
+    // The node is a union's child.
+    fn is_under_union(self) -> bool
+        ensures { result ≡ under_union of self.entry.node }
+    {
+        self.parent.node < self.node.number
+            && TypeCode::is_union(self.node.other(self.parent.node).code())
+    }
+
+    // A type id where no union is above.
+    fn id_alone(self) -> bool
+        ensures { result ≡ (not (eqb (id_of of self.entry.node) 0) && not (under_union of self.entry.node)) }
+    {
+        self.node.type_id() != 0 && !self.is_under_union()
     }
 }
 
@@ -147,10 +158,7 @@ impl Walk {
 pub fn total_wrong(node: u32, all: usize, total: u32) -> bool
     ensures { result ≡ (eqb node 0 && not (eqb all total)) }
 {
-    if node != 0 {
-        return false;
-    }
-    all != total as usize
+    node == 0 && all != total as usize
 }
 
 // The type ids of a node's children rise strictly within 0 to 127.
@@ -160,10 +168,7 @@ fn ids_rise(node: Node) -> bool
     let mut least: usize = 0;
     for c in 0..node.child_count() {
         let id = usize::from(node.child(c).type_id());
-        if id < least {
-            return false;
-        }
-        if LARGEST_ID < id {
+        if id < least || LARGEST_ID < id {
             return false;
         }
         least = id + 1;
@@ -175,53 +180,20 @@ fn ids_rise(node: Node) -> bool
 fn ids_fall(node: Node) -> bool
     ensures { result ≡ (is_union (code_of of node.entry) && not (ids_rise of node.entry)) }
 {
-    if !TypeCode::is_union(node.code()) {
-        return false;
-    }
-    !ids_rise(node)
-}
-
-// The node is a union's child.
-fn is_under_union(node: Node, parent: Parent) -> bool
-    requires { (Parents of node) parent }
-    ensures { result ≡ under_union of node.entry }
-{
-    if node.number <= parent.node {
-        return false;
-    }
-    let above = Node {
-        image: node.image,
-        number: parent.node,
-    };
-    TypeCode::is_union(above.code())
-}
-
-// A type id where no union is above.
-fn id_alone(node: Node, parent: Parent) -> bool
-    requires { (Parents of node) parent }
-    ensures { result ≡ (not (eqb (id_of of node.entry) 0) && not (under_union of node.entry)) }
-{
-    if node.type_id() == 0 {
-        return false;
-    }
-    !is_under_union(node, parent)
+    TypeCode::is_union(node.code()) && !ids_rise(node)
 }
 
 // A Map whose child is not a Struct of two.
 fn map_broken(node: Node) -> bool
     ensures { result ≡ (eqb (code_of of node.entry) 42 && not (map_entries of node.entry)) }
 {
-    if node.code() != TypeCode::MAP {
-        return false;
-    }
     let entries = node.child(0);
-    if entries.code() != TypeCode::STRUCT {
-        return true;
-    }
-    entries.child_count() != 2
+    node.code() == TypeCode::MAP
+        && (entries.code() != TypeCode::STRUCT || entries.child_count() != 2)
 }
 
 // Runs whose run ends are not Int16, Int32 or Int64, or have a bitmap.
+// Kept: a return for each test: `||` groups to the left, so that of a chain of three and more each test's answer is a nest of cases.
 fn runs_broken(node: Node) -> bool
     ensures { result ≡ (eqb (code_of of node.entry) 43 && not (run_ends of node.entry)) }
 {
@@ -240,10 +212,11 @@ fn runs_broken(node: Node) -> bool
 }
 
 // The node has fault 12.
-pub fn fault_12(node: Node, walk: Walk) -> bool
-    requires { (Walks of node) walk }
-    ensures { result ≡ fault12 of node.entry }
+// Kept: a return for each test: `||` groups to the left, so that of a chain of three and more each test's answer is a nest of cases.
+pub fn fault_12(walk: Walk) -> bool
+    ensures { result ≡ fault12 of walk.entry.node }
 {
+    let node = walk.node;
     if !TypeCode::children(node.code()).allows(node.child_count()) {
         return true;
     }
@@ -263,7 +236,7 @@ pub fn fault_12(node: Node, walk: Walk) -> bool
     if ids_fall(node) {
         return true;
     }
-    if id_alone(node, walk.parent) {
+    if walk.id_alone() {
         return true;
     }
     if map_broken(node) {

@@ -23,7 +23,7 @@ use Rattle.image.specs.Types.{same_bytes}
 use Rattle.image.specs.Row.{fixed, sized, range, row_at, value_at, fixed_row, variable_row}
 use Rattle.image.specs.Equality.{row_equal}
 use Rattle.image.specs.Reads.{Read, Nth}
-use Rattle.values.specs.declared.leaf.Columns.{Columns}
+use Rattle.image.specs.declared.bytes.Numbers.{Numbers}
 use Rattle.values.specs.Pairs.{range_equal}
 use Rattle.accepted.specs.Parts.{Side, Part, Elements}
 use Rattle.values.specs.Parts.{Sides, Leaf, LeafPair, TextPair}
@@ -148,49 +148,49 @@ module _ {s : List ℕ} {k i w p : ℕ} (r : Side s k i 1) (f : Leaf s k w p) wh
         }
 
 -- two rows of nodes taken apart: one pair of rows is one pair of values
-module _ {x : Layout} {a b : List ℕ} {k l i j d : ℕ} {v : Columns} (r : Sides a b k l i j 1 (suc d)) (y : LeafPair x a b k l v) where
+module _ {x : Layout} {a b : List ℕ} {k l i j d w p v q : ℕ} (r : Sides a b k l i j 1 (suc d)) (y : LeafPair x a b k l w p v q) where
   right_layout : layout_of (code_of b l) ≡ x
   right_layout = sym (ap layout_of r.alike.0.code) ∙ y.layout
 
-  values : row_equal (value_at x (row_at d a) a k (offset_of a k + i)) (value_at x (row_at d b) b l (offset_of b l + j)) ≡ range_equal (row_at (suc d) a k) (row_at (suc d) b l) i j 1
+  values : (e : ℕ) → row_equal (value_at x (row_at e a) a k (offset_of a k + i)) (value_at x (row_at e b) b l (offset_of b l + j)) ≡ range_equal (row_at (suc e) a k) (row_at (suc e) b l) i j 1
   unfolding range row_equal
-  values = rw (← leaf_row y.left d i y.layout, ← leaf_row y.right d j right_layout) (sym (and_true _))
+  values e = rw (← leaf_row y.left e i y.layout, ← leaf_row y.right e j right_layout) (sym (and_true _))
 
 -- fixed-width: the bytes of both rows lie inside, and they are the rows
-module _ {a b : List ℕ} {k l i j d : ℕ} {v : Columns} (r : Sides a b k l i j 1 (suc d)) (y : LeafPair FixedWidth a b k l v) where
-  pub fixed_left : v.left + i * v.width + v.width ≤ length a
+module _ {a b : List ℕ} {k l i j d w p q : ℕ} (r : Sides a b k l i j 1 (suc d)) (y : LeafPair FixedWidth a b k l w p w q) where
+  pub fixed_left : p + i * w + w ≤ length a
   fixed_left = fixed_inside r.left y.left y.layout
 
-  pub fixed_right : v.right + j * v.width + v.width ≤ length b
+  pub fixed_right : q + j * w + w ≤ length b
   fixed_right = fixed_inside r.right y.right (right_layout r y)
 
-  pub fixed_rows : same_bytes (bytes_at a (v.left + i * v.width) v.width) (bytes_at b (v.right + j * v.width) v.width) ≡ range_equal (row_at (suc d) a k) (row_at (suc d) b l) i j 1
+  pub fixed_rows : (e : ℕ) → same_bytes (bytes_at a (p + i * w) w) (bytes_at b (q + j * w) w) ≡ range_equal (row_at (suc e) a k) (row_at (suc e) b l) i j 1
   unfolding row_equal
-  fixed_rows = ap₂ row_equal (sym (leaf_fixed y.left i)) (sym (leaf_fixed y.right j)) ∙ values r y
+  fixed_rows e = ap₂ row_equal (sym (leaf_fixed y.left i)) (sym (leaf_fixed y.right j)) ∙ values r y e
 
 -- variable-size: the offsets of both rows, and the texts between them
-module _ {a b : List ℕ} {k l i j d t u : ℕ} {v : Columns} (r : Sides a b k l i j 1 (suc d)) (y : TextPair a b k l v t u) where
-  pub left_nth : (h : ℕ) → h ≤ i + 1 → Nth v.left v.width h
+module _ {a b : List ℕ} {k l i j d t s : ℕ} {u v : Numbers} (r : Sides a b k l i j 1 (suc d)) (y : TextPair a b k l u v t s) where
+  pub left_nth : (h : ℕ) → h ≤ i + 1 → Nth u.place u.width h
   left_nth = text_nth r.left y.offsets.left y.offsets.layout
 
-  pub right_nth : (h : ℕ) → h ≤ j + 1 → Nth v.right v.width h
+  pub right_nth : (h : ℕ) → h ≤ j + 1 → Nth v.place v.width h
   right_nth = text_nth r.right y.offsets.right (right_layout r y.offsets)
 
-  pub left_read : {m n x z : ℕ} → Read (number_at v.width a (v.left + i * v.width)) m x → Read (number_at v.width a (v.left + (i + 1) * v.width)) n z → TextRead a k (offset_of a k + i) t x z
-  left_read = text_read r.left y.offsets.left y.offsets.layout y.left
+  pub left_read : {m n x z : ℕ} → Read (number_at u.width u.bytes.now (u.place + i * u.width)) m x → Read (number_at u.width u.bytes.now (u.place + (i + 1) * u.width)) n z → TextRead a k (offset_of a k + i) t x z
+  left_read ex ez = text_read r.left y.offsets.left y.offsets.layout y.left (rw y.left_bytes at ex) (rw y.left_bytes at ez)
 
-  pub right_read : {m n x z : ℕ} → Read (number_at v.width b (v.right + j * v.width)) m x → Read (number_at v.width b (v.right + (j + 1) * v.width)) n z → TextRead b l (offset_of b l + j) u x z
-  right_read = text_read r.right y.offsets.right (right_layout r y.offsets) y.right
+  pub right_read : {m n x z : ℕ} → Read (number_at v.width v.bytes.now (v.place + j * v.width)) m x → Read (number_at v.width v.bytes.now (v.place + (j + 1) * v.width)) n z → TextRead b l (offset_of b l + j) s x z
+  right_read ex ez = text_read r.right y.offsets.right (right_layout r y.offsets) y.right (rw y.right_bytes at ex) (rw y.right_bytes at ez)
 
-  module _ {x z p q : ℕ} (f : TextRead a k (offset_of a k + i) t x z) (g : TextRead b l (offset_of b l + j) u p q) where
-    pub text_rows_lem : same_bytes (bytes_at a (t + x) (z - x)) (bytes_at b (u + p) (q - p)) ≡ range_equal (row_at (suc d) a k) (row_at (suc d) b l) i j 1
+  module _ (e : ℕ) {x z p q : ℕ} (f : TextRead a k (offset_of a k + i) t x z) (g : TextRead b l (offset_of b l + j) s p q) where
+    pub text_rows_lem : same_bytes (bytes_at a (t + x) (z - x)) (bytes_at b (s + p) (q - p)) ≡ range_equal (row_at (suc e) a k) (row_at (suc e) b l) i j 1
     unfolding row_equal
-    text_rows_lem = ap₂ row_equal (sym (text_value_lem f)) (sym (text_value_lem g)) ∙ values r y.offsets
+    text_rows_lem = ap₂ row_equal (sym (text_value_lem f)) (sym (text_value_lem g)) ∙ values r y.offsets e
 
     -- texts of two lengths
-    pub text_differs : (q - p ≡ z - x → ⊥) → false ≡ range_equal (row_at (suc d) a k) (row_at (suc d) b l) i j 1
-    text_differs ne = sym (other_length a b _ _ _ _ (λ e. ne (sym e))) ∙ text_rows_lem
+    pub text_differs : (q - p ≡ z - x → ⊥) → false ≡ range_equal (row_at (suc e) a k) (row_at (suc e) b l) i j 1
+    text_differs ne = sym (other_length a b _ _ _ _ (λ o. ne (sym o))) ∙ text_rows_lem
 
     -- texts of one length
-    pub text_same : q - p ≡ z - x → same_bytes (bytes_at a (t + x) (z - x)) (bytes_at b (u + p) (z - x)) ≡ range_equal (row_at (suc d) a k) (row_at (suc d) b l) i j 1
-    text_same e = ap (λ (n : ℕ). same_bytes (bytes_at a (t + x) (z - x)) (bytes_at b (u + p) n)) (sym e) ∙ text_rows_lem
+    pub text_same : q - p ≡ z - x → same_bytes (bytes_at a (t + x) (z - x)) (bytes_at b (s + p) (z - x)) ≡ range_equal (row_at (suc e) a k) (row_at (suc e) b l) i j 1
+    text_same o = ap (λ (n : ℕ). same_bytes (bytes_at a (t + x) (z - x)) (bytes_at b (s + p) n)) (sym o) ∙ text_rows_lem

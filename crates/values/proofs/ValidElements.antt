@@ -18,6 +18,10 @@ use Rattle.image.specs.Row.{masked, fixed_row}
 use Rattle.image.specs.Equality.{row_equal}
 use borrow.Author.Tests.{eq-eqb, ne_eqb}
 use Rattle.values.specs.declared.leaf.Columns.{Columns}
+use Rattle.values.specs.declared.pair.Pair.{Pair}
+use Rattle.values.specs.declared.pair.Rows.{Rows}
+use Rattle.values.specs.Pair.{MaskedOf, OneWidth}
+use Rattle.values.proofs.LeafRows.{side_width}
 use Rattle.values.specs.Bits.{bits_at}
 use Rattle.values.specs.Pairs.{all, same_row, range_equal, same_byte, bit_of, valid_same, masked_row}
 use Rattle.accepted.specs.Parts.{Elements}
@@ -151,6 +155,6 @@ module _ {a b : List ℕ} {k l i j n : ℕ} (r : Masked FixedWidth a b k l i j n
       rw (← mask_at r h lt, none, u, t)))
       ∙ by_rows _ _ i j n
 
-module _ {a b : List ℕ} {k l i j n : ℕ} (r : Masked FixedWidth a b k l i j n) where
-  pub other_width : {w : ℕ} → w ≡ element_width a k → w ≡ element_width b l
-  other_width e = e ∙ (masked_fixed r).width
+-- two nodes whose rows are compared have elements of one width
+pub one_width : {p : Pair} {r : Rows} → MaskedOf FixedWidth p r → OneWidth p
+one_width r = record { small = side_width r.left; same = (masked_fixed r).width }

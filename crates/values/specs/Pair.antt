@@ -4,16 +4,14 @@ use Rattle.std.specs.Prelude.{◌≡◌, Bool, true, false, Option, None, Some, 
 use Rattle.image.specs.declared.record.Node.{Node}
 use Rattle.image.specs.declared.type_code.Layout.{Layout}
 use Rattle.image.specs.declared.type_code.Layout.TheVariants.{FixedWidth}
-use Rattle.image.specs.Bytes.{bytes_at}
-use Rattle.image.specs.Record.{code_of, offset_of, has_bitmap, bitmap_place, first_bit, first_child, first_buffer, entry_place}
+use Rattle.image.specs.Record.{code_of, offset_of, has_bitmap, bitmap_place, first_bit, first_child, buffer_place}
+use Rattle.image.specs.Bytes.{byte_at}
 use Rattle.image.specs.TypeCode.{layout_of}
-use Rattle.image.specs.Element.{view_length, view_data, child_end, child_with_id}
+use Rattle.image.specs.Element.{element_width, element_at, child_end, child_with_id}
 use Rattle.image.specs.Row.{Row, row_at, value_at}
-use Rattle.accepted.specs.Parts.{Viewed}
 use Rattle.values.specs.declared.pair.Pair.{Pair}
 use Rattle.values.specs.declared.pair.Rows.{Rows}
 use Rattle.values.specs.declared.bits.Bits.{Bits}
-use Rattle.values.specs.declared.byte_view.View.{View}
 use Rattle.values.specs.declared.leaf.Columns.{Columns}
 use Rattle.values.specs.declared.leaf.Leaves.{Leaves}
 use Rattle.values.specs.declared.leaf.Leaves.TheVariants.{Fixed as FixedLeaves, Texts as TextLeaves}
@@ -79,12 +77,20 @@ pub record FewRows (r : Rows) : Type 0 where
 abbrev pub same_spans : Pair → Rows → Bool
 same_spans p r = all (same_span p.left.image.now p.left.number p.right.image.now p.right.number) r.left r.right r.count
 
+-- the offsets of a node, looked at from element i on
+abbrev pub offsets_from : Node → ℕ → Offsets
+offsets_from v i = record { bytes = v.image; place = buffer_place v.image.now v.number 0; first = i; base = element_at v.image.now v.number i }
+
 -- n offsets of w bytes from the one numbered k on stand equally far above the first
 abbrev pub same_distances : ℕ → Offsets → Offsets → ℕ → ℕ → Bool
 same_distances w x y k n = all (same_distance x.bytes.now x.place y.bytes.now y.place w x.base y.base) (x.first + k) (y.first + k) n
 
 abbrev pub AboveOf : ℕ → Offsets → ℕ → ℕ → Type 0
 AboveOf w x k n = Above x.bytes.now x.place w x.base (x.first + k) n
+
+-- the bits of a node's first buffer from bit i on
+abbrev pub bits_from : Node → ℕ → Bits
+bits_from v i = record { bytes = v.image; place = buffer_place v.image.now v.number 0; first = i }
 
 -- bits from bit k on, and the number of the first of n pairs of bits that are not the same
 abbrev pub from_bit : Bits → ℕ → Bits
@@ -114,14 +120,6 @@ pub record BitsOf (v : Node) (i : ℕ) (x : Bits) : Type 0 where
 abbrev pub ValidityOf : Node → ℕ → Option Bits → Type 0
 ValidityOf v i None = has_bitmap v.image.now v.number ≡ false
 ValidityOf v i (Some x) = BitsOf v i x
-
--- the bytes of a view, and a view that acceptance says they are there of
-abbrev pub view_bytes : View → List ℕ
-view_bytes v = bytes_at v.node.image.now (view_data v.node.image.now v.node.number v.place) (view_length v.node.image.now v.place)
-
-pub record ViewOf (v : View) : Type 0 where
-  pub viewed : Viewed v.node.image.now v.node.number v.place (view_length v.node.image.now v.place)
-  pub entries : v.entries ≡ entry_place v.node.image.now (first_buffer v.node.image.now v.node.number)
 
 -- What the comparison asks of two nodes and ranges of their rows.
 abbrev pub SidesOf : Pair → Rows → ℕ → Type 0
@@ -159,14 +157,18 @@ abbrev pub TogetherOf : Pair → Rows → ℕ → ℕ → Option ℕ → Type 0
 TogetherOf p r i j None = Unit {0}
 TogetherOf p r i j (Some m) = TogetherIn p r i j m
 
--- how wide the elements of two nodes are, and where those of row 0 start
+-- the elements of two nodes are equally wide, and not too wide; how wide they are, and where those of row 0 start
+pub record OneWidth (p : Pair) : Type 0 where
+  pub small : element_width p.left.image.now p.left.number < 2 ^ 32
+  pub same : element_width p.left.image.now p.left.number ≡ element_width p.right.image.now p.right.number
+
 abbrev pub ColumnsOf : Pair → Columns → Type 0
 ColumnsOf p v = ColumnsAt p.left.image.now p.right.image.now p.left.number p.right.number v
 
 -- what is read once of two nodes whose rows are compared one pair at a time
 abbrev pub LeavesRead : Pair → Leaves → Type 0
-LeavesRead p (FixedLeaves v) = LeafPair FixedWidth p.left.image.now p.right.image.now p.left.number p.right.number v
-LeavesRead p (TextLeaves v x y) = TextPair p.left.image.now p.right.image.now p.left.number p.right.number v x y
+LeavesRead p (FixedLeaves v) = LeafPair FixedWidth p.left.image.now p.right.image.now p.left.number p.right.number v.width v.left v.width v.right
+LeavesRead p (TextLeaves u v x y) = TextPair p.left.image.now p.right.image.now p.left.number p.right.number u v x y
 
 abbrev pub LeavesOf : Pair → Option Leaves → Type 0
 LeavesOf p None = Unit {0}
@@ -177,6 +179,11 @@ pub record NamedPair (p : Pair) (id : ℕ) (r : Pair) : Type 0 where
   pub within : child_with_id p.left.image.now p.left.number id < child_end p.left.image.now p.left.number
   pub same : r ≡ children p (child_with_id p.left.image.now p.left.number id - first_child p.left.image.now p.left.number)
 
-abbrev pub NamedOf : Pair → ℕ → Option Pair → Type 0
-NamedOf p id None = child_with_id p.left.image.now p.left.number id ≡ child_end p.left.image.now p.left.number
-NamedOf p id (Some r) = NamedPair p id r
+-- those that the type ids at places x and y name, where the ids are the same and name any
+pub record NamedBoth (p : Pair) (x y : ℕ) (r : Pair) : Type 0 where
+  pub ids : byte_at p.left.image.now x ≡ byte_at p.right.image.now y
+  pub named : NamedPair p (byte_at p.left.image.now x) r
+
+abbrev pub NamedAt : Pair → ℕ → ℕ → Option Pair → Type 0
+NamedAt p x y None = byte_at p.left.image.now x ≡ byte_at p.right.image.now y → child_with_id p.left.image.now p.left.number (byte_at p.left.image.now x) ≡ child_end p.left.image.now p.left.number
+NamedAt p x y (Some r) = NamedBoth p x y r

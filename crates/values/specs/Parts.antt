@@ -2,6 +2,7 @@
 use Rattle.std.specs.Prelude.{◌≡◌, true, false, List, ◌⊎◌, ℕ, suc, ◌+◌, ◌-◌, ◌*◌, ◌≤◌, ◌<◌, ◌^◌, length}
 use Rattle.image.specs.Bytes.{number_at}
 use Rattle.image.specs.Record.{node_count, code_of, p1_of, length_of, offset_of, has_bitmap, first_child, buffer_place}
+use Rattle.image.specs.declared.bytes.Numbers.{Numbers}
 use Rattle.image.specs.declared.type_code.Layout.{Layout}
 use Rattle.image.specs.declared.type_code.Layout.TheVariants.{VariableSize, Runs}
 use Rattle.image.specs.TypeCode.{layout_of}
@@ -94,13 +95,15 @@ pub record Leaf (s : List ℕ) (k w p : ℕ) : Type 0 where
   pub place : p ≡ element_place s k (offset_of s k)
 
 -- two of them, of a layout
-pub record LeafPair (x : Layout) (a b : List ℕ) (k l : ℕ) (v : Columns) : Type 0 where
+pub record LeafPair (x : Layout) (a b : List ℕ) (k l w p v q : ℕ) : Type 0 where
   pub layout : layout_of (code_of a k) ≡ x
-  pub left : Leaf a k v.width v.left
-  pub right : Leaf b l v.width v.right
+  pub left : Leaf a k w p
+  pub right : Leaf b l v q
 
--- two of texts, and where their texts start
-pub record TextPair (a b : List ℕ) (k l : ℕ) (v : Columns) (x y : ℕ) : Type 0 where
-  pub offsets : LeafPair VariableSize a b k l v
+-- two of texts, and where their offsets and texts stand
+pub record TextPair (a b : List ℕ) (k l : ℕ) (u v : Numbers) (x y : ℕ) : Type 0 where
+  pub left_bytes : u.bytes.now ≡ a
+  pub right_bytes : v.bytes.now ≡ b
+  pub offsets : LeafPair VariableSize a b k l u.width u.place v.width v.place
   pub left : x ≡ buffer_place a k 1
   pub right : y ≡ buffer_place b l 1

@@ -19,7 +19,7 @@ fn joined(low: usize, next: u8, shift: usize) -> usize
     if shift == 0 {
         return low;
     }
-    (low >> shift) + (usize::from(next) << (64 - shift))
+    (low >> shift) + (usize::from(next) << (WORD - shift))
 }
 
 // The 64 bits from bit i on, of the bits that start at a place, as a number, the first bit lowest. INSIDE says that their
@@ -78,12 +78,12 @@ impl Bits<'_> {
         ensures { Leading (bit_at self.entry.bytes.now self.entry.place) self.entry.first n result }
     {
         for h in 0..n / WORD {
-            let r = self.leading_word(64 * h);
+            let r = self.leading_word(WORD * h);
             if r < WORD {
-                return 64 * h + r;
+                return WORD * h + r;
             }
         }
-        let k = 64 * (n / WORD);
+        let k = WORD * (n / WORD);
         k + self.leading_word(k).min(n - k)
     }
 }
@@ -107,13 +107,13 @@ fn first_unequal_word<const INSIDE: bool>(x: Bits, y: Bits, m: usize) -> usize
     ensures { result ≡ first_unequal_in x.entry y.entry (64 * m) }
 {
     for h in 0..m {
-        let u = x.word_of::<INSIDE>(64 * h);
-        let v = y.word_of::<INSIDE>(64 * h);
+        let u = x.word_of::<INSIDE>(WORD * h);
+        let v = y.word_of::<INSIDE>(WORD * h);
         if u != v {
-            return 64 * h + first_apart(u, v, 64);
+            return WORD * h + first_apart(u, v, WORD);
         }
     }
-    64 * m
+    WORD * m
 }
 
 // The same, wherever they lie.
@@ -149,7 +149,7 @@ pub fn first_unequal_bit(x: Bits, y: Bits, n: usize) -> Option<usize>
     ensures { result ≡ then_some (ltb (first_unequal_in x.entry y.entry n) n) (first_unequal_in x.entry y.entry n) }
 {
     let m = n / WORD;
-    let whole = 64 * m;
+    let whole = WORD * m;
     let r = first_unequal_whole(x, y, m);
     if r < whole {
         return Some(r);

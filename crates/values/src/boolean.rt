@@ -1,26 +1,31 @@
 // Translated from src/equal/boolean.rs of arrow-data 60.1.0 (Apache-2.0).
-ghost use Rattle.std.specs.Prelude.{◌≡◌};
+ghost use Rattle.std.specs.Prelude.{◌≡◌, ◌<◌, ◌^◌};
 ghost use Rattle.image.specs.declared.type_code.Layout.TheVariants.{Boolean};
 ghost use Rattle.image.specs.Row.{boolean_row};
-ghost use Rattle.values.specs.Pair.{equal_rows, PartsIn};
+ghost use Rattle.values.specs.Pair.{equal_rows, bits_from, PartsIn};
 
 use crate::bits::{Bits, first_unequal_bit};
 use crate::pair::{Pair, Rows};
+use image::record::Node;
+
+// The bits of a node's first buffer, from bit i on.
+fn bits_from<'a>(node: Node<'a>, i: usize) -> Bits<'a>
+    ensures same { result ≡ bits_from node.entry i }
+    ensures near { result.place < 2 ^ 32 }
+{
+    Bits {
+        bytes: node.image,
+        place: node.buffer_place(0),
+        first: i,
+    }
+}
 
 // Booleans without nulls: no bit is unequal.
-pub fn boolean_equal(pair: Pair, rows: Rows) -> bool
-    requires { PartsIn Boolean pair rows 0 }
-    ensures { result ≡ equal_rows boolean_row pair.entry rows }
+pub fn boolean_equal(pair: &Pair, rows: Rows) -> bool
+    requires { PartsIn Boolean pair.now rows 0 }
+    ensures { result ≡ equal_rows boolean_row pair.now rows }
 {
-    let left = Bits {
-        bytes: pair.left.image,
-        place: pair.left.buffer_place(0),
-        first: rows.left,
-    };
-    let right = Bits {
-        bytes: pair.right.image,
-        place: pair.right.buffer_place(0),
-        first: rows.right,
-    };
+    let left = bits_from(pair.left, rows.left);
+    let right = bits_from(pair.right, rows.right);
     first_unequal_bit(left, right, rows.count).is_none()
 }

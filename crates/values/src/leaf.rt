@@ -1,10 +1,11 @@
 // Rows of two nodes without bitmaps and without children, one pair at a time: what the nodes' records say is read once.
-ghost use Rattle.std.specs.Prelude.{◌≡◌, suc};
+ghost use Rattle.std.specs.Prelude.{◌≡◌, ℕ, suc};
 ghost use Rattle.image.specs.Row.{row_at};
 ghost use Rattle.accepted.specs.Parts.{Side};
 ghost use Rattle.values.specs.Pair.{equal_rows, one_row, SidesOf, LeavesOf, LeavesRead};
 
 use crate::pair::Pair;
+use crate::primitive::columns_of;
 use image::bytes::Numbers;
 use image::type_code::{Layout, TypeCode};
 
@@ -18,17 +19,18 @@ pub struct Columns {
 
 // What is read once of two nodes: of fixed-width values where they stand, of texts where their offsets and their bytes do.
 #[derive(Clone, Copy)]
-pub enum Leaves {
+pub enum Leaves<'a> {
     Fixed(Columns),
     Texts {
-        offsets: Columns,
+        left_offsets: Numbers<'a>,
+        right_offsets: Numbers<'a>,
         left: usize,
         right: usize,
     },
 }
 
 // Two nodes taken apart: `None` where they have bitmaps or their layout is another.
-pub fn leaves_of(pair: Pair) -> Option<Leaves>
+pub fn leaves_of<'a>(pair: Pair<'a>) -> Option<Leaves<'a>>
     requires { Side pair.left.image.now pair.left.number 0 0 × Side pair.right.image.now pair.right.number 0 0 }
     ensures { LeavesOf pair.entry result }
 {
@@ -47,19 +49,12 @@ pub fn leaves_of(pair: Pair) -> Option<Leaves>
     if right.element_width() != width {
         return None;
     }
-    let layout = TypeCode::layout(left.code());
+    let layout = left.layout();
     match layout {
-        Layout::FixedWidth => Some(Leaves::Fixed(Columns {
-            width: width,
-            left: left.first_place(width),
-            right: right.first_place(width),
-        })),
+        Layout::FixedWidth => Some(Leaves::Fixed(columns_of(&pair))),
         Layout::VariableSize => Some(Leaves::Texts {
-            offsets: Columns {
-                width: width,
-                left: left.first_place(width),
-                right: right.first_place(width),
-            },
+            left_offsets: left.row_numbers(width),
+            right_offsets: right.row_numbers(width),
             left: left.buffer_place(1),
             right: right.buffer_place(1),
         }),
@@ -68,11 +63,10 @@ pub fn leaves_of(pair: Pair) -> Option<Leaves>
 }
 
 // Row s of one node and row t of another are equal: fixed-width values by their bytes, texts by length and bytes.
-// Kept: `depth` stands in the contract alone: what a row is takes a depth, and the caller's answer is of its own.
-pub fn leaf_equal(pair: Pair, leaves: Leaves, s: usize, t: usize, depth: usize) -> bool
-    requires sides { SidesOf pair (one_row s t) (suc depth) }
-    requires leaves { LeavesRead pair leaves }
-    ensures { result ≡ equal_rows (row_at (suc depth)) pair.entry (one_row s t) }
+pub fn leaf_equal(pair: &Pair, leaves: &Leaves, s: usize, t: usize) -> bool
+    requires sides { SidesOf pair.now (one_row s t) 1 }
+    requires leaves { LeavesRead pair.now leaves.now }
+    ensures { (depth : ℕ) → result ≡ equal_rows (row_at (suc depth)) pair.now (one_row s t) }
 {
     let a = pair.left.image;
     let b = pair.right.image;
@@ -84,24 +78,15 @@ pub fn leaf_equal(pair: Pair, leaves: Leaves, s: usize, t: usize, depth: usize) 
             a[x..x + width] == b[y..y + width]
         }
         Leaves::Texts {
-            offsets,
+            left_offsets,
+            right_offsets,
             left,
             right,
         } => {
-            let lefts = Numbers {
-                bytes: a,
-                place: offsets.left,
-                width: offsets.width,
-            };
-            let rights = Numbers {
-                bytes: b,
-                place: offsets.right,
-                width: offsets.width,
-            };
-            let from = lefts.at(s);
-            let len = lefts.at(s + 1) - from;
-            let start = rights.at(t);
-            if rights.at(t + 1) - start != len {
+            let from = left_offsets.at(s);
+            let len = left_offsets.at(s + 1) - from;
+            let start = right_offsets.at(t);
+            if right_offsets.at(t + 1) - start != len {
                 return false;
             }
             let x = left + from;

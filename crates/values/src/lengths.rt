@@ -1,10 +1,13 @@
 // Lengths of texts and lists. Translated from `lengths_equal` of src/equal/list.rs of arrow-data 60.1.0 (Apache-2.0).
-ghost use Rattle.std.specs.Prelude.{◌≡◌};
-ghost use Rattle.values.specs.Pair.{same_spans, same_distances, SpansOf, AboveOf};
+ghost use Rattle.std.specs.Prelude.{◌≡◌, ◌<◌, ◌≤◌, ◌^◌};
+ghost use Rattle.image.specs.Of.{◌of◌};
+ghost use Rattle.image.specs.Element.{element_width};
+ghost use Rattle.values.specs.Pair.{same_spans, same_distances, offsets_from, SpansOf, AboveOf};
 
 use crate::pair::{Pair, Rows};
 use crate::primitive::elements_equal;
 use image::bytes::load;
+use image::record::Node;
 
 // Offsets are compared so many at a time.
 const BLOCK: usize = 64;
@@ -16,6 +19,21 @@ pub struct Offsets<'a> {
     pub place: usize,
     pub first: usize,
     pub base: usize,
+}
+
+impl<'a> Offsets<'a> {
+    // Those of a node, looked at from element i on.
+    fn new(node: Node<'a>, i: usize) -> Offsets<'a>
+        requires { ((element_width of node) ≤ 8) × (i < 2 ^ 40) }
+        ensures { result ≡ offsets_from node.entry i }
+    {
+        Offsets {
+            bytes: node.image,
+            place: node.buffer_place(0),
+            first: i,
+            base: node.offset_at(i),
+        }
+    }
 }
 
 // n offsets of W bytes, from the one numbered k on, stand in turn equally far above the first. There is no way out of the
@@ -40,19 +58,19 @@ fn distances_equal<const W: usize>(left: Offsets, right: Offsets, n: usize) -> b
     ensures { result ≡ same_distances W left.entry right.entry 0 n }
 {
     for h in 0..n / BLOCK {
-        if !distance_block::<W>(left, right, 64 * h, BLOCK) {
+        if !distance_block::<W>(left, right, BLOCK * h, BLOCK) {
             return false;
         }
     }
-    let k = 64 * (n / BLOCK);
+    let k = BLOCK * (n / BLOCK);
     distance_block::<W>(left, right, k, n % BLOCK)
 }
 
 // The texts or lists at the elements of two ranges are equally long, in turn. Where the offsets are the same, so are the
 // lengths; else each offset stands as far above the first on both sides.
-pub fn lengths_equal(pair: Pair, rows: Rows) -> bool
-    requires { SpansOf pair rows }
-    ensures { result ≡ same_spans pair.entry rows }
+pub fn lengths_equal(pair: &Pair, rows: Rows) -> bool
+    requires { SpansOf pair.now rows }
+    ensures { result ≡ same_spans pair.now rows }
 {
     let offsets = Rows {
         left: rows.left,
@@ -62,18 +80,8 @@ pub fn lengths_equal(pair: Pair, rows: Rows) -> bool
     if elements_equal(pair, offsets) {
         return true;
     }
-    let left = Offsets {
-        bytes: pair.left.image,
-        place: pair.left.buffer_place(0),
-        first: rows.left,
-        base: pair.left.offset_at(rows.left),
-    };
-    let right = Offsets {
-        bytes: pair.right.image,
-        place: pair.right.buffer_place(0),
-        first: rows.right,
-        base: pair.right.offset_at(rows.right),
-    };
+    let left = Offsets::new(pair.left, rows.left);
+    let right = Offsets::new(pair.right, rows.right);
     if pair.left.element_width() == 4 {
         return distances_equal::<4>(left, right, rows.count + 1);
     }

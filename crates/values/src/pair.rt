@@ -18,14 +18,8 @@ impl<'a> Pair<'a> {
         ensures { Roots a.now b.now result }
     {
         Pair {
-            left: Node {
-                image: a,
-                number: 0,
-            },
-            right: Node {
-                image: b,
-                number: 0,
-            },
+            left: Node::root(a),
+            right: Node::root(b),
         }
     }
 

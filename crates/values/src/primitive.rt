@@ -7,7 +7,7 @@ ghost use Rattle.image.specs.Bytes.{bytes_at};
 ghost use Rattle.image.specs.Element.{element_width, element_place};
 ghost use Rattle.image.specs.Row.{fixed_row};
 ghost use Rattle.values.specs.Pairs.{all, valid_same, masked_row};
-ghost use Rattle.values.specs.Pair.{equal_rows, from_offset, PartsIn, MaskedOf, BlocksOf, ColumnsOf, BitsOf};
+ghost use Rattle.values.specs.Pair.{equal_rows, from_offset, PartsIn, MaskedOf, BlocksOf, ColumnsOf, OneWidth, BitsOf};
 
 use crate::bits::Bits;
 use crate::data::validity;
@@ -33,25 +33,28 @@ fn elements<'a>(node: Node<'a>, j: usize, n: usize) -> &'a [u8]
 }
 
 // The bytes of two ranges of elements are the same, as one block.
-pub fn elements_equal(pair: Pair, rows: Rows) -> bool
-    requires { BlocksOf pair rows }
-    ensures { result ≡ equal_rows fixed_row pair.entry rows }
+pub fn elements_equal(pair: &Pair, rows: Rows) -> bool
+    requires { BlocksOf pair.now rows }
+    ensures { result ≡ equal_rows fixed_row pair.now rows }
 {
     elements(pair.left, rows.left, rows.count) == elements(pair.right, rows.right, rows.count)
 }
 
 // Elements without nulls: their bytes.
-pub fn primitive_equal(pair: Pair, rows: Rows) -> bool
-    requires { PartsIn FixedWidth pair rows 0 }
-    ensures { result ≡ equal_rows fixed_row pair.entry rows }
+pub fn primitive_equal(pair: &Pair, rows: Rows) -> bool
+    requires { PartsIn FixedWidth pair.now rows 0 }
+    ensures { result ≡ equal_rows fixed_row pair.now rows }
 {
     elements_equal(pair, rows)
 }
 
 // The bytes of two ranges of rows are the same, those under nulls too.
-fn block_equal(pair: Pair, rows: Rows) -> bool
-    requires { MaskedOf FixedWidth pair rows }
-    ensures { result ≡ equal_rows fixed_row pair.entry (from_offset pair.entry rows) }
+// Kept: pair and rows, here and in the functions below that ask for `MaskedOf` of them, and no struct that knows it as a ghost
+// field. Tried: the closures over blocks make the struct of each part, and one that does needs clauses of its own, which say
+// the ghost field's fact again, and in `words_equal` all that `word_equal` asks of count, columns and mask.
+fn block_equal(pair: &Pair, rows: Rows) -> bool
+    requires { MaskedOf FixedWidth pair.now rows }
+    ensures { result ≡ equal_rows fixed_row pair.now (from_offset pair.now rows) }
 {
     elements_equal(pair, pair.elements(rows))
 }
@@ -107,11 +110,9 @@ fn valid_equal(x: &[u8], y: &[u8], w: usize, bits: usize, n: usize) -> bool
 }
 
 // What is read once of two nodes: how wide their elements are, and where those of row 0 stand.
-// Kept: `rows` stands in the contract alone: what is known of two nodes, that the widths of their elements agree among it, is
-// known with the rows that are compared.
-pub fn columns_of(pair: Pair, rows: Rows) -> Columns
-    requires { MaskedOf FixedWidth pair rows }
-    ensures { ColumnsOf pair.entry result }
+pub fn columns_of(pair: &Pair) -> Columns
+    requires { OneWidth pair.now }
+    ensures { ColumnsOf pair.now result }
 {
     let width = pair.left.element_width();
     Columns {
@@ -122,11 +123,11 @@ pub fn columns_of(pair: Pair, rows: Rows) -> Columns
 }
 
 // At most 64 rows, of which those are not null whose bit is set in the left null mask.
-fn word_equal(pair: Pair, columns: Columns, mask: Bits, rows: Rows) -> bool
-    requires masked { (rows.count ≤ 64) × MaskedOf FixedWidth pair rows }
-    requires columns { ColumnsOf pair columns }
-    requires mask { BitsOf pair.left 0 mask }
-    ensures { result ≡ equal_rows (masked_row fixed_row) pair.entry rows }
+fn word_equal(pair: &Pair, columns: Columns, mask: Bits, rows: Rows) -> bool
+    requires masked { (rows.count ≤ 64) × MaskedOf FixedWidth pair.now rows }
+    requires columns { ColumnsOf pair.now columns }
+    requires mask { BitsOf pair.now.left 0 mask }
+    ensures { result ≡ equal_rows (masked_row fixed_row) pair.now rows }
 {
     let width = columns.width;
     let size = rows.count * width;
@@ -142,19 +143,19 @@ fn word_equal(pair: Pair, columns: Columns, mask: Bits, rows: Rows) -> bool
 }
 
 // Rows of which some are null: 64 at a time, beside the left null mask.
-fn words_equal(pair: Pair, mask: Bits, rows: Rows) -> bool
-    requires masked { MaskedOf FixedWidth pair rows }
-    requires mask { BitsOf pair.left 0 mask }
-    ensures { result ≡ equal_rows (masked_row fixed_row) pair.entry rows }
+fn words_equal(pair: &Pair, mask: Bits, rows: Rows) -> bool
+    requires masked { MaskedOf FixedWidth pair.now rows }
+    requires mask { BitsOf pair.now.left 0 mask }
+    ensures { result ≡ equal_rows (masked_row fixed_row) pair.now rows }
 {
-    let columns = columns_of(pair, rows);
+    let columns = columns_of(pair);
     rows.each_block::<WORD, _>(|part| word_equal(pair, columns, mask, part))
 }
 
 // A chunk of rows: where not all bytes are the same, those of the rows that are not null.
-pub fn chunk_equal(pair: Pair, rows: Rows) -> bool
-    requires { MaskedOf FixedWidth pair rows }
-    ensures { result ≡ equal_rows (masked_row fixed_row) pair.entry rows }
+pub fn chunk_equal(pair: &Pair, rows: Rows) -> bool
+    requires { MaskedOf FixedWidth pair.now rows }
+    ensures { result ≡ equal_rows (masked_row fixed_row) pair.now rows }
 {
     if block_equal(pair, rows) {
         return true;
@@ -166,9 +167,9 @@ pub fn chunk_equal(pair: Pair, rows: Rows) -> bool
 }
 
 // Rows with nulls, where the null masks agree: chunk by chunk. Only one null mask is looked at, for that reason.
-pub fn masked_equal(pair: Pair, rows: Rows) -> bool
-    requires { MaskedOf FixedWidth pair rows }
-    ensures { result ≡ equal_rows (masked_row fixed_row) pair.entry rows }
+pub fn masked_equal(pair: &Pair, rows: Rows) -> bool
+    requires { MaskedOf FixedWidth pair.now rows }
+    ensures { result ≡ equal_rows (masked_row fixed_row) pair.now rows }
 {
     rows.each_block::<CHUNK, _>(|part| chunk_equal(pair, part))
 }

@@ -9,22 +9,22 @@ use crate::primitive::elements_equal;
 use accepted::runs::run_of;
 
 // The ends of two ranges of runs are the same, as one block of bytes.
-fn ends_same(pair: Pair, runs: Rows) -> bool
-    requires left { RunRange pair.left.image.now pair.left.number runs.left runs.count }
-    requires right { RunRange pair.right.image.now pair.right.number runs.right runs.count }
-    ensures { result ≡ true → SameEndsOf pair.entry runs }
+fn ends_same(pair: &Pair, runs: Rows) -> bool
+    requires left { RunRange pair.now.left.image.now pair.now.left.number runs.left runs.count }
+    requires right { RunRange pair.now.right.image.now pair.now.right.number runs.right runs.count }
+    ensures { result ≡ true → SameEndsOf pair.now runs }
 {
     let ends = pair.child(0);
     if ends.left.element_width() != ends.right.element_width() {
         return false;
     }
-    elements_equal(ends, ends.elements(runs))
+    elements_equal(&ends, ends.elements(runs))
 }
 
 // How many runs hold the elements of two ranges, i and j the first of them, where those of both sides end together.
-pub fn same_runs(pair: Pair, rows: Rows, i: usize, j: usize) -> Option<usize>
-    requires { RunPartsOf pair rows i j }
-    ensures { TogetherOf pair.entry rows i j result }
+pub fn same_runs(pair: &Pair, rows: Rows, i: usize, j: usize) -> Option<usize>
+    requires { RunPartsOf pair.now rows i j }
+    ensures { TogetherOf pair.now rows i j result }
 {
     if rows.left != rows.right {
         return None;

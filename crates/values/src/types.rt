@@ -15,13 +15,10 @@ fn labels_equal(pair: Pair, counted: Counted) -> bool
 {
     let left = pair.left;
     let right = pair.right;
-    if counted.name && !left.name_is(right.image, right.name_place(), right.name_length()) {
-        return false;
-    }
-    if counted.flag && left.is_nullable() != right.is_nullable() {
-        return false;
-    }
-    !counted.id || left.type_id() == right.type_id()
+    let name = !counted.name || left.name_is(right.image, right.name_place(), right.name_length());
+    let flag = !counted.flag || left.is_nullable() == right.is_nullable();
+    let id = !counted.id || left.type_id() == right.type_id();
+    name & flag & id
 }
 
 // Codes, parameters and child counts of two nodes agree.
@@ -66,6 +63,7 @@ pub fn types_equal(pair: Pair, entries: bool, depth: usize) -> bool
 }
 
 // The types of two tables agree.
+// Kept: two images and no `Pair`, which would have to be known to be one of roots.
 pub fn same_types(a: &[u8], b: &[u8]) -> bool
     ensures { result ≡ types_agree a.now b.now }
 {

@@ -8,9 +8,9 @@ use crate::lengths::lengths_equal;
 use crate::pair::{Pair, Rows};
 
 // Texts without nulls: their lengths, and then all their bytes as one block.
-pub fn variable_sized_equal(pair: Pair, rows: Rows) -> bool
-    requires { PartsIn VariableSize pair rows 0 }
-    ensures { result ≡ equal_rows variable_row pair.entry rows }
+pub fn variable_sized_equal(pair: &Pair, rows: Rows) -> bool
+    requires { PartsIn VariableSize pair.now rows 0 }
+    ensures { result ≡ equal_rows variable_row pair.now rows }
 {
     if !lengths_equal(pair, rows) {
         return false;

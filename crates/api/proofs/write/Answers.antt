@@ -16,13 +16,27 @@ pub returns-then-out_of_range : goal.returns-then-out_of_range
 returns-then-out_of_range c = let both = write_out_of_range _ _ _ _ (sym c.check.ensures ∙ c.in_ok-check.was) (sym c.out_of_range.ensures ∙ c.if-out_of_range.true) in record { value = both.0; out_after = both.1 }
 
 pub measure_rows-requires : goal.measure_rows-requires
-measure_rows-requires c = record { side = table_side _ _ _ (sym c.check.ensures ∙ c.in_ok-check.was) (sym c.out_of_range.ensures ∙ c.if-out_of_range.false); remembered = none_remembered _ }
+measure_rows-requires c = rw (c.root-table.ensures.image, c.root-table.ensures.number) (record { side = table_side _ _ _ (sym c.check.ensures ∙ c.in_ok-check.was) (sym c.out_of_range.ensures ∙ c.if-out_of_range.false); remembered = none_remembered _ })
 
 pub returns-in_default : goal.returns-in_default
-returns-in_default c = let both = write_too_long _ _ _ _ (sym c.check.ensures ∙ c.in_ok-check.was) (sym c.out_of_range.ensures ∙ c.if-out_of_range.false) (sym c.measure_rows.ensures.value ∙ c.in_default.is) in record { value = both.0; out_after = both.1 }
+returns-in_default c =
+    let measured = rw (c.root-table.ensures.image, c.root-table.ensures.number) at c.measure_rows.ensures.value in
+    let both = write_too_long _ _ _ _ (sym c.check.ensures ∙ c.in_ok-check.was) (sym c.out_of_range.ensures ∙ c.if-out_of_range.false) (sym measured ∙ c.in_default.is) in
+    record { value = both.0; out_after = both.1 }
 
 pub write_rows-requires : goal.write_rows-requires
-write_rows-requires c = record { side = table_side _ _ _ (sym c.check.ensures ∙ c.in_ok-check.was) (sym c.out_of_range.ensures ∙ c.if-out_of_range.false); remembered = c.measure_rows.ensures.remembered_after; fits = write_fits _ _ _ _ (sym c.check.ensures ∙ c.in_ok-check.was) (sym c.measure_rows.ensures.value ∙ c.in-Some.is) }
+write_rows-requires c =
+    let measured = rw (c.root-table.ensures.image, c.root-table.ensures.number) at c.measure_rows.ensures in
+    rw (c.root-table.ensures.image, c.root-table.ensures.number)
+    (record {
+      side = table_side _ _ _ (sym c.check.ensures ∙ c.in_ok-check.was) (sym c.out_of_range.ensures ∙ c.if-out_of_range.false);
+      remembered = measured.remembered_after;
+      fits = write_fits _ _ _ _ (sym c.check.ensures ∙ c.in_ok-check.was) (sym measured.value ∙ c.in-Some.is);
+    })
 
 pub returns : goal.returns
-returns c = let both = write_bytes _ _ _ _ (sym c.check.ensures ∙ c.in_ok-check.was) (sym c.out_of_range.ensures ∙ c.if-out_of_range.false) (sym c.measure_rows.ensures.value ∙ c.in-Some.is) c.write_rows.ensures.put.at (c.out-1.given.1.1 (sym c.write_rows.ensures.put.lent) ∙ c.write_rows.ensures.put.bytes) in record { value = both.0; out_after = both.1 }
+returns c =
+    let measured = rw (c.root-table.ensures.image, c.root-table.ensures.number) at c.measure_rows.ensures.value in
+    let put = rw (c.root-table.ensures.image, c.root-table.ensures.number) at c.write_rows.ensures.put in
+    let both = write_bytes _ _ _ _ (sym c.check.ensures ∙ c.in_ok-check.was) (sym c.out_of_range.ensures ∙ c.if-out_of_range.false) (sym measured ∙ c.in-Some.is) put.at (c.out-1.given.1.1 (sym put.lent) ∙ put.bytes) in
+    record { value = both.0; out_after = both.1 }

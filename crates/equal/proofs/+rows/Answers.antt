@@ -27,7 +27,7 @@
 -- The loop keeps that the rows are equal exactly where those from row k on are; the laws of unions say what a turn tests.
 -- `sparse` compares sparse unions block by block.
 -- The loop keeps that the rows are equal exactly where those from row k on are.
-use Prim.Native.Nat.{◌+◌, ◌*◌, ◌/◌}
+use Prim.Native.Nat.{◌+◌, ◌-◌, ◌*◌, ◌/◌}
 use native.Mathlib.Nat.{add-zero}
 use Rattle.values.proofs.Slices.{parts_same}
 use mathlib.Core.Path.{◌≡◌, sym, ◌∙◌, refl}
@@ -35,12 +35,12 @@ use native.Mathlib.Omega.{arith}
 use borrow.Author.Tests.{not-false}
 use borrow.Author.Rules.{rules}
 use Rattle.image.specs.Row.{fixed_row, view_row}
-use Rattle.accepted.proofs.Nodes.{part_small, layout_is, id_read}
+use Rattle.accepted.proofs.Nodes.{part_small, layout_is}
 use Rattle.equal.proofs.Buffers.{element_from, size_from, dense_from}
 use Rattle.equal.proofs.Child.{widths_same, layout_right}
 use Rattle.equal.proofs.Rows.{rows_none, rows_more, rows_fail, rows_done, one_row, rows_jump, rows_jump_fail, rows_rest}
-use Rattle.equal.proofs.Dictionaries.{key_nodes, key_requires, key_answer, key_small, key_same, kept_none, kept_equal, kept_more}
-use Rattle.equal.proofs.Nulls.{sides_left, sides_right, range_none, range_sides, range_rows, range_masks, range_requires, range_answer, null_more, valid_requires, valid_more, valid_fail, masked_answer}
+use Rattle.equal.proofs.Dictionaries.{left_key, right_key, key_nodes, key_requires, key_answer, key_small, key_same, kept_none, kept_equal, kept_more}
+use Rattle.equal.proofs.Nulls.{range_once, sides_left, sides_right, range_none, range_sides, range_rows, range_masks, range_requires, range_answer, null_more, valid_requires, valid_more, valid_fail, masked_answer}
 use mathlib.Core.List.{[], ◌∷◌}
 use Rattle.image.specs.declared.type_code.Layout.TheVariants.{FixedWidth, View, Null, Boolean, VariableSize, List as Lists, ListView, FixedList, Struct, DenseUnion, SparseUnion, Dictionary, Runs}
 use Rattle.image.proofs.CodeTable.{at_layouts}
@@ -51,7 +51,7 @@ use Rattle.equal.proofs.ListViews.{view_differs, view_requires, view_answer}
 use Rattle.equal.proofs.Runs.{run_nodes, run_small, run_above, step_requires, step_fail, step_some, step_again, together_requires, together_answer}
 use Rattle.accepted.proofs.RunEnds.{end_nth, end_is}
 use Rattle.equal.proofs.Structs.{struct_requires, columns_more_left, columns_fail, columns_done}
-use Rattle.equal.proofs.Unions.{sparse_differs, sparse_never, sparse_child, sparse_row_lem, sparse_inside, whole_children, dense_differs, dense_never, dense_child, dense_row_lem}
+use Rattle.equal.proofs.Unions.{id_at, sparse_fails, sparse_child, sparse_row_lem, sparse_inside, whole_children, dense_fails, dense_child, dense_row_lem}
 use Rattle.equal.proofs.+rows.Goals as goal
 use Rattle.equal.proofs.+rows.Goals.{dictionary::long_equal-then-ne+else-not-equal_row, dictionary::long_equal-else-ne}
 
@@ -83,10 +83,10 @@ pub equal_range-returns : goal.equal_range-returns
 equal_range-returns t c = (rw c.elements.ensures at c.equal_values.ensures) ∙ range_answer c.requires c.if-depth-eq0.false (sym c.equal_nulls.ensures ∙ c.if-not-equal_nulls.false) (not-false _ (sym c.contains_nulls.ensures ∙ c.if-contains_nulls.false))
 
 pub equal_valid-returns-in-FixedWidth : goal.equal_valid-returns-in-FixedWidth
-equal_valid-returns-in-FixedWidth t c = c.masked_equal.ensures ∙ masked_answer c.requires.sides (layout_is c.code.ensures c.layout-layout.ensures (at_layouts (2 ∷ []) FixedWidth (λ l. l) refl c.layout-layout.result c.in-FixedWidth.in-FixedWidth-own.keys1)) fixed_row (λ A s k j. refl)
+equal_valid-returns-in-FixedWidth t c = c.masked_equal.ensures ∙ masked_answer c.requires.sides (layout_is c.layout-layout.ensures (at_layouts (2 ∷ []) FixedWidth (λ l. l) refl c.layout-layout.result c.in-FixedWidth.in-FixedWidth-own.keys1)) fixed_row (λ A s k j. refl)
 
 pub equal_valid-returns-in-View : goal.equal_valid-returns-in-View
-equal_valid-returns-in-View t c = c.masked_views_equal.ensures ∙ masked_answer c.requires.sides (layout_is c.code.ensures c.layout-layout.ensures (at_layouts (4 ∷ []) View (λ l. l) refl c.layout-layout.result c.in-View.in-View-own.keys1)) view_row (λ A s k j. refl)
+equal_valid-returns-in-View t c = c.masked_views_equal.ensures ∙ masked_answer c.requires.sides (layout_is c.layout-layout.ensures (at_layouts (4 ∷ []) View (λ l. l) refl c.layout-layout.result c.in-View.in-View-own.keys1)) view_row (λ A s k j. refl)
 
 pub equal_valid-overflow_add-rows : goal.equal_valid-overflow_add-rows
 equal_valid-overflow_add-rows t c = omega (arith, sides_left c.requires.sides, sides_right c.requires.sides, c.loop-k-test.true)
@@ -120,43 +120,43 @@ pub equal_valid-returns : goal.equal_valid-returns
 equal_valid-returns t c = rows_done c.loop-k.invariant c.loop-k-test.false
 
 pub equal_values-returns-in-Null : goal.equal_values-returns-in-Null
-equal_values-returns-in-Null t c = c.null_equal.ensures ∙ null_values c.requires (layout_is c.code.ensures c.layout-layout.ensures (at_layouts (0 ∷ []) Null (λ l. l) refl c.layout-layout.result c.in-Null.in-Null-own.keys1))
+equal_values-returns-in-Null t c = c.null_equal.ensures ∙ null_values c.requires (layout_is c.layout-layout.ensures (at_layouts (0 ∷ []) Null (λ l. l) refl c.layout-layout.result c.in-Null.in-Null-own.keys1))
 
 pub equal_values-returns-in-Boolean : goal.equal_values-returns-in-Boolean
-equal_values-returns-in-Boolean t c = c.boolean_equal.ensures ∙ by_layout c.requires Boolean (layout_is c.code.ensures c.layout-layout.ensures (at_layouts (1 ∷ []) Boolean (λ l. l) refl c.layout-layout.result c.in-Boolean.in-Boolean-own.keys2))
+equal_values-returns-in-Boolean t c = c.boolean_equal.ensures ∙ by_layout c.requires Boolean (layout_is c.layout-layout.ensures (at_layouts (1 ∷ []) Boolean (λ l. l) refl c.layout-layout.result c.in-Boolean.in-Boolean-own.keys2))
 
 pub equal_values-returns-in-FixedWidth : goal.equal_values-returns-in-FixedWidth
-equal_values-returns-in-FixedWidth t c = c.primitive_equal.ensures ∙ by_layout c.requires FixedWidth (layout_is c.code.ensures c.layout-layout.ensures (at_layouts (2 ∷ []) FixedWidth (λ l. l) refl c.layout-layout.result c.in-FixedWidth.in-FixedWidth-own.keys3))
+equal_values-returns-in-FixedWidth t c = c.primitive_equal.ensures ∙ by_layout c.requires FixedWidth (layout_is c.layout-layout.ensures (at_layouts (2 ∷ []) FixedWidth (λ l. l) refl c.layout-layout.result c.in-FixedWidth.in-FixedWidth-own.keys3))
 
 pub equal_values-returns-in-VariableSize : goal.equal_values-returns-in-VariableSize
-equal_values-returns-in-VariableSize t c = c.variable_sized_equal.ensures ∙ by_layout c.requires VariableSize (layout_is c.code.ensures c.layout-layout.ensures (at_layouts (3 ∷ []) VariableSize (λ l. l) refl c.layout-layout.result c.in-VariableSize.in-VariableSize-own.keys4))
+equal_values-returns-in-VariableSize t c = c.variable_sized_equal.ensures ∙ by_layout c.requires VariableSize (layout_is c.layout-layout.ensures (at_layouts (3 ∷ []) VariableSize (λ l. l) refl c.layout-layout.result c.in-VariableSize.in-VariableSize-own.keys4))
 
 pub equal_values-returns-in-View : goal.equal_values-returns-in-View
-equal_values-returns-in-View t c = c.byte_view_equal.ensures ∙ by_layout c.requires View (layout_is c.code.ensures c.layout-layout.ensures (at_layouts (4 ∷ []) View (λ l. l) refl c.layout-layout.result c.in-View.in-View-own.keys5))
+equal_values-returns-in-View t c = c.byte_view_equal.ensures ∙ by_layout c.requires View (layout_is c.layout-layout.ensures (at_layouts (4 ∷ []) View (λ l. l) refl c.layout-layout.result c.in-View.in-View-own.keys5))
 
 pub equal_values-returns-in-List : goal.equal_values-returns-in-List
-equal_values-returns-in-List t c = c.equal.ensures ∙ by_layout c.requires Lists (layout_is c.code.ensures c.layout-layout.ensures (at_layouts (5 ∷ []) Lists (λ l. l) refl c.layout-layout.result c.in-List.in-List-own.keys6))
+equal_values-returns-in-List t c = c.equal.ensures ∙ by_layout c.requires Lists (layout_is c.layout-layout.ensures (at_layouts (5 ∷ []) Lists (λ l. l) refl c.layout-layout.result c.in-List.in-List-own.keys6))
 
 pub equal_values-returns-in-ListView : goal.equal_values-returns-in-ListView
-equal_values-returns-in-ListView t c = c.equal-in-ListView.ensures ∙ by_layout c.requires ListView (layout_is c.code.ensures c.layout-layout.ensures (at_layouts (6 ∷ []) ListView (λ l. l) refl c.layout-layout.result c.in-ListView.in-ListView-own.keys7))
+equal_values-returns-in-ListView t c = c.equal-in-ListView.ensures ∙ by_layout c.requires ListView (layout_is c.layout-layout.ensures (at_layouts (6 ∷ []) ListView (λ l. l) refl c.layout-layout.result c.in-ListView.in-ListView-own.keys7))
 
 pub equal_values-returns-in-FixedList : goal.equal_values-returns-in-FixedList
-equal_values-returns-in-FixedList t c = c.equal-in-FixedList.ensures ∙ by_layout c.requires FixedList (layout_is c.code.ensures c.layout-layout.ensures (at_layouts (7 ∷ []) FixedList (λ l. l) refl c.layout-layout.result c.in-FixedList.in-FixedList-own.keys8))
+equal_values-returns-in-FixedList t c = c.equal-in-FixedList.ensures ∙ by_layout c.requires FixedList (layout_is c.layout-layout.ensures (at_layouts (7 ∷ []) FixedList (λ l. l) refl c.layout-layout.result c.in-FixedList.in-FixedList-own.keys8))
 
 pub equal_values-returns-in-Struct : goal.equal_values-returns-in-Struct
-equal_values-returns-in-Struct t c = c.equal-in-Struct.ensures ∙ by_layout c.requires Struct (layout_is c.code.ensures c.layout-layout.ensures (at_layouts (8 ∷ []) Struct (λ l. l) refl c.layout-layout.result c.in-Struct.in-Struct-own.keys9))
+equal_values-returns-in-Struct t c = c.equal-in-Struct.ensures ∙ by_layout c.requires Struct (layout_is c.layout-layout.ensures (at_layouts (8 ∷ []) Struct (λ l. l) refl c.layout-layout.result c.in-Struct.in-Struct-own.keys9))
 
 pub equal_values-returns-in-DenseUnion : goal.equal_values-returns-in-DenseUnion
-equal_values-returns-in-DenseUnion t c = c.dense.ensures ∙ by_layout c.requires DenseUnion (layout_is c.code.ensures c.layout-layout.ensures (at_layouts (9 ∷ []) DenseUnion (λ l. l) refl c.layout-layout.result c.in-DenseUnion.in-DenseUnion-own.keys10))
+equal_values-returns-in-DenseUnion t c = c.dense.ensures ∙ by_layout c.requires DenseUnion (layout_is c.layout-layout.ensures (at_layouts (9 ∷ []) DenseUnion (λ l. l) refl c.layout-layout.result c.in-DenseUnion.in-DenseUnion-own.keys10))
 
 pub equal_values-returns-in-SparseUnion : goal.equal_values-returns-in-SparseUnion
-equal_values-returns-in-SparseUnion t c = c.sparse.ensures ∙ by_layout c.requires SparseUnion (layout_is c.code.ensures c.layout-layout.ensures (at_layouts (10 ∷ []) SparseUnion (λ l. l) refl c.layout-layout.result c.in-SparseUnion.in-SparseUnion-own.keys11))
+equal_values-returns-in-SparseUnion t c = c.sparse.ensures ∙ by_layout c.requires SparseUnion (layout_is c.layout-layout.ensures (at_layouts (10 ∷ []) SparseUnion (λ l. l) refl c.layout-layout.result c.in-SparseUnion.in-SparseUnion-own.keys11))
 
 pub equal_values-returns-in-Dictionary : goal.equal_values-returns-in-Dictionary
-equal_values-returns-in-Dictionary t c = c.equal-in-Dictionary.ensures ∙ by_layout c.requires Dictionary (layout_is c.code.ensures c.layout-layout.ensures (at_layouts (11 ∷ []) Dictionary (λ l. l) refl c.layout-layout.result c.in-Dictionary.in-Dictionary-own.keys12))
+equal_values-returns-in-Dictionary t c = c.equal-in-Dictionary.ensures ∙ by_layout c.requires Dictionary (layout_is c.layout-layout.ensures (at_layouts (11 ∷ []) Dictionary (λ l. l) refl c.layout-layout.result c.in-Dictionary.in-Dictionary-own.keys12))
 
 pub equal_values-returns-in-Runs : goal.equal_values-returns-in-Runs
-equal_values-returns-in-Runs t c = c.equal-in-Runs.ensures ∙ by_layout c.requires Runs (layout_is c.code.ensures c.layout-layout.ensures (at_layouts (12 ∷ []) Runs (λ l. l) refl c.layout-layout.result c.in-Runs.in-Runs-own.keys13))
+equal_values-returns-in-Runs t c = c.equal-in-Runs.ensures ∙ by_layout c.requires Runs (layout_is c.layout-layout.ensures (at_layouts (12 ∷ []) Runs (λ l. l) refl c.layout-layout.result c.in-Runs.in-Runs-own.keys13))
 
 pub run::equal-returns-then-n-eq0 : goal.run::equal-returns-then-n-eq0
 run::equal-returns-then-n-eq0 t c = rows_done (rows_none _ _ _ _ _) (omega (arith, c.if-n-eq0.true))
@@ -193,23 +193,26 @@ run::equal-returns-then-not-equal_row t c =
     step_fail c.requires.parts c.requires.layout c.runs.invariant.1.0 c.runs-test.true refl refl c.runs.invariant.1.1 (sym same ∙ c.if-not-equal_row.true)
 
 pub equal_row-leaf_equal-requires : goal.equal_row-leaf_equal-requires
-equal_row-leaf_equal-requires t c = record { sides = range_sides c.requires.sides (λ z. omega (arith, c.if-depth-gt0.true)); leaves = rw c.in-Some.is at c.requires.leaves }
+equal_row-leaf_equal-requires t c = record { sides = range_once c.requires.sides (λ z. omega (arith, c.if-depth-gt0.true)); leaves = rw c.in-Some.is at c.requires.leaves }
+
+pub equal_row-returns-in-Some : goal.equal_row-returns-in-Some
+equal_row-returns-in-Some t c = c.leaf_equal.ensures (c.args.depth - 1) ∙ range_rows c.requires.sides (λ z. omega (arith, c.if-depth-gt0.true))
 
 pub dictionary::equal-leaves_of-leaves-requires : goal.dictionary::equal-leaves_of-leaves-requires
 dictionary::equal-leaves_of-leaves-requires t c = rw c.child-child.ensures.same (key_nodes c.requires.parts c.requires.layout (add-zero _) (add-zero _))
 
 pub dictionary::equal-equal_row-requires : goal.dictionary::equal-equal_row-requires
-dictionary::equal-equal_row-requires t c = (search rules, (rw c.child-child.ensures.same (key_requires c.requires.parts c.requires.layout c.loop-k.k c.loop-k-test.true (add-zero _) (add-zero _) (element_from c.args.pair.now.left c.numbers-left.result _ (c.numbers-left.ensures.width ∙ c.element_width-width.ensures) c.numbers-left.ensures.bytes c.numbers-left.ensures.place c.at-x.ensures) (element_from c.args.pair.now.right c.numbers-right.result _ (c.numbers-right.ensures.width ∙ (c.element_width-width.ensures ∙ widths_same c.requires.parts)) c.numbers-right.ensures.bytes c.numbers-right.ensures.place c.at-y.ensures)), c.leaves_of-leaves.ensures))
+dictionary::equal-equal_row-requires t c = (search rules, (rw c.child-child.ensures.same (key_requires c.requires.parts c.requires.layout c.loop-k.k c.loop-k-test.true (add-zero _) (add-zero _) (left_key c.new-keys.ensures c.at-x.ensures) (right_key c.new-keys.ensures (widths_same c.requires.parts) c.at-x.ensures)), c.leaves_of-leaves.ensures))
 
 pub dictionary::equal-returns-then-not-equal_row : goal.dictionary::equal-returns-then-not-equal_row
 dictionary::equal-returns-then-not-equal_row t c =
     let same = rw c.child-child.ensures.same at c.equal_row.ensures in
-    rows_fail c.loop-k.invariant c.loop-k-test.true (sym (key_answer c.requires.parts c.requires.layout c.loop-k.k c.loop-k-test.true (add-zero _) (add-zero _) (element_from c.args.pair.now.left c.numbers-left.result _ (c.numbers-left.ensures.width ∙ c.element_width-width.ensures) c.numbers-left.ensures.bytes c.numbers-left.ensures.place c.at-x.ensures) (element_from c.args.pair.now.right c.numbers-right.result _ (c.numbers-right.ensures.width ∙ (c.element_width-width.ensures ∙ widths_same c.requires.parts)) c.numbers-right.ensures.bytes c.numbers-right.ensures.place c.at-y.ensures)) ∙ sym same ∙ c.if-not-equal_row.true)
+    rows_fail c.loop-k.invariant c.loop-k-test.true (sym (key_answer c.requires.parts c.requires.layout c.loop-k.k c.loop-k-test.true (add-zero _) (add-zero _) (left_key c.new-keys.ensures c.at-x.ensures) (right_key c.new-keys.ensures (widths_same c.requires.parts) c.at-x.ensures)) ∙ sym same ∙ c.if-not-equal_row.true)
 
 pub dictionary::equal-loop-k-preserved : goal.dictionary::equal-loop-k-preserved
 dictionary::equal-loop-k-preserved t c =
     let same = rw c.child-child.ensures.same at c.equal_row.ensures in
-    rows_more c.loop-k.invariant c.loop-k-test.true (sym (key_answer c.requires.parts c.requires.layout c.loop-k.k c.loop-k-test.true (add-zero _) (add-zero _) (element_from c.args.pair.now.left c.numbers-left.result _ (c.numbers-left.ensures.width ∙ c.element_width-width.ensures) c.numbers-left.ensures.bytes c.numbers-left.ensures.place c.at-x.ensures) (element_from c.args.pair.now.right c.numbers-right.result _ (c.numbers-right.ensures.width ∙ (c.element_width-width.ensures ∙ widths_same c.requires.parts)) c.numbers-right.ensures.bytes c.numbers-right.ensures.place c.at-y.ensures)) ∙ sym same ∙ c.if-not-equal_row.false)
+    rows_more c.loop-k.invariant c.loop-k-test.true (sym (key_answer c.requires.parts c.requires.layout c.loop-k.k c.loop-k-test.true (add-zero _) (add-zero _) (left_key c.new-keys.ensures c.at-x.ensures) (right_key c.new-keys.ensures (widths_same c.requires.parts) c.at-x.ensures)) ∙ sym same ∙ c.if-not-equal_row.false)
 
 pub dictionary::equal-returns : goal.dictionary::equal-returns
 dictionary::equal-returns t c = rows_done c.loop-k.invariant c.loop-k-test.false
@@ -221,18 +224,18 @@ pub dictionary::long_equal-loop-row-init : goal.dictionary::long_equal-loop-row-
 dictionary::long_equal-loop-row-init t c = (kept_none _ _, rows_none _ _ _ _ _)
 
 pub dictionary::long_equal-equal_row-requires : goal.dictionary::long_equal-equal_row-requires
-dictionary::long_equal-equal_row-requires t c = (search rules, (rw c.child-child.ensures.same (key_requires c.requires.parts c.requires.layout c.loop-row.row c.loop-row-test.true (add-zero _) (add-zero _) (element_from c.args.pair.now.left c.numbers-left.result _ (c.numbers-left.ensures.width ∙ c.element_width-width.ensures) c.numbers-left.ensures.bytes c.numbers-left.ensures.place c.at-x.ensures) (element_from c.args.pair.now.right c.numbers-right.result _ (c.numbers-right.ensures.width ∙ (c.element_width-width.ensures ∙ widths_same c.requires.parts)) c.numbers-right.ensures.bytes c.numbers-right.ensures.place c.at-y.ensures)), c.leaves_of-leaves.ensures))
+dictionary::long_equal-equal_row-requires t c = (search rules, (rw c.child-child.ensures.same (key_requires c.requires.parts c.requires.layout c.loop-row.row c.loop-row-test.true (add-zero _) (add-zero _) (left_key c.new-keys.ensures c.at-x.ensures) (right_key c.new-keys.ensures (widths_same c.requires.parts) c.at-x.ensures)), c.leaves_of-leaves.ensures))
 
 pub dictionary::long_equal-returns-then-not-equal_row : goal.dictionary::long_equal-returns-then-not-equal_row
 dictionary::long_equal-returns-then-not-equal_row t c =
     let same = rw c.child-child.ensures.same at c.equal_row.ensures in
-    rows_fail c.loop-row.invariant.1 c.loop-row-test.true (sym (key_answer c.requires.parts c.requires.layout c.loop-row.row c.loop-row-test.true (add-zero _) (add-zero _) (element_from c.args.pair.now.left c.numbers-left.result _ (c.numbers-left.ensures.width ∙ c.element_width-width.ensures) c.numbers-left.ensures.bytes c.numbers-left.ensures.place c.at-x.ensures) (element_from c.args.pair.now.right c.numbers-right.result _ (c.numbers-right.ensures.width ∙ (c.element_width-width.ensures ∙ widths_same c.requires.parts)) c.numbers-right.ensures.bytes c.numbers-right.ensures.place c.at-y.ensures)) ∙ sym same ∙ c.if-not-equal_row.true)
+    rows_fail c.loop-row.invariant.1 c.loop-row-test.true (sym (key_answer c.requires.parts c.requires.layout c.loop-row.row c.loop-row-test.true (add-zero _) (add-zero _) (left_key c.new-keys.ensures c.at-x.ensures) (right_key c.new-keys.ensures (widths_same c.requires.parts) c.at-x.ensures)) ∙ sym same ∙ c.if-not-equal_row.true)
 
-pub dictionary::long_equal-overflow_mul-keys : goal.dictionary::long_equal-overflow_mul-keys
-dictionary::long_equal-overflow_mul-keys t c = omega (arith, key_small c.requires.parts c.requires.layout c.loop-row.row c.loop-row-test.true (add-zero _) (add-zero _) (element_from c.args.pair.now.left c.numbers-left.result _ (c.numbers-left.ensures.width ∙ c.element_width-width.ensures) c.numbers-left.ensures.bytes c.numbers-left.ensures.place c.at-x.ensures) (element_from c.args.pair.now.right c.numbers-right.result _ (c.numbers-right.ensures.width ∙ (c.element_width-width.ensures ∙ widths_same c.requires.parts)) c.numbers-right.ensures.bytes c.numbers-right.ensures.place c.at-y.ensures))
+pub dictionary::long_equal-overflow_cast-both : goal.dictionary::long_equal-overflow_cast-both
+dictionary::long_equal-overflow_cast-both t c = omega (arith, key_small c.requires.parts c.requires.layout c.loop-row.row c.loop-row-test.true (add-zero _) (add-zero _) (left_key c.new-keys.ensures c.at-x.ensures) (right_key c.new-keys.ensures (widths_same c.requires.parts) c.at-x.ensures))
 
-pub dictionary::long_equal-overflow_add-keys : goal.dictionary::long_equal-overflow_add-keys
-dictionary::long_equal-overflow_add-keys t c = omega (arith, key_small c.requires.parts c.requires.layout c.loop-row.row c.loop-row-test.true (add-zero _) (add-zero _) (element_from c.args.pair.now.left c.numbers-left.result _ (c.numbers-left.ensures.width ∙ c.element_width-width.ensures) c.numbers-left.ensures.bytes c.numbers-left.ensures.place c.at-x.ensures) (element_from c.args.pair.now.right c.numbers-right.result _ (c.numbers-right.ensures.width ∙ (c.element_width-width.ensures ∙ widths_same c.requires.parts)) c.numbers-right.ensures.bytes c.numbers-right.ensures.place c.at-y.ensures))
+pub dictionary::long_equal-overflow_cast-both-in-loop-row : goal.dictionary::long_equal-overflow_cast-both-in-loop-row
+dictionary::long_equal-overflow_cast-both-in-loop-row t c = omega (arith, key_small c.requires.parts c.requires.layout c.loop-row.row c.loop-row-test.true (add-zero _) (add-zero _) (left_key c.new-keys.ensures c.at-x.ensures) (right_key c.new-keys.ensures (widths_same c.requires.parts) c.at-x.ensures))
 
 pub dictionary::long_equal-returns : goal.dictionary::long_equal-returns
 dictionary::long_equal-returns t c = rows_done c.loop-row.invariant.1 c.loop-row-test.false
@@ -243,10 +246,10 @@ dictionary::long_equal-loop-row-preserved t c =
       | dictionary::long_equal-then-ne+else-not-equal_row w ↦
           let same = rw c.child-child.ensures.same at w.equal_row.ensures in
           rw w.kept-is
-          (kept_more c.loop-row.invariant.0 _ _ (omega (arith, key_small c.requires.parts c.requires.layout c.loop-row.row c.loop-row-test.true (add-zero _) (add-zero _) (element_from c.args.pair.now.left c.numbers-left.result _ (c.numbers-left.ensures.width ∙ c.element_width-width.ensures) c.numbers-left.ensures.bytes c.numbers-left.ensures.place c.at-x.ensures) (element_from c.args.pair.now.right c.numbers-right.result _ (c.numbers-right.ensures.width ∙ (c.element_width-width.ensures ∙ widths_same c.requires.parts)) c.numbers-right.ensures.bytes c.numbers-right.ensures.place c.at-y.ensures))) (sym (one_row _ _ _ _) ∙ sym same ∙ w.if-not-equal_row.false), rows_more c.loop-row.invariant.1 c.loop-row-test.true (sym (key_answer c.requires.parts c.requires.layout c.loop-row.row c.loop-row-test.true (add-zero _) (add-zero _) (element_from c.args.pair.now.left c.numbers-left.result _ (c.numbers-left.ensures.width ∙ c.element_width-width.ensures) c.numbers-left.ensures.bytes c.numbers-left.ensures.place c.at-x.ensures) (element_from c.args.pair.now.right c.numbers-right.result _ (c.numbers-right.ensures.width ∙ (c.element_width-width.ensures ∙ widths_same c.requires.parts)) c.numbers-right.ensures.bytes c.numbers-right.ensures.place c.at-y.ensures)) ∙ sym same ∙ w.if-not-equal_row.false))
+          (kept_more c.loop-row.invariant.0 _ _ (sym (one_row _ _ _ _) ∙ sym same ∙ w.if-not-equal_row.false), rows_more c.loop-row.invariant.1 c.loop-row-test.true (sym (key_answer c.requires.parts c.requires.layout c.loop-row.row c.loop-row-test.true (add-zero _) (add-zero _) (left_key c.new-keys.ensures c.at-x.ensures) (right_key c.new-keys.ensures (widths_same c.requires.parts) c.at-x.ensures)) ∙ sym same ∙ w.if-not-equal_row.false))
       | dictionary::long_equal-else-ne w ↦
           rw w.kept-is
-          (c.loop-row.invariant.0, rows_more c.loop-row.invariant.1 c.loop-row-test.true (sym (key_same c.requires.parts c.requires.layout c.loop-row.row c.loop-row-test.true (add-zero _) (add-zero _) (element_from c.args.pair.now.left c.numbers-left.result _ (c.numbers-left.ensures.width ∙ c.element_width-width.ensures) c.numbers-left.ensures.bytes c.numbers-left.ensures.place c.at-x.ensures) (element_from c.args.pair.now.right c.numbers-right.result _ (c.numbers-right.ensures.width ∙ (c.element_width-width.ensures ∙ widths_same c.requires.parts)) c.numbers-right.ensures.bytes c.numbers-right.ensures.place c.at-y.ensures)) ∙ kept_equal c.loop-row.invariant.0 _ _ (omega (arith, key_small c.requires.parts c.requires.layout c.loop-row.row c.loop-row-test.true (add-zero _) (add-zero _) (element_from c.args.pair.now.left c.numbers-left.result _ (c.numbers-left.ensures.width ∙ c.element_width-width.ensures) c.numbers-left.ensures.bytes c.numbers-left.ensures.place c.at-x.ensures) (element_from c.args.pair.now.right c.numbers-right.result _ (c.numbers-right.ensures.width ∙ (c.element_width-width.ensures ∙ widths_same c.requires.parts)) c.numbers-right.ensures.bytes c.numbers-right.ensures.place c.at-y.ensures))) c.ne.ensures w.if-ne.false))
+          (c.loop-row.invariant.0, rows_more c.loop-row.invariant.1 c.loop-row-test.true (sym (key_same c.requires.parts c.requires.layout c.loop-row.row c.loop-row-test.true (add-zero _) (add-zero _) (left_key c.new-keys.ensures c.at-x.ensures) (right_key c.new-keys.ensures (widths_same c.requires.parts) c.at-x.ensures)) ∙ kept_equal c.loop-row.invariant.0 _ _ c.ne.ensures w.if-ne.false))
     ]
 
 pub fixed_list::equal-equal_range-requires : goal.fixed_list::equal-equal_range-requires
@@ -332,46 +335,40 @@ run::equal-at-y-requires t c = end_nth c.ends-right.ensures (omega (arith, run_s
 pub union::dense-overflow_add-ib : goal.union::dense-overflow_add-ib
 union::dense-overflow_add-ib t c = omega (arith, part_small c.requires.parts.left, part_small c.requires.parts.right, c.loop-k-test.true, c.buffer_place-ia.ensures.small, c.buffer_place-ib.ensures.small)
 
-pub union::dense-returns-then-id-byte : goal.union::dense-returns-then-id-byte
-union::dense-returns-then-id-byte t c = rows_fail c.loop-k.invariant c.loop-k-test.true (dense_differs c.requires.parts c.requires.layout c.loop-k.k c.loop-k-test.true (id_read _ _ _ c.buffer_place-ia.ensures c.byte-id.ensures) (id_read _ _ _ c.buffer_place-ib.ensures c.byte.ensures) c.if-id-byte.true)
-
 pub union::dense-returns-in_default : goal.union::dense-returns-in_default
-union::dense-returns-in_default t c = absurd (dense_never c.requires.parts c.requires.layout c.loop-k.k c.loop-k-test.true (id_read _ _ _ c.buffer_place-ia.ensures c.byte-id.ensures) (id_read _ _ _ c.buffer_place-ib.ensures c.byte.ensures) c.in_default.ensures)
+union::dense-returns-in_default t c = rows_fail c.loop-k.invariant c.loop-k-test.true (dense_fails c.requires.parts c.requires.layout c.loop-k.k c.loop-k-test.true (id_at _ _ _ c.buffer_place-ia.ensures) (id_at _ _ _ c.buffer_place-ib.ensures) c.in_default.ensures)
 
 pub union::dense-equal_range-requires : goal.union::dense-equal_range-requires
-union::dense-equal_range-requires t c = (search rules, rw c.in-Some.ensures.same (dense_child c.requires.parts c.requires.layout c.loop-k.k c.loop-k-test.true (id_read _ _ _ c.buffer_place-ia.ensures c.byte-id.ensures) (id_read _ _ _ c.buffer_place-ib.ensures c.byte.ensures) c.if-id-byte.false (dense_from c.args.pair.now.left c.numbers-left.result _ c.numbers-left.ensures.width c.numbers-left.ensures.bytes c.numbers-left.ensures.place c.at.ensures) (dense_from c.args.pair.now.right c.numbers-right.result _ c.numbers-right.ensures.width c.numbers-right.ensures.bytes c.numbers-right.ensures.place c.at-in-loop-k.ensures)))
+union::dense-equal_range-requires t c = (search rules, rw c.in-Some.ensures.named.same (dense_child c.requires.parts c.requires.layout c.loop-k.k c.loop-k-test.true (id_at _ _ _ c.buffer_place-ia.ensures) (id_at _ _ _ c.buffer_place-ib.ensures) c.in-Some.ensures.ids (dense_from c.args.pair.now.left c.numbers-left.result _ c.numbers-left.ensures.width c.numbers-left.ensures.bytes c.numbers-left.ensures.place c.at.ensures) (dense_from c.args.pair.now.right c.numbers-right.result _ c.numbers-right.ensures.width c.numbers-right.ensures.bytes c.numbers-right.ensures.place c.at-in-loop-k.ensures)))
 
 pub union::dense-loop-k-preserved : goal.union::dense-loop-k-preserved
 union::dense-loop-k-preserved t c =
-    let same = rw c.in-Some.ensures.same at c.equal_range.ensures in
-    rows_more c.loop-k.invariant c.loop-k-test.true (sym (dense_row_lem c.requires.parts c.requires.layout c.loop-k.k c.loop-k-test.true (id_read _ _ _ c.buffer_place-ia.ensures c.byte-id.ensures) (id_read _ _ _ c.buffer_place-ib.ensures c.byte.ensures) c.if-id-byte.false (dense_from c.args.pair.now.left c.numbers-left.result _ c.numbers-left.ensures.width c.numbers-left.ensures.bytes c.numbers-left.ensures.place c.at.ensures) (dense_from c.args.pair.now.right c.numbers-right.result _ c.numbers-right.ensures.width c.numbers-right.ensures.bytes c.numbers-right.ensures.place c.at-in-loop-k.ensures)) ∙ sym same ∙ c.if-not-equal_range.false)
+    let same = rw c.in-Some.ensures.named.same at c.equal_range.ensures in
+    rows_more c.loop-k.invariant c.loop-k-test.true (sym (dense_row_lem c.requires.parts c.requires.layout c.loop-k.k c.loop-k-test.true (id_at _ _ _ c.buffer_place-ia.ensures) (id_at _ _ _ c.buffer_place-ib.ensures) c.in-Some.ensures.ids (dense_from c.args.pair.now.left c.numbers-left.result _ c.numbers-left.ensures.width c.numbers-left.ensures.bytes c.numbers-left.ensures.place c.at.ensures) (dense_from c.args.pair.now.right c.numbers-right.result _ c.numbers-right.ensures.width c.numbers-right.ensures.bytes c.numbers-right.ensures.place c.at-in-loop-k.ensures)) ∙ sym same ∙ c.if-not-equal_range.false)
 
 pub union::dense-returns-then-not-equal_range : goal.union::dense-returns-then-not-equal_range
 union::dense-returns-then-not-equal_range t c =
-    let same = rw c.in-Some.ensures.same at c.equal_range.ensures in
-    rows_fail c.loop-k.invariant c.loop-k-test.true (sym (dense_row_lem c.requires.parts c.requires.layout c.loop-k.k c.loop-k-test.true (id_read _ _ _ c.buffer_place-ia.ensures c.byte-id.ensures) (id_read _ _ _ c.buffer_place-ib.ensures c.byte.ensures) c.if-id-byte.false (dense_from c.args.pair.now.left c.numbers-left.result _ c.numbers-left.ensures.width c.numbers-left.ensures.bytes c.numbers-left.ensures.place c.at.ensures) (dense_from c.args.pair.now.right c.numbers-right.result _ c.numbers-right.ensures.width c.numbers-right.ensures.bytes c.numbers-right.ensures.place c.at-in-loop-k.ensures)) ∙ sym same ∙ c.if-not-equal_range.true)
+    let same = rw c.in-Some.ensures.named.same at c.equal_range.ensures in
+    rows_fail c.loop-k.invariant c.loop-k-test.true (sym (dense_row_lem c.requires.parts c.requires.layout c.loop-k.k c.loop-k-test.true (id_at _ _ _ c.buffer_place-ia.ensures) (id_at _ _ _ c.buffer_place-ib.ensures) c.in-Some.ensures.ids (dense_from c.args.pair.now.left c.numbers-left.result _ c.numbers-left.ensures.width c.numbers-left.ensures.bytes c.numbers-left.ensures.place c.at.ensures) (dense_from c.args.pair.now.right c.numbers-right.result _ c.numbers-right.ensures.width c.numbers-right.ensures.bytes c.numbers-right.ensures.place c.at-in-loop-k.ensures)) ∙ sym same ∙ c.if-not-equal_range.true)
 
 pub union::dense-returns : goal.union::dense-returns
 union::dense-returns t c = rows_done c.loop-k.invariant c.loop-k-test.false
 
-pub union::block-returns-then-type_id-byte : goal.union::block-returns-then-type_id-byte
-union::block-returns-then-type_id-byte t c = rows_fail c.loop-k.invariant c.loop-k-test.true (sparse_differs c.requires.parts c.requires.layout c.loop-k.k c.loop-k-test.true (id_read _ _ _ c.buffer_place-ia.ensures c.byte-type_id.ensures) (id_read _ _ _ c.buffer_place-ib.ensures c.byte.ensures) c.if-type_id-byte.true)
-
 pub union::block-returns-in_default : goal.union::block-returns-in_default
-union::block-returns-in_default t c = absurd (sparse_never c.requires.parts c.requires.layout c.loop-k.k c.loop-k-test.true (id_read _ _ _ c.buffer_place-ia.ensures c.byte-type_id.ensures) (id_read _ _ _ c.buffer_place-ib.ensures c.byte.ensures) c.in_default.ensures)
+union::block-returns-in_default t c = rows_fail c.loop-k.invariant c.loop-k-test.true (sparse_fails c.requires.parts c.requires.layout c.loop-k.k c.loop-k-test.true (id_at _ _ _ c.buffer_place-ia.ensures) (id_at _ _ _ c.buffer_place-ib.ensures) c.in_default.ensures)
 
 pub union::block-equal_range-requires : goal.union::block-equal_range-requires
-union::block-equal_range-requires t c = (search rules, rw (c.part.ensures, c.in-Some.ensures.same) (sparse_child c.requires.parts c.requires.layout c.loop-k.k c.loop-k-test.true (id_read _ _ _ c.buffer_place-ia.ensures c.byte-type_id.ensures) (id_read _ _ _ c.buffer_place-ib.ensures c.byte.ensures) c.if-type_id-byte.false))
+union::block-equal_range-requires t c = (search rules, rw (c.part.ensures, c.in-Some.ensures.named.same) (sparse_child c.requires.parts c.requires.layout c.loop-k.k c.loop-k-test.true (id_at _ _ _ c.buffer_place-ia.ensures) (id_at _ _ _ c.buffer_place-ib.ensures) c.in-Some.ensures.ids))
 
 pub union::block-loop-k-preserved : goal.union::block-loop-k-preserved
 union::block-loop-k-preserved t c =
-    let same = rw (c.part.ensures, c.in-Some.ensures.same) at c.equal_range.ensures in
-    rows_more c.loop-k.invariant c.loop-k-test.true (sym (sparse_row_lem c.requires.parts c.requires.layout c.loop-k.k c.loop-k-test.true (id_read _ _ _ c.buffer_place-ia.ensures c.byte-type_id.ensures) (id_read _ _ _ c.buffer_place-ib.ensures c.byte.ensures) c.if-type_id-byte.false) ∙ sym same ∙ c.if-not-equal_range.false)
+    let same = rw (c.part.ensures, c.in-Some.ensures.named.same) at c.equal_range.ensures in
+    rows_more c.loop-k.invariant c.loop-k-test.true (sym (sparse_row_lem c.requires.parts c.requires.layout c.loop-k.k c.loop-k-test.true (id_at _ _ _ c.buffer_place-ia.ensures) (id_at _ _ _ c.buffer_place-ib.ensures) c.in-Some.ensures.ids) ∙ sym same ∙ c.if-not-equal_range.false)
 
 pub union::block-returns-then-not-equal_range : goal.union::block-returns-then-not-equal_range
 union::block-returns-then-not-equal_range t c =
-    let same = rw (c.part.ensures, c.in-Some.ensures.same) at c.equal_range.ensures in
-    rows_fail c.loop-k.invariant c.loop-k-test.true (sym (sparse_row_lem c.requires.parts c.requires.layout c.loop-k.k c.loop-k-test.true (id_read _ _ _ c.buffer_place-ia.ensures c.byte-type_id.ensures) (id_read _ _ _ c.buffer_place-ib.ensures c.byte.ensures) c.if-type_id-byte.false) ∙ sym same ∙ c.if-not-equal_range.true)
+    let same = rw (c.part.ensures, c.in-Some.ensures.named.same) at c.equal_range.ensures in
+    rows_fail c.loop-k.invariant c.loop-k-test.true (sym (sparse_row_lem c.requires.parts c.requires.layout c.loop-k.k c.loop-k-test.true (id_at _ _ _ c.buffer_place-ia.ensures) (id_at _ _ _ c.buffer_place-ib.ensures) c.in-Some.ensures.ids) ∙ sym same ∙ c.if-not-equal_range.true)
 
 pub union::block-returns : goal.union::block-returns
 union::block-returns t c = rows_done c.loop-k.invariant c.loop-k-test.false

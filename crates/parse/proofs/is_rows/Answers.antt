@@ -1,20 +1,24 @@
 -- `is_rows` scans so many rows of the root.
 -- They are all of the string where nothing is left of it.
+use mathlib.Core.Path.{sym}
 use native.Mathlib.Omega.{arith}
 use Rattle.parse.proofs.Whole.{root_within, begun_first, none_answer, some_answer, whole_spans}
 use Rattle.parse.proofs.is_rows.Goals as goal
 
-pub scan_rows-requires : goal.scan_rows-requires
-scan_rows-requires c = (root_within _ c.requires.accepted.0, begun_first _ _ (omega (arith, c.well_formed.1.1.0.1)) c.requires.spans)
+pub invariant_of-scan : goal.invariant_of-scan
+invariant_of-scan c = record { begun = begun_first _ _ (omega (arith, c.well_formed)) c.requires.spans }
+
+pub rows-requires : goal.rows-requires
+rows-requires c = rw (c.root-root.ensures.image, c.root-root.ensures.number) (root_within _ c.requires.accepted.0)
 
 pub returns-in-Some-clause-value : goal.returns-in-Some-clause-value
-returns-in-Some-clause-value c = rw c.is_empty.ensures (some_answer _ _ _ (rw c.in-Some.is at c.scan_rows.ensures))
+returns-in-Some-clause-value c = rw c.is_empty.ensures (some_answer _ _ _ (rw (c.root-root.ensures.image, c.root-root.ensures.number, c.in-Some.is) at c.rows.ensures.scans))
 
 pub returns-in-Some-clause-spanned : goal.returns-in-Some-clause-spanned
-returns-in-Some-clause-spanned c = whole_spans _ _ _ c.scan_rows.ensures c.requires.accepted.0 c.requires.accepted.1 (λ k. omega (arith, c.type_inv.b k)) c.requires.spans
+returns-in-Some-clause-spanned c = rw (c.spans-1.given.1.1 (sym c.rows.ensures.same)) (whole_spans _ _ _ (rw (c.root-root.ensures.image, c.root-root.ensures.number) at c.rows.ensures.scans) c.requires.accepted.0 c.requires.accepted.1 (λ k. omega (arith, c.type_inv.b k)) c.requires.spans)
 
 pub returns-in-None-clause-value : goal.returns-in-None-clause-value
-returns-in-None-clause-value c = none_answer _ _ _ (rw c.in-None.is at c.scan_rows.ensures)
+returns-in-None-clause-value c = none_answer _ _ _ (rw (c.root-root.ensures.image, c.root-root.ensures.number, c.in-None.is) at c.rows.ensures.scans)
 
 pub returns-in-None-clause-spanned : goal.returns-in-None-clause-spanned
-returns-in-None-clause-spanned c = whole_spans _ _ _ c.scan_rows.ensures c.requires.accepted.0 c.requires.accepted.1 (λ k. omega (arith, c.type_inv.b k)) c.requires.spans
+returns-in-None-clause-spanned c = rw (c.spans-in-None-1.given.1.1 (sym c.rows.ensures.same)) (whole_spans _ _ _ (rw (c.root-root.ensures.image, c.root-root.ensures.number) at c.rows.ensures.scans) c.requires.accepted.0 c.requires.accepted.1 (λ k. omega (arith, c.type_inv.b k)) c.requires.spans)

@@ -53,11 +53,11 @@ returns-then-fault_10 c = rw (← c.fault_10.ensures, c.if-fault_10.true)
 
 pub returns-in-Some : goal.returns-in-Some
 unfolding check_image
-returns-in-Some c = rw (← c.fault_10.ensures, c.if-fault_10.false) (found c.loop-number.invariant.0 c.loop-number-test.true (rw c.in-Some.is at c.first_faulty.ensures))
+returns-in-Some c = rw (← c.fault_10.ensures, c.if-fault_10.false) (found c.loop-number.invariant.0 c.loop-number-test.true (rw (c.in-Some.is, c.start-start.ensures.image) at c.first_faulty.ensures))
 
 pub loop-number-preserved : goal.loop-number-preserved
 loop-number-preserved c =
-    let none = not_found _ _ _ c.first_faulty.ensures c.in_default.not-Some in
+    let none = not_found _ _ _ (rw c.start-start.ensures.image at c.first_faulty.ensures) c.in_default.not-Some in
     (left_more c.loop-number.invariant.0 c.loop-number-test.true none, none_more c.loop-number.invariant.1 none, omega arith)
 
 pub returns : goal.returns

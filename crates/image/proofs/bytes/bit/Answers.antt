@@ -5,12 +5,9 @@ use Rattle.image.specs.Bytes.{bit_at}
 use native.Mathlib.Omega.{arith}
 use Rattle.image.proofs.bytes.bit.Goals as goal
 
-pub returns-then-n-place : goal.returns-then-n-place
-returns-then-n-place c = bit_past c.args.s.now c.args.place c.args.j (omega arith)
-
-pub returns-then-n-place-2 : goal.returns-then-n-place-2
-returns-then-n-place-2 c = bit_past c.args.s.now c.args.place c.args.j (omega arith)
+pub returns-in_default : goal.returns-in_default
+returns-in_default c = bit_past c.args.s.now c.args.place c.args.j (omega (arith, c.in_default.ensures, c.well_formed))
 
 pub returns : goal.returns
 unfolding bit_at
-returns c = rw c.from-x.ensures
+returns c = rw (c.from.ensures, c.byte.ensures.value, c.in-Some.ensures.1)

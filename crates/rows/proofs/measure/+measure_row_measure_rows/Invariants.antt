@@ -15,10 +15,10 @@ abbrev pub decreases-measure_rows : goal.decreases-measure_rows
 decreases-measure_rows l = 2 * l.depth + 1
 
 abbrev pub invariant-measure_row-loop-c : goal.invariant-measure_row-loop-c
-invariant-measure_row-loop-c l = Below l.depth l.column.node.image.now l.rows × (PiecesToMeasure (child_bytes (row_at (l.depth - 1) l.column.node.image.now) l.rows) l.rows.child l.rows.parts l.initial.left l.left l.c × Remembered l.column.node.image.now l.runs)
+invariant-measure_row-loop-c l = Below l.depth l.cursor.column.now.node.image.now l.rows × (PiecesToMeasure (child_bytes (row_at (l.depth - 1) l.cursor.column.now.node.image.now) l.rows) l.rows.child l.rows.parts l.initial.left l.left l.c × Remembered l.cursor.column.now.node.image.now l.runs)
 
-abbrev pub invariant-measure_rows-loop-k : goal.invariant-measure_rows-loop-k
-invariant-measure_rows-loop-k l = Measuring l.depth l.column.node.image.now l.column.node.number l.column l.i l.n l.room l.run l.left l.k × Remembered l.column.node.image.now l.runs
+abbrev pub invariant-measure_rows-loop-cursor : goal.invariant-measure_rows-loop-cursor
+invariant-measure_rows-loop-cursor l = Measuring l.depth l.node l.i l.n l.room l.left l.cursor × Remembered l.node.image.now l.runs
 
-abbrev pub decreases-measure_rows-loop-k : goal.decreases-measure_rows-loop-k
-decreases-measure_rows-loop-k l = l.n - l.k
+abbrev pub decreases-measure_rows-loop-cursor : goal.decreases-measure_rows-loop-cursor
+decreases-measure_rows-loop-cursor l = l.i + l.n - l.cursor.row

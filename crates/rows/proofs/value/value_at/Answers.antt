@@ -10,5 +10,5 @@ use Rattle.rows.proofs.value.value_at.Goals as goal
 
 pub returns-in-Runs : goal.returns-in-Runs
 returns-in-Runs c =
-    let runs : layout_of (code_of c.args.node.image.now c.args.node.number) ≡ Runs = layout_is c.code.ensures c.layout-layout.ensures (sym c.in-Runs.is) in
+    let runs : layout_of (code_of c.args.node.image.now c.args.node.number) ≡ Runs = layout_is c.layout-layout.ensures (sym c.in-Runs.is) in
     rw (runs, ← kept_run_lem _ _ _ (layout_runs _ _ runs), ← c.requires.run_value) c.run_value.ensures

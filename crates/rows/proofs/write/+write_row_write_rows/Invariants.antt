@@ -16,10 +16,10 @@ abbrev pub decreases-write_rows : goal.decreases-write_rows
 decreases-write_rows l = 2 * l.depth + 1
 
 abbrev pub invariant-write_row-loop-c : goal.invariant-write_row-loop-c
-invariant-write_row-loop-c l = (l.out.bytes.ghost_name ≡ l.fn.out.bytes.ghost_name) × (Below l.depth l.column.node.image.now l.rows × (PiecesToPut (child_bytes (row_at (l.depth - 1) l.column.node.image.now) l.rows) l.rows.child l.rows.parts l.initial.out.bytes.now l.initial.out.at l.out.bytes.now l.out.at l.c × Remembered l.column.node.image.now l.runs))
+invariant-write_row-loop-c l = (l.out.bytes.ghost_name ≡ l.fn.out.bytes.ghost_name) × (Below l.depth l.cursor.column.now.node.image.now l.rows × (PiecesToPut (child_bytes (row_at (l.depth - 1) l.cursor.column.now.node.image.now) l.rows) l.rows.child l.rows.parts l.initial.out.bytes.now l.initial.out.at l.out.bytes.now l.out.at l.c × Remembered l.cursor.column.now.node.image.now l.runs))
 
-abbrev pub invariant-write_rows-loop-k : goal.invariant-write_rows-loop-k
-invariant-write_rows-loop-k l = (l.out.bytes.ghost_name ≡ l.fn.out.bytes.ghost_name) × (Writing l.depth l.column.node.image.now l.column.node.number l.column l.i l.n l.fn.out.bytes.now l.fn.out.at l.out.bytes.now l.run l.out.at l.k × Remembered l.column.node.image.now l.runs)
+abbrev pub invariant-write_rows-loop-cursor : goal.invariant-write_rows-loop-cursor
+invariant-write_rows-loop-cursor l = (l.out.bytes.ghost_name ≡ l.fn.out.bytes.ghost_name) × (Writing l.depth l.node l.i l.n l.fn.out.bytes.now l.fn.out.at l.out.bytes.now l.out.at l.cursor × Remembered l.node.image.now l.runs)
 
-abbrev pub decreases-write_rows-loop-k : goal.decreases-write_rows-loop-k
-decreases-write_rows-loop-k l = l.n - l.k
+abbrev pub decreases-write_rows-loop-cursor : goal.decreases-write_rows-loop-cursor
+decreases-write_rows-loop-cursor l = l.i + l.n - l.cursor.row

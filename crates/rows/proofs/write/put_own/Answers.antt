@@ -17,5 +17,6 @@ put_bytes-requires c = omega (arith, own_fits _ c.requires, number_at _ _ c.put_
 pub returns : goal.returns
 returns c =
     let p = c.put_bytes.ensures in
-    let both = own_put _ c.requires (c.put_number.ensures.at, c.put_number.ensures.bytes) (c.put_number-2.ensures.at, c.put_number-2.ensures.bytes) (p.at, p.bytes) in
+    let mark = rw c.from.ensures at c.put_number.ensures in
+    let both = own_put _ c.requires (mark.at, mark.bytes) (c.put_number-2.ensures.at, c.put_number-2.ensures.bytes) (p.at, p.bytes) in
     record { lent = p.lent ∙ c.put_number-2.ensures.lent ∙ c.put_number.ensures.lent; long = p.long ∙ c.put_number-2.ensures.long ∙ c.put_number.ensures.long; at = both.0; bytes = both.1 }

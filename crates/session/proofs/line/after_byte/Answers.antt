@@ -1,13 +1,23 @@
 -- The next byte begins past one space, if something follows it.
 -- By how many characters are left, and whether the first is a space.
-use Rattle.session.proofs.Lines.{next_none, next_space, next_other}
+use mathlib.Core.Path.{sym, ◌∙◌}
+use native.Mathlib.Omega.{arith}
+use borrow.Author.Rules.{rules}
+use borrow.Author.Tests.{eqb-true, eqb-false}
+use lib.ListN.{length-take, length-drop}
+use Rattle.session.proofs.Lines.{next_few, next_space, next_other}
 use Rattle.session.proofs.line.after_byte.Goals as goal
 
-pub returns-then-line-at-lt2 : goal.returns-then-line-at-lt2
-returns-then-line-at-lt2 c = next_none _ _ c.requires c.if-line-at-lt2.true
+pub returns-in-32 : goal.returns-in-32
+returns-in-32 c = next_space _ c.in-32.len_at_least (search rules) (omega (arith, eqb-false _ _ (sym c.is_empty.ensures ∙ c.if-not-is_empty.true)))
 
-pub returns-then-line-at-eq-SPACE : goal.returns-then-line-at-eq-SPACE
-returns-then-line-at-eq-SPACE c = next_space _ _ c.if-line-at-lt2.false c.if-line-at-eq-SPACE.true
+pub returns-in_default : goal.returns-in_default
+returns-in_default c = next_few _ (omega (arith, c.in_default.len_below))
 
-pub returns : goal.returns
-returns c = next_other _ _ c.if-line-at-lt2.false c.if-line-at-eq-SPACE.false
+pub returns-in_default-2 : goal.returns-in_default-2
+returns-in_default-2 c =
+    let none = eqb-true _ _ (sym c.is_empty.ensures ∙ c.if-not-is_empty.false) in
+    next_few _ (omega (arith, simp (length-take, length-drop) at none, c.in-32.len_at_least))
+
+pub returns-in_default-3 : goal.returns-in_default-3
+returns-in_default-3 c = next_other _ c.in_default.len_at_least (search rules)

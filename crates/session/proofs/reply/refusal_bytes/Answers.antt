@@ -1,7 +1,8 @@
 -- The bytes of a refusal stand at the front: its number, and what follows it.
 -- By the refusal's variants.
-use Rattle.session.proofs.Texts.{puts, number_then, alone}
+use Rattle.session.proofs.Texts.{puts, number_then, number_side, alone}
 use Rattle.image.specs.Bytes.{number_bytes}
+use borrow.Author.Rules.{rules}
 use mathlib.Core.List.{[], ◌∷◌}
 use mathlib.Core.Path.{◌∙◌}
 use native.Mathlib.Omega.{arith}
@@ -14,7 +15,7 @@ returns-in-Faulty c =
     (number_then c.number.result c.in-Faulty.fault.node c.args.bytes.now _ (omega arith) (c.copy_from_slice.ensures.after ∙ c.to_le_bytes.ensures))
 
 pub returns-in-OutOfRange : goal.returns-in-OutOfRange
-returns-in-OutOfRange c = rw (← c.number.ensures, c.in-OutOfRange.is, ← c.side_number.ensures) (puts c.args.bytes.now (c.number.result ∷ c.side_number.result ∷ []) (omega arith))
+returns-in-OutOfRange c = rw (← c.number.ensures, c.in-OutOfRange.is) (number_side c.number.result c.args.bytes.now c.in-OutOfRange.side (omega arith) (search rules))
 
 pub returns-in_default : goal.returns-in_default
 returns-in_default c = rw (← c.number.ensures, alone c.args.refusal c.in_default.not-Faulty c.in_default.not-OutOfRange) (puts c.args.bytes.now (c.number.result ∷ []) (omega arith))

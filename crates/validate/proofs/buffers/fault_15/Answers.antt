@@ -7,6 +7,6 @@ pub returns-then-bitmap_under : goal.returns-then-bitmap_under
 unfolding fault15
 returns-then-bitmap_under c = rw (← c.bitmap_under.ensures, c.if-bitmap_under.true)
 
-pub returns : goal.returns
+pub returns-else-bitmap_under : goal.returns-else-bitmap_under
 unfolding fault15
-returns c = rw (← c.bitmap_under.ensures, c.if-bitmap_under.false, ← c.elements.ensures.value) c.any_under.ensures
+returns-else-bitmap_under c = rw (← c.bitmap_under.ensures, c.if-bitmap_under.false, ← c.elements.ensures.value) c.any_under.ensures

@@ -33,19 +33,19 @@ pub returns-in-FixedList : goal.returns-in-FixedList
 unfolding fault16
 returns-in-FixedList c =
     let rows = rw (c.child.ensures.image, c.child.ensures.number, add-zero) at c.length.ensures.value in
-    rw (← c.code.ensures.value, ← c.layout-layout.ensures) (c.is_under.ensures ∙ rw (rows, c.elements.ensures.value, c.p1.ensures.value) (fixed _ _ c.layout-layout.result c.in-FixedList.in-FixedList-own.keys1))
+    rw (← c.layout.ensures) (c.is_under.ensures ∙ rw (rows, c.elements.ensures.value, c.p1.ensures.value) (fixed _ _ c.layout.result c.in-FixedList.in-FixedList-own.keys1))
 
 pub returns-in-Struct : goal.returns-in-Struct
 unfolding fault16
-returns-in-Struct c = rw (← c.code.ensures.value, ← c.layout-layout.ensures) (c.child_under.ensures ∙ rw c.elements-in-Struct.ensures.value (parts _ _ c.layout-layout.result c.in-Struct.in-Struct-own.keys2))
+returns-in-Struct c = rw (← c.layout.ensures) (c.child_under.ensures ∙ rw c.elements-in-Struct.ensures.value (parts _ _ c.layout.result c.in-Struct.in-Struct-own.keys2))
 
 pub returns-in-Runs : goal.returns-in-Runs
 unfolding fault16
 returns-in-Runs c =
     let ends = rw (c.child-in-Runs.ensures.image, c.child-in-Runs.ensures.number, add-zero) at c.length-in-Runs.ensures.value in
     let values = rw (c.child-in-Runs-2.ensures.image, c.child-in-Runs-2.ensures.number) at c.length-in-Runs-2.ensures.value in
-    rw (← c.code.ensures.value, ← c.layout-layout.ensures, ends, values) (runs _ _ c.layout-layout.result c.in-Runs.in-Runs-own.keys3)
+    rw (← c.layout.ensures, ends, values) (runs _ _ c.layout.result c.in-Runs.in-Runs-own.keys3)
 
 pub returns-in_default : goal.returns-in_default
 unfolding fault16
-returns-in_default c = rw (← c.code.ensures.value, ← c.layout-layout.ensures) (none _ _ c.layout-layout.result (opened c.in_default.in_default-own.keys4))
+returns-in_default c = rw (← c.layout.ensures) (none _ _ c.layout.result (opened c.in_default.in_default-own.keys4))

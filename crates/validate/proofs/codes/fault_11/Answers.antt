@@ -20,10 +20,10 @@ pub returns-then-not-p2_fits : goal.returns-then-not-p2_fits
 unfolding fault11
 returns-then-not-p2_fits c = rw (← c.code-c.ensures.value, le-ltb _ _ c.if-c-gt-RUN_END_ENCODED.false, ← c.flags.ensures.value, le-ltb _ _ c.if-flags-gt-KNOWN_FLAGS.false, ← c.p1.ensures.value, ← c.p1_fits.ensures, c.if-not-p1_fits.false, ← c.p2.ensures.value, ← c.p2_fits.ensures, c.if-not-p2_fits.true)
 
-pub returns-then-not-has_bitmap : goal.returns-then-not-has_bitmap
+pub returns-then-has_bitmap : goal.returns-then-has_bitmap
 unfolding fault11
-returns-then-not-has_bitmap c = rw (← c.code-c.ensures.value, le-ltb _ _ c.if-c-gt-RUN_END_ENCODED.false, ← c.flags.ensures.value, le-ltb _ _ c.if-flags-gt-KNOWN_FLAGS.false, ← c.p1.ensures.value, ← c.p1_fits.ensures, c.if-not-p1_fits.false, ← c.p2.ensures.value, ← c.p2_fits.ensures, c.if-not-p2_fits.false, ← c.has_bitmap.ensures, c.if-not-has_bitmap.true)
+returns-then-has_bitmap c = rw (← c.code-c.ensures.value, le-ltb _ _ c.if-c-gt-RUN_END_ENCODED.false, ← c.flags.ensures.value, le-ltb _ _ c.if-flags-gt-KNOWN_FLAGS.false, ← c.p1.ensures.value, ← c.p1_fits.ensures, c.if-not-p1_fits.false, ← c.p2.ensures.value, ← c.p2_fits.ensures, c.if-not-p2_fits.false, ← c.has_bitmap.ensures, c.if-has_bitmap.true, ← c.takes_bitmap.ensures)
 
-pub returns : goal.returns
+pub returns-else-has_bitmap : goal.returns-else-has_bitmap
 unfolding fault11
-returns c = rw (← c.code-c.ensures.value, le-ltb _ _ c.if-c-gt-RUN_END_ENCODED.false, ← c.flags.ensures.value, le-ltb _ _ c.if-flags-gt-KNOWN_FLAGS.false, ← c.p1.ensures.value, ← c.p1_fits.ensures, c.if-not-p1_fits.false, ← c.p2.ensures.value, ← c.p2_fits.ensures, c.if-not-p2_fits.false, ← c.has_bitmap.ensures, c.if-not-has_bitmap.false, ← c.takes_bitmap.ensures)
+returns-else-has_bitmap c = rw (← c.code-c.ensures.value, le-ltb _ _ c.if-c-gt-RUN_END_ENCODED.false, ← c.flags.ensures.value, le-ltb _ _ c.if-flags-gt-KNOWN_FLAGS.false, ← c.p1.ensures.value, ← c.p1_fits.ensures, c.if-not-p1_fits.false, ← c.p2.ensures.value, ← c.p2_fits.ensures, c.if-not-p2_fits.false, ← c.has_bitmap.ensures, c.if-has_bitmap.false)

@@ -8,10 +8,10 @@ pub returns-then-len-gt-LONGEST_NAME : goal.returns-then-len-gt-LONGEST_NAME
 unfolding fault13
 returns-then-len-gt-LONGEST_NAME c = rw (← c.name_length-len.ensures.value, lt-ltb _ _ c.if-len-gt-LONGEST_NAME.true)
 
-pub returns-then-len-eq0 : goal.returns-then-len-eq0
+pub returns-then-len-ne0 : goal.returns-then-len-ne0
 unfolding fault13
-returns-then-len-eq0 c = rw (← c.name_length-len.ensures.value, le-ltb _ _ c.if-len-gt-LONGEST_NAME.false, eq-eqb _ _ c.if-len-eq0.true)
+returns-then-len-ne0 c = rw (← c.name_length-len.ensures.value, le-ltb _ _ c.if-len-gt-LONGEST_NAME.false, ne_eqb _ _ c.if-len-ne0.true, ← c.name_place.ensures.value) c.is_outside.ensures
 
-pub returns : goal.returns
+pub returns-else-len-ne0 : goal.returns-else-len-ne0
 unfolding fault13
-returns c = rw (← c.name_length-len.ensures.value, le-ltb _ _ c.if-len-gt-LONGEST_NAME.false, ne_eqb _ _ c.if-len-eq0.false, ← c.name_place.ensures.value) c.is_outside.ensures
+returns-else-len-ne0 c = rw (← c.name_length-len.ensures.value, le-ltb _ _ c.if-len-gt-LONGEST_NAME.false, eq-eqb _ _ c.if-len-ne0.false)

@@ -42,10 +42,10 @@ unfolding elements_of
 inside-requires c = number_inside c.args.node c.numbers-offsets.result 1 _ c.requires.1 c.numbers-offsets.ensures.width c.numbers-offsets.ensures.bytes c.numbers-offsets.ensures.place.value (omega (arith, c.offset-from.ensures.value, c.length-i-end.ensures.value))
 
 pub returns-then-length-inside : goal.returns-then-length-inside
-returns-then-length-inside c = rw (← c.length-i-end.ensures.value) (any_found _ _ _ _ c.loop-i-test.true c.loop-i.invariant (child-row (record { by_id = c.children_by_id-children.ensures; place = c.numbers-ids.ensures.place.value; start = c.offset-from.ensures.value }) _ (rw (c.numbers-ids.ensures.bytes, c.numbers-ids.ensures.width) at c.inside-id.ensures) c.in-Some.is c.numbers-offsets.ensures.place.value c.length.ensures.value (rw (c.numbers-offsets.ensures.bytes, c.numbers-offsets.ensures.width) at c.inside.ensures.value) ∙ le-leb _ _ c.if-length-inside.true))
+returns-then-length-inside c = rw (← c.length-i-end.ensures.value) (any_found _ _ _ _ c.loop-i-test.true c.loop-i.invariant (child-row (record { by_id = c.children_by_id-children.ensures; place = c.numbers-ids.ensures.place.value; start = c.offset-from.ensures.value }) _ (rw (c.numbers-ids.ensures.bytes, c.numbers-ids.ensures.width) at c.inside-id.ensures) c.in-Some.is c.numbers-offsets.ensures.place.value (rw (c.other.ensures.image, c.other.ensures.number) at c.length.ensures.value) (rw (c.numbers-offsets.ensures.bytes, c.numbers-offsets.ensures.width) at c.inside.ensures.value) ∙ le-leb _ _ c.if-length-inside.true))
 
 pub loop-i-preserved : goal.loop-i-preserved
-loop-i-preserved c = any_more _ _ _ _ c.loop-i-test.true c.loop-i.invariant (child-row (record { by_id = c.children_by_id-children.ensures; place = c.numbers-ids.ensures.place.value; start = c.offset-from.ensures.value }) _ (rw (c.numbers-ids.ensures.bytes, c.numbers-ids.ensures.width) at c.inside-id.ensures) c.in-Some.is c.numbers-offsets.ensures.place.value c.length.ensures.value (rw (c.numbers-offsets.ensures.bytes, c.numbers-offsets.ensures.width) at c.inside.ensures.value) ∙ lt-leb _ _ c.if-length-inside.false)
+loop-i-preserved c = any_more _ _ _ _ c.loop-i-test.true c.loop-i.invariant (child-row (record { by_id = c.children_by_id-children.ensures; place = c.numbers-ids.ensures.place.value; start = c.offset-from.ensures.value }) _ (rw (c.numbers-ids.ensures.bytes, c.numbers-ids.ensures.width) at c.inside-id.ensures) c.in-Some.is c.numbers-offsets.ensures.place.value (rw (c.other.ensures.image, c.other.ensures.number) at c.length.ensures.value) (rw (c.numbers-offsets.ensures.bytes, c.numbers-offsets.ensures.width) at c.inside.ensures.value) ∙ lt-leb _ _ c.if-length-inside.false)
 
 pub returns : goal.returns
 returns c = rw (← c.length-i-end.ensures.value) (any_done _ _ _ _ c.loop-i-test.false c.loop-i.invariant)

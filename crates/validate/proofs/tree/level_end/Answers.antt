@@ -22,4 +22,4 @@ unfolding level_end
 loop-d-init c = (refl, omega arith)
 
 pub loop-d-preserved : goal.loop-d-preserved
-loop-d-preserved c = (level-more _ _ c.loop-d.invariant.0 c.requires.0 c.child_start.ensures.value c.min-end.ensures, omega (arith, at_most _ _ _ c.min-end.ensures, c.requires.1))
+loop-d-preserved c = (level-more _ _ c.loop-d.invariant.0 c.node_count-n.ensures.value c.child_start.ensures.value c.min-end.ensures, omega (arith, at_most _ _ _ c.min-end.ensures, c.node_count-n.ensures.small))

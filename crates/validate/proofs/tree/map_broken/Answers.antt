@@ -8,12 +8,12 @@ use Rattle.validate.proofs.tree.map_broken.Goals as goal
 pub returns-then-code-ne-STRUCT : goal.returns-then-code-ne-STRUCT
 unfolding map_entries
 returns-then-code-ne-STRUCT c =
-    let code = rw (c.child-entries.ensures.image, c.child-entries.ensures.number, add-zero) at c.code-2.ensures.value in
-    rw (← c.code.ensures.value, eq-eqb _ _ c.if-code-ne-MAP.false, ← code, ne_eqb _ _ c.if-code-ne-STRUCT.true)
+    let code = rw (c.child-entries.ensures.image, c.child-entries.ensures.number, add-zero) at c.code-then-code-eq-MAP.ensures.value in
+    rw (← c.code.ensures.value, eq-eqb _ _ c.if-code-eq-MAP.true, ← code, ne_eqb _ _ c.if-code-ne-STRUCT.true)
 
-pub returns : goal.returns
+pub returns-else-code-ne-STRUCT : goal.returns-else-code-ne-STRUCT
 unfolding map_entries
-returns c =
-    let code = rw (c.child-entries.ensures.image, c.child-entries.ensures.number, add-zero) at c.code-2.ensures.value in
+returns-else-code-ne-STRUCT c =
+    let code = rw (c.child-entries.ensures.image, c.child-entries.ensures.number, add-zero) at c.code-then-code-eq-MAP.ensures.value in
     let count = rw (c.child-entries.ensures.image, c.child-entries.ensures.number, add-zero) at c.child_count.ensures.value in
-    rw (← c.code.ensures.value, eq-eqb _ _ c.if-code-ne-MAP.false, ← code, eq-eqb _ _ c.if-code-ne-STRUCT.false, ← count)
+    rw (← c.code.ensures.value, eq-eqb _ _ c.if-code-eq-MAP.true, ← code, eq-eqb _ _ c.if-code-ne-STRUCT.false, ← count)

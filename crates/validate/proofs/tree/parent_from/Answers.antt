@@ -4,4 +4,4 @@ use Rattle.validate.proofs.Parents.{passed_more}
 use Rattle.validate.proofs.tree.parent_from.Goals as goal
 
 pub loop-parent-preserved : goal.loop-parent-preserved
-loop-parent-preserved c = passed_more _ c.loop-parent.invariant c.loop-parent-test.true c.if-node-end.false c.child_count.ensures
+loop-parent-preserved c = passed_more _ c.loop-parent.invariant c.loop-parent-test.true c.if-node-end.false (rw (c.other.ensures.image, c.other.ensures.number) at c.child_count.ensures)

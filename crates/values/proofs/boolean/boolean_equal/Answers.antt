@@ -8,4 +8,6 @@ use Rattle.values.proofs.FirstUnequal.{unequal_rows, says_none}
 use Rattle.values.proofs.boolean.boolean_equal.Goals as goal
 
 pub returns : goal.returns
-returns c = says_none c.is_none.ensures ∙ unequal_rows _ _ _ _ _ (c.first_unequal_bit.ensures ∙ ap (λ f. then_some (ltb f c.args.rows.count) f) (boolean_rows _ _ _ _ _ _ _ c.buffer_place.ensures.value c.buffer_place-2.ensures.value refl))
+returns c =
+    let first = rw (c.bits_from-left.ensures.same, c.bits_from-right.ensures.same) at c.first_unequal_bit.ensures in
+    says_none c.is_none.ensures ∙ unequal_rows _ _ _ _ _ (first ∙ ap (λ f. then_some (ltb f c.args.rows.count) f) (boolean_rows _ _ _ _ _ _ _ refl refl refl))

@@ -32,7 +32,7 @@ pub slice_bounds-eq-end-in-Fixed : goal.slice_bounds-eq-end-in-Fixed
 slice_bounds-eq-end-in-Fixed c = let inside = fixed_right c.requires.sides (rw c.in-Fixed.is at c.requires.leaves) in omega (arith, inside)
 
 pub returns-in-Fixed : goal.returns-in-Fixed
-returns-in-Fixed c = let leaves = rw c.in-Fixed.is at c.requires.leaves in c.eq.ensures ∙ parts_same _ _ _ _ _ _ (fixed_left c.requires.sides leaves) (fixed_right c.requires.sides leaves) ∙ fixed_rows c.requires.sides leaves
+returns-in-Fixed c = let leaves = rw c.in-Fixed.is at c.requires.leaves in λ depth. c.eq.ensures ∙ parts_same _ _ _ _ _ _ (fixed_left c.requires.sides leaves) (fixed_right c.requires.sides leaves) ∙ fixed_rows c.requires.sides leaves depth
 
 pub at-from-requires : goal.at-from-requires
 at-from-requires c = let leaves = rw c.in-Texts.is at c.requires.leaves in left_nth c.requires.sides leaves _ (omega arith)
@@ -59,7 +59,7 @@ pub overflow_sub-at : goal.overflow_sub-at
 overflow_sub-at c = let leaves = rw c.in-Texts.is at c.requires.leaves in (right_read c.requires.sides leaves c.at-start.ensures c.at-in-Texts.ensures).up
 
 pub returns-then-at-start : goal.returns-then-at-start
-returns-then-at-start c = let leaves = rw c.in-Texts.is at c.requires.leaves in let left = left_read c.requires.sides leaves c.at-from.ensures c.at.ensures in let right = right_read c.requires.sides leaves c.at-start.ensures c.at-in-Texts.ensures in text_differs c.requires.sides leaves left right c.if-at-start.true
+returns-then-at-start c = let leaves = rw c.in-Texts.is at c.requires.leaves in let left = left_read c.requires.sides leaves c.at-from.ensures c.at.ensures in let right = right_read c.requires.sides leaves c.at-start.ensures c.at-in-Texts.ensures in λ depth. text_differs c.requires.sides leaves depth left right c.if-at-start.true
 
 pub overflow_add-x-in-Texts : goal.overflow_add-x-in-Texts
 overflow_add-x-in-Texts c = let leaves = rw c.in-Texts.is at c.requires.leaves in let left = left_read c.requires.sides leaves c.at-from.ensures c.at.ensures in let right = right_read c.requires.sides leaves c.at-start.ensures c.at-in-Texts.ensures in omega (arith, left.up, left.inside, right.up, right.inside, c.if-at-start.false)
@@ -80,4 +80,4 @@ pub slice_bounds-eq-end-in-Texts-2 : goal.slice_bounds-eq-end-in-Texts-2
 slice_bounds-eq-end-in-Texts-2 c = let leaves = rw c.in-Texts.is at c.requires.leaves in let left = left_read c.requires.sides leaves c.at-from.ensures c.at.ensures in let right = right_read c.requires.sides leaves c.at-start.ensures c.at-in-Texts.ensures in omega (arith, left.up, left.inside, right.up, right.inside, c.if-at-start.false)
 
 pub returns-else-at-start : goal.returns-else-at-start
-returns-else-at-start c = let leaves = rw c.in-Texts.is at c.requires.leaves in let left = left_read c.requires.sides leaves c.at-from.ensures c.at.ensures in let right = right_read c.requires.sides leaves c.at-start.ensures c.at-in-Texts.ensures in c.eq-in-Texts.ensures ∙ parts_same _ _ _ _ _ _ (omega (arith, left.up, left.inside)) (omega (arith, right.up, right.inside, c.if-at-start.false)) ∙ text_same c.requires.sides leaves left right c.if-at-start.false
+returns-else-at-start c = let leaves = rw c.in-Texts.is at c.requires.leaves in let left = left_read c.requires.sides leaves c.at-from.ensures c.at.ensures in let right = right_read c.requires.sides leaves c.at-start.ensures c.at-in-Texts.ensures in λ depth. c.eq-in-Texts.ensures ∙ parts_same _ _ _ _ _ _ (omega (arith, left.up, left.inside)) (omega (arith, right.up, right.inside, c.if-at-start.false)) ∙ text_same c.requires.sides leaves depth left right c.if-at-start.false

@@ -14,10 +14,10 @@ pub each_block-requires-clause-near : goal.each_block-requires-clause-near
 each_block-requires-clause-near c = omega (arith, side_small _ _ _ _ c.requires.left, side_small _ _ _ _ c.requires.right)
 
 pub each_block-requires-clause-tested : goal.each_block-requires-clause-tested
-each_block-requires-clause-tested c = λ k n le small _ _ _ _ _. masked_part c.requires _ _ le
+each_block-requires-clause-tested c = λ k n le small _ _ _ _. masked_part c.requires _ _ le
 
 pub returns : goal.returns
 returns c =
-    c.each_block.ensures (same_row (masked_row fixed_row c.args.pair.left.image.now c.args.pair.left.number) (masked_row fixed_row c.args.pair.right.image.now c.args.pair.right.number))
+    c.each_block.ensures (same_row (masked_row fixed_row c.args.pair.now.left.image.now c.args.pair.now.left.number) (masked_row fixed_row c.args.pair.now.right.image.now c.args.pair.now.right.number))
     (λ k n b le small told. search rules ∙ sym (by_rows _ _ _ _ _))
     ∙ by_rows _ _ _ _ _

@@ -1,53 +1,29 @@
 -- The answer is whether name, flag and id agree, each where it counts.
--- By the tests before it, each passed in one of two ways, and what the readers give.
-use mathlib.Core.Path.{◌≡◌}
-use mathlib.Core.Bool.{true, not, beq, ◌||◌}
-use borrow.Author.Tests.{not-true, not-false}
-use Rattle.image.specs.Record.{nullable}
+-- Each by its test, and by what the readers give.
+use mathlib.Core.Path.{◌≡◌, refl}
+use mathlib.Core.Bool.{not, beq, ◌||◌}
+use lib.Dec.{eqb}
+use Rattle.image.specs.Record.{nullable, id_of}
 use Rattle.image.specs.Types.{labels_agree, name_of, same_bytes}
 use Rattle.values.proofs.types.labels_equal.Goals as goal
-use Rattle.values.proofs.types.labels_equal.Goals.{else-counted-via-then-counted+else-not-name_is, else-counted-via-else-counted, else-counted-2-via-then-counted-2+else-is_nullable, else-counted-2-via-else-counted-2}
+use Rattle.values.proofs.types.labels_equal.Goals.{then-not-counted, else-not-counted, then-not-counted-2, else-not-counted-2, then-not-counted-3, else-not-counted-3}
 
-pub returns-then-not-name_is : goal.returns-then-not-name_is
+pub returns : goal.returns
 unfolding labels_agree name_of
-returns-then-not-name_is c = rw (c.if-counted.true, ← c.name_place.ensures.value, ← c.name_length.ensures.value, ← c.name_is.ensures, c.if-not-name_is.true)
-
-pub returns-then-is_nullable : goal.returns-then-is_nullable
-unfolding labels_agree name_of
-returns-then-is_nullable c =
-    let name : (not c.args.counted.name || same_bytes (name_of c.args.pair.left.image.now c.args.pair.left.number) (name_of c.args.pair.right.image.now c.args.pair.right.number)) ≡ true =
-    elim c.else-counted.branch [
-      | else-counted-via-then-counted+else-not-name_is w ↦ rw (w.if-counted.true, ← w.name_place.ensures.value, ← w.name_length.ensures.value, ← w.name_is.ensures, w.if-not-name_is.false)
-      | else-counted-via-else-counted w ↦ rw w.if-counted.false
+returns c =
+    let name : c.if-not-counted.name ≡ (not c.args.counted.name || same_bytes (name_of c.args.pair.left.image.now c.args.pair.left.number) (name_of c.args.pair.right.image.now c.args.pair.right.number)) =
+    elim c.if-not-counted.branch [
+      | then-not-counted w ↦ rw (w.name-is, w.if-not-counted.true) refl
+      | else-not-counted w ↦ rw (w.name-is, w.if-not-counted.false, ← w.name_place.ensures.value, ← w.name_length.ensures.value) w.name_is-name.ensures
     ] in
-    rw (name, c.if-counted-2.true, ← c.is_nullable.ensures, ← c.is_nullable-then-counted-2.ensures, not-true _ c.if-is_nullable.true)
-
-pub returns-then-not-counted : goal.returns-then-not-counted
-unfolding labels_agree name_of
-returns-then-not-counted c =
-    let name : (not c.args.counted.name || same_bytes (name_of c.args.pair.left.image.now c.args.pair.left.number) (name_of c.args.pair.right.image.now c.args.pair.right.number)) ≡ true =
-    elim c.else-counted.branch [
-      | else-counted-via-then-counted+else-not-name_is w ↦ rw (w.if-counted.true, ← w.name_place.ensures.value, ← w.name_length.ensures.value, ← w.name_is.ensures, w.if-not-name_is.false)
-      | else-counted-via-else-counted w ↦ rw w.if-counted.false
+    let flag : c.if-not-counted-2.flag ≡ (not c.args.counted.flag || beq (nullable c.args.pair.left.image.now c.args.pair.left.number) (nullable c.args.pair.right.image.now c.args.pair.right.number)) =
+    elim c.if-not-counted-2.branch [
+      | then-not-counted-2 w ↦ rw (w.flag-is, w.if-not-counted-2.true) refl
+      | else-not-counted-2 w ↦ rw (w.flag-is, w.if-not-counted-2.false, ← w.is_nullable.ensures, ← w.is_nullable-else-not-counted-2.ensures) refl
     ] in
-    let flag : (not c.args.counted.flag || beq (nullable c.args.pair.left.image.now c.args.pair.left.number) (nullable c.args.pair.right.image.now c.args.pair.right.number)) ≡ true =
-    elim c.else-counted-2.branch [
-      | else-counted-2-via-then-counted-2+else-is_nullable w ↦ rw (w.if-counted-2.true, ← w.is_nullable.ensures, ← w.is_nullable-then-counted-2.ensures, not-false _ w.if-is_nullable.false)
-      | else-counted-2-via-else-counted-2 w ↦ rw w.if-counted-2.false
+    let id : c.if-not-counted-3.id ≡ (not c.args.counted.id || eqb (id_of c.args.pair.left.image.now c.args.pair.left.number) (id_of c.args.pair.right.image.now c.args.pair.right.number)) =
+    elim c.if-not-counted-3.branch [
+      | then-not-counted-3 w ↦ rw (w.id-is, w.if-not-counted-3.true) refl
+      | else-not-counted-3 w ↦ rw (w.id-is, w.if-not-counted-3.false, ← w.type_id.ensures.value, ← w.type_id-else-not-counted-3.ensures.value) refl
     ] in
-    rw (name, flag, not-true _ c.if-not-counted.true)
-
-pub returns-else-not-counted : goal.returns-else-not-counted
-unfolding labels_agree name_of
-returns-else-not-counted c =
-    let name : (not c.args.counted.name || same_bytes (name_of c.args.pair.left.image.now c.args.pair.left.number) (name_of c.args.pair.right.image.now c.args.pair.right.number)) ≡ true =
-    elim c.else-counted.branch [
-      | else-counted-via-then-counted+else-not-name_is w ↦ rw (w.if-counted.true, ← w.name_place.ensures.value, ← w.name_length.ensures.value, ← w.name_is.ensures, w.if-not-name_is.false)
-      | else-counted-via-else-counted w ↦ rw w.if-counted.false
-    ] in
-    let flag : (not c.args.counted.flag || beq (nullable c.args.pair.left.image.now c.args.pair.left.number) (nullable c.args.pair.right.image.now c.args.pair.right.number)) ≡ true =
-    elim c.else-counted-2.branch [
-      | else-counted-2-via-then-counted-2+else-is_nullable w ↦ rw (w.if-counted-2.true, ← w.is_nullable.ensures, ← w.is_nullable-then-counted-2.ensures, not-false _ w.if-is_nullable.false)
-      | else-counted-2-via-else-counted-2 w ↦ rw w.if-counted-2.false
-    ] in
-    rw (name, flag, c.if-not-counted.false, ← c.type_id.ensures.value, ← c.type_id-else-not-counted.ensures.value)
+    rw (name, flag, id) refl

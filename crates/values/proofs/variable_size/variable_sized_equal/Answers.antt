@@ -39,7 +39,7 @@ slice_bounds-eq-end-2 c = omega (arith, c.buffer_place.ensures.value, c.buffer_p
 
 pub returns : goal.returns
 returns c =
-    let inside_left : c.buffer_place.result + c.offset_at-from.result + (c.offset_at.result - c.offset_at-from.result) ≤ length c.args.pair.left.image.now = omega (arith, c.buffer_place.ensures.value, c.buffer_place-2.ensures.value, c.offset_at-from.ensures, c.offset_at.ensures, c.offset_at-2.ensures, text_inside _ _ _ _ c.requires.parts.left c.requires.layout, text_up _ _ _ _ c.requires.parts.left c.requires.layout, c.requires.parts.left.image.tables.size, text_inside _ _ _ _ c.requires.parts.right (sym (ap layout_of c.requires.parts.alike.0.code) ∙ c.requires.layout), right_end _ _ _ _ _ _ _ (text_spans c.requires.parts c.requires.layout) (sym c.lengths_equal.ensures ∙ c.if-not-lengths_equal.false), c.requires.parts.right.image.tables.size) in
-    let inside_right : c.buffer_place-2.result + c.offset_at-2.result + (c.offset_at.result - c.offset_at-from.result) ≤ length c.args.pair.right.image.now = omega (arith, c.buffer_place.ensures.value, c.buffer_place-2.ensures.value, c.offset_at-from.ensures, c.offset_at.ensures, c.offset_at-2.ensures, text_inside _ _ _ _ c.requires.parts.left c.requires.layout, text_up _ _ _ _ c.requires.parts.left c.requires.layout, c.requires.parts.left.image.tables.size, text_inside _ _ _ _ c.requires.parts.right (sym (ap layout_of c.requires.parts.alike.0.code) ∙ c.requires.layout), right_end _ _ _ _ _ _ _ (text_spans c.requires.parts c.requires.layout) (sym c.lengths_equal.ensures ∙ c.if-not-lengths_equal.false), c.requires.parts.right.image.tables.size) in
+    let inside_left : c.buffer_place.result + c.offset_at-from.result + (c.offset_at.result - c.offset_at-from.result) ≤ length c.args.pair.now.left.image.now = omega (arith, c.buffer_place.ensures.value, c.buffer_place-2.ensures.value, c.offset_at-from.ensures, c.offset_at.ensures, c.offset_at-2.ensures, text_inside _ _ _ _ c.requires.parts.left c.requires.layout, text_up _ _ _ _ c.requires.parts.left c.requires.layout, c.requires.parts.left.image.tables.size, text_inside _ _ _ _ c.requires.parts.right (sym (ap layout_of c.requires.parts.alike.0.code) ∙ c.requires.layout), right_end _ _ _ _ _ _ _ (text_spans c.requires.parts c.requires.layout) (sym c.lengths_equal.ensures ∙ c.if-not-lengths_equal.false), c.requires.parts.right.image.tables.size) in
+    let inside_right : c.buffer_place-2.result + c.offset_at-2.result + (c.offset_at.result - c.offset_at-from.result) ≤ length c.args.pair.now.right.image.now = omega (arith, c.buffer_place.ensures.value, c.buffer_place-2.ensures.value, c.offset_at-from.ensures, c.offset_at.ensures, c.offset_at-2.ensures, text_inside _ _ _ _ c.requires.parts.left c.requires.layout, text_up _ _ _ _ c.requires.parts.left c.requires.layout, c.requires.parts.left.image.tables.size, text_inside _ _ _ _ c.requires.parts.right (sym (ap layout_of c.requires.parts.alike.0.code) ∙ c.requires.layout), right_end _ _ _ _ _ _ _ (text_spans c.requires.parts c.requires.layout) (sym c.lengths_equal.ensures ∙ c.if-not-lengths_equal.false), c.requires.parts.right.image.tables.size) in
     let same = c.eq.ensures ∙ parts_same _ _ _ _ _ _ inside_left inside_right in
     same ∙ rw (c.buffer_place.ensures.value, c.buffer_place-2.ensures.value, c.offset_at-from.ensures, c.offset_at.ensures, c.offset_at-2.ensures) (texts_block _ _ _ _ _ _ _ _ c.requires.parts c.requires.layout (sym c.lengths_equal.ensures ∙ c.if-not-lengths_equal.false))

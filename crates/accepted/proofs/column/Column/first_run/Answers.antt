@@ -8,13 +8,13 @@ pub overflow_add-j : goal.overflow_add-j
 overflow_add-j c = omega (arith, first_small c.args.self.read c.requires.side)
 
 pub returns-then-is_none : goal.returns-then-is_none
-returns-then-is_none c = first_alone c.requires.side c.args.self.read (read_told c.args.self.read (c.if-is_none.ensures))
+returns-then-is_none c = first_alone c.args.self.read c.requires.side (read_told c.args.self.read (c.if-is_none.ensures))
 
 pub returns-then-kept-j : goal.returns-then-kept-j
-returns-then-kept-j c = first_remembered c.requires.side c.args.self.read c.requires.remembered (read_told c.args.self.read (c.if-is_none.ensures)) c.in-Some.is c.if-kept-j.true
+returns-then-kept-j c = first_remembered c.args.self.read c.requires.side c.requires.remembered (read_told c.args.self.read (c.if-is_none.ensures)) c.in-Some.is c.if-kept-j.true
 
 pub run_of-requires : goal.run_of-requires
 run_of-requires c = first_part c.args.self.read c.requires.side (read_told c.args.self.read (c.if-is_none.ensures))
 
 pub returns : goal.returns
-returns c = first_kept c.requires.side c.args.self.read (read_told c.args.self.read (c.if-is_none.ensures)) c.run_of.ensures
+returns c = first_kept c.args.self.read c.requires.side (read_told c.args.self.read (c.if-is_none.ensures)) c.run_of.ensures

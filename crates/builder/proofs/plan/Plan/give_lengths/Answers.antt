@@ -6,10 +6,10 @@ use native.Mathlib.Omega.{arith}
 use Rattle.builder.proofs.plan.Plan.give_lengths.Goals as goal
 
 pub child_rows-rows-requires : goal.child_rows-rows-requires
-child_rows-rows-requires c = omega (arith, c.loop-k-test.true, c.node_count-k-end.ensures.value, (accepted _ c.requires).tables.few_nodes)
+child_rows-rows-requires c = omega (arith, c.loop-k-test.true, c.node_count-k-end.ensures.value, (accepted _ c.args.self.now.accepted).tables.few_nodes)
 
 pub slice_bounds-fill-end : goal.slice_bounds-fill-end
-slice_bounds-fill-end c = (children_fit (accepted _ c.requires) _ (omega (arith, c.loop-k-test.true, c.node_count-k-end.ensures.value)) c.first_child-first.ensures.value c.child_count.ensures.value (omega (arith, c.well_formed)))
+slice_bounds-fill-end c = (children_fit (accepted _ c.args.self.now.accepted) _ (omega (arith, c.loop-k-test.true, c.node_count-k-end.ensures.value)) c.first_child-first.ensures.value c.child_count.ensures.value (omega (arith, c.well_formed)))
 
 pub loop-k-preserved : goal.loop-k-preserved
-loop-k-preserved c = (c.loop-k.invariant.0, c.loop-k.invariant.1, lengths_more (accepted _ c.requires) _ (omega (arith, c.loop-k-test.true, c.node_count-k-end.ensures.value)) c.loop-k.invariant.2 c.first_child-first.ensures.value c.child_count.ensures.value (rw c.loop-k.invariant.0 at c.child_rows-rows.ensures) (filled_by (children_fit (accepted _ c.requires) _ (omega (arith, c.loop-k-test.true, c.node_count-k-end.ensures.value)) c.first_child-first.ensures.value c.child_count.ensures.value (omega (arith, c.well_formed))) (c.fill.ensures.after (λ y e. e))))
+loop-k-preserved c = (c.loop-k.invariant.0, c.loop-k.invariant.1, c.loop-k.invariant.2, lengths_more (accepted _ c.args.self.now.accepted) _ (omega (arith, c.loop-k-test.true, c.node_count-k-end.ensures.value)) c.loop-k.invariant.3 c.first_child-first.ensures.value c.child_count.ensures.value (rw c.loop-k.invariant.1 at c.child_rows-rows.ensures) (filled_by (children_fit (accepted _ c.args.self.now.accepted) _ (omega (arith, c.loop-k-test.true, c.node_count-k-end.ensures.value)) c.first_child-first.ensures.value c.child_count.ensures.value (omega (arith, c.well_formed))) (c.fill.ensures.after (λ y e. e))))

@@ -1,6 +1,7 @@
 -- `part_size` answers the bytes of a part.
 -- The part of the node says which of the three it is.
 use borrow.Author.Tests.{ne_eqb}
+use Rattle.laws.proofs.Accepted.{accepted}
 use Rattle.builder.specs.Plan.{size_of, part_size}
 use Rattle.builder.proofs.Sizes.{width_most}
 use native.Mathlib.Omega.{arith}
@@ -11,7 +12,7 @@ unfolding part_size size_of
 returns-in-0 c = rw (c.in-0.is, ← c.code-code.ensures.value) c.bitmap_size.ensures
 
 pub first_size-requires : goal.first_size-requires
-first_size-requires c = (rw c.element_width.ensures (width_most _ _ (c.requires.accepted.0.node _ (omega (arith, c.requires.accepted.1))).known), c.requires.q_bound)
+first_size-requires c = (rw c.element_width.ensures (width_most _ _ ((accepted _ c.args.self.now.accepted).node _ (omega (arith, c.requires.part))).known), c.requires.few)
 
 pub returns-in-1 : goal.returns-in-1
 unfolding part_size size_of

@@ -9,4 +9,4 @@ use Rattle.builder.proofs.plan.Plan.too_many.Goals as goal
 
 pub returns : goal.returns
 unfolding too_many
-returns c = rw (c.any_above.ensures, c.node_count.ensures.value) (any_listed (ltb most_elements) c.args.self.now.lengths 0 _ (omega (arith, c.requires, c.well_formed)))
+returns c = rw (c.any_above.ensures, c.node_count.ensures.value) (any_listed (ltb most_elements) c.args.self.now.lengths 0 _ (omega (arith, c.args.self.now.few)))

@@ -1,7 +1,9 @@
 -- `put_list` gives a node a list of n rows.
 -- Its bit is set, and its end stands behind the offsets of the rows before.
+use borrow.Author.Rules.{rules}
 use mathlib.Core.Path.{◌∙◌}
 use native.Mathlib.Omega.{arith}
+use Rattle.fill.proofs.Bytes.{bit_there, bit_over}
 use Rattle.fill.proofs.Parts.{state_sized}
 use Rattle.fill.proofs.Events.{node_small, bit_requires, count_requires, list_end_requires, list_filled}
 use Rattle.fill.proofs.put.Filling.put_list.Goals as goal
@@ -10,13 +12,13 @@ pub spot_of-spot-requires : goal.spot_of-spot-requires
 spot_of-spot-requires c = node_small c.requires.getting
 
 pub set_bit-requires : goal.set_bit-requires
-set_bit-requires c = let both = bit_requires c.requires.getting c.spot_of-spot.ensures (rw c.requires.layout) in record { j_in_bounds = both.0; j_bound = both.1 }
+set_bit-requires c = let both = bit_there _ _ _ (bit_requires c.requires.getting c.spot_of-spot.ensures (rw c.requires.layout)) in record { j_in_bounds = both.0; j_bound = both.1 }
 
 pub put_end-requires : goal.put_end-requires
-put_end-requires c = let both = list_end_requires c.requires.getting c.spot_of-spot.ensures c.requires.layout c.set_bit.ensures in record { row_bound = both.0; node_in_bounds = both.1 }
+put_end-requires c = let both = list_end_requires c.requires.getting c.spot_of-spot.ensures c.requires.layout (bit_over _ _ _ c.set_bit.ensures) in record { row_bound = both.0; node_in_bounds = both.1 }
 
 pub count_row-requires : goal.count_row-requires
 count_row-requires c = count_requires c.requires.getting c.spot_of-spot.ensures
 
-pub returns-clause-filled : goal.returns-clause-filled
-returns-clause-filled c = list_filled c.requires.getting c.spot_of-spot.ensures c.requires.layout (state_sized c.args.self.now (omega (arith, c.well_formed))) c.set_bit.ensures (c.count_row.ensures.out_after ∙ c.put_end.ensures) (c.count_row.ensures.rows_after, c.count_row.ensures.spans_after)
+pub returns : goal.returns
+returns c = record { same = search rules; filled = list_filled c.requires.getting c.spot_of-spot.ensures c.requires.layout (state_sized c.args.self.now (omega (arith, c.well_formed))) (bit_over _ _ _ c.set_bit.ensures) (c.count_row.ensures.out ∙ c.put_end.ensures) (c.count_row.ensures.rows, c.count_row.ensures.spans) }

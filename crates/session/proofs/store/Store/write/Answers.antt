@@ -1,18 +1,24 @@
 -- Rows of a side written: 42 where it is open, else the reply to the write, and the output that it leaves.
--- By the ways of the test.
+-- By whether it is closed, from what the calls give.
+use Rattle.std.proofs.lemmas.Result.{err_from_is_err_and}
 use Rattle.session.specs.Steps.{write_reply, write_out}
+use Rattle.session.specs.Stores.{side_of_store}
+use Rattle.session.proofs.Sides.{is_open, is_closed}
 use mathlib.Core.Path.{◌∙◌, refl}
 use Rattle.session.proofs.store.Store.write.Goals as goal
 
-pub returns-then-not-self : goal.returns-then-not-self
+pub returns-in_err-accepted : goal.returns-in_err-accepted
 unfolding write_reply write_out
-returns-then-not-self c = rw c.if-not-self.true (record { value = refl; out_after = refl })
+returns-in_err-accepted c =
+    let p = err_from_is_err_and c.from_residual.result c.from_residual.ensures.1 in
+    let lent = is_open _ (side_of_store c.args.self.now) c.accepted.ensures c.in_err-accepted.was in
+    rw (p.1, p.2, lent.0, lent.1) (record { value = refl; out_after = refl })
 
 pub returns : goal.returns
 unfolding write_reply write_out
 returns c =
-    let closed = c.if-not-self.false in
+    let closed = is_closed _ (side_of_store c.args.self.now) c.accepted.ensures c.in_ok-accepted.was in
     record {
-      value = c.written_reply.ensures ∙ rw (c.write.ensures.value, c.image.ensures, closed);
-      out_after = c.write.ensures.out_after ∙ rw (c.image.ensures, closed);
+      value = c.written_reply.ensures ∙ rw (c.write.ensures.value, closed.0, closed.1);
+      out_after = c.write.ensures.out_after ∙ rw (closed.0, closed.1);
     }

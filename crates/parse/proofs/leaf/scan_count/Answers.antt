@@ -1,9 +1,0 @@
--- `scan_count` reads the number that the first four bytes make.
-use Rattle.parse.proofs.Leaves.{count_none, count_some}
-use Rattle.parse.proofs.leaf.scan_count.Goals as goal
-
-pub returns-in_err-bytes : goal.returns-in_err-bytes
-returns-in_err-bytes c = rw c.from_residual.ensures (count_none _ c.in_err-bytes.ensures.cases)
-
-pub returns : goal.returns
-returns c = count_some _ _ _ c.in_ok-bytes.ensures.cases c.load.ensures
