@@ -1,4 +1,4 @@
-// What the library's calls refuse, each call with a type of its own, and the numbers of every answer.
+// What the library's calls refuse, a type for those that refuse alike, and the numbers of every answer.
 #![tactic(auto)]
 
 pub mod numbers;

@@ -106,8 +106,8 @@ fn out_of_range(image: &[u8], start: usize, count: usize) -> bool
 }
 
 // `count` rows of each of two tables from their starts on, where they lie within.
-// Kept: starts and a count by themselves, here and in the calls that are given them: C hosts and frames have numbers, which may
-// lie outside. Where they are found to lie within they become `Rows`, here.
+// Kept: starts and a count by themselves, here and in the calls that are given them: the callers of a public call have numbers,
+// and `Rows` is a type of the comparison alone. They become `Rows` here.
 fn rows_within(
     left: &[u8],
     right: &[u8],

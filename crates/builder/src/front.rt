@@ -108,10 +108,7 @@ impl Plan<'_> {
         requires fits { Fits out.old.bytes.now out.old.at (row_fields self.now.image.now self.now.lengths self.now.places k) }
         ensures { Put out.old out.new (row_fields self.now.image.now self.now.lengths self.now.places k) }
     {
-        let node = Node {
-            image: self.image,
-            number: k,
-        };
+        let node = self.node(k);
         out.put_number(self.lengths[k as usize], 4);
         out.put_number(0, 4);
         out.put_number(built_name(node, name), 4);
@@ -127,10 +124,7 @@ impl Plan<'_> {
         requires fits { Fits out.old.bytes.now out.old.at (record_from self.now.image.now self.now.lengths self.now.places k) }
         ensures { Put out.old out.new (record_from self.now.image.now self.now.lengths self.now.places k) }
     {
-        let node = Node {
-            image: self.image,
-            number: k,
-        };
+        let node = self.node(k);
         put_type(node, out);
         self.put_rows(k, name, out);
         put_tables(node, out);
@@ -141,11 +135,10 @@ impl Plan<'_> {
         requires { Fits out.old.bytes.now out.old.at (pieces (record_from self.now.image.now self.now.lengths self.now.places) 0 (node_count self.now.image.now)) }
         ensures { Put out.old out.new (pieces (record_from self.now.image.now self.now.lengths self.now.places) 0 (node_count self.now.image.now)) }
     {
-        let image = self.image;
-        let mut name = tables_end(image);
-        for k in 0..node_count(image) {
+        let mut name = tables_end(self.image);
+        for k in 0..node_count(self.image) {
             self.put_record(k, name, out);
-            name += Node { image, number: k }.name_length();
+            name += self.node(k).name_length();
         }
     }
 
@@ -165,12 +158,8 @@ impl Plan<'_> {
         requires fits { Fits out.old.bytes.now out.old.at (entries_from self.now.image.now self.now.places k) }
         ensures { Put out.old out.new (entries_from self.now.image.now self.now.places k) }
     {
-        let node = Node {
-            image: self.image,
-            number: k,
-        };
         let first = PARTS * k as usize + 1;
-        let n = node.buffer_count() as usize;
+        let n = self.node(k).buffer_count() as usize;
         for j in 0..n {
             self.put_entry(first + j, out);
         }
@@ -191,9 +180,8 @@ impl Plan<'_> {
         requires { Fits out.old.bytes.now out.old.at (pieces (name_of self.now.image.now) 0 (node_count self.now.image.now)) }
         ensures { Put out.old out.new (pieces (name_of self.now.image.now) 0 (node_count self.now.image.now)) }
     {
-        let image = self.image;
-        for k in 0..node_count(image) {
-            put_name(Node { image, number: k }, out);
+        for k in 0..node_count(self.image) {
+            put_name(self.node(k), out);
         }
     }
 

@@ -8,7 +8,6 @@ ghost use Rattle.image.specs.TypeCode.{layout_of};
 ghost use Rattle.image.specs.Faults.{check_image};
 ghost use Rattle.image.specs.Parse.{readable};
 ghost use Rattle.image.specs.Built.{name_start};
-ghost use Rattle.laws.specs.Accepted.{Tables};
 ghost use Rattle.builder.specs.Front.{Rise};
 ghost use Rattle.builder.specs.Plan.{Lengths, child_rows, bit_bytes, bitmap_size, first_size, second_size, part_size, too_many, PlanOf};
 
@@ -74,18 +73,6 @@ fn second_size(code: u8, span: usize) -> usize
     }
 }
 
-// Where the names end, which stand one after the other behind the tables.
-fn names_end(image: &[u8]) -> usize
-    requires { Tables image.now }
-    ensures { Read (name_start image.now (node_count image.now)) 17 result }
-{
-    let mut end = tables_end(image);
-    for k in 0..node_count(image) {
-        end += Node { image, number: k }.name_length();
-    }
-    end
-}
-
 // One of the lengths is more than a node may have.
 fn any_above(lengths: &[usize]) -> bool
     ensures { result ≡ list_any (ltb most_elements) lengths.now }
@@ -93,7 +80,18 @@ fn any_above(lengths: &[usize]) -> bool
     lengths.iter().any(|rows| *rows > MOST_ELEMENTS)
 }
 
-impl Plan<'_> {
+impl<'a> Plan<'a> {
+    // Node k of the image.
+    pub(crate) fn node(&self, k: u32) -> Node<'a>
+        ensures image { result.image ≡ self.now.image }
+        ensures number { result.number ≡ k }
+    {
+        Node {
+            image: self.image,
+            number: k,
+        }
+    }
+
     // How many rows each child of a node has: as many as a Struct, or as a list's offsets go on.
     fn child_rows(&self, node: Node) -> usize
         requires { node.number < 256 }
@@ -113,10 +111,9 @@ impl Plan<'_> {
         ensures places { self.new.places ≡ self.old.places }
         ensures lengths { Lengths self.old.image.now count self.old.spans self.new.lengths }
     {
-        let image = self.image;
         self.lengths[0] = count;
-        for k in 0..node_count(image) {
-            let node = Node { image, number: k };
+        for k in 0..node_count(self.image) {
+            let node = self.node(k);
             let rows = self.child_rows(node);
             let first = node.first_child() as usize;
             let end = first + node.child_count() as usize;
@@ -125,23 +122,32 @@ impl Plan<'_> {
     }
 
     // The bytes of part q of all: of node q / 3 its bitmap, its first or its second buffer.
-    // Kept: parts are numbered through, three for each node, as their places are one table; so a number says which part it is.
+    // Kept: a match on a number, since the definitions number the parts through, three for each node: those of an image are
+    // `pieces .. 0 (3 * node_count)`. An enum of the three would have to be made of `q % PARTS` here, by this very match.
     fn part_size(&self, q: usize) -> usize
         requires part { q < 3 * node_count self.now.image.now }
         requires few { get_or self.now.lengths (q / 3) 0 ≤ most_elements }
         ensures { result ≡ part_size self.now.image.now self.now.lengths self.now.spans q }
     {
         let i = q / PARTS;
-        let node = Node {
-            image: self.image,
-            number: i as u32,
-        };
+        let node = self.node(i as u32);
         let code = node.code();
         match q % PARTS {
             0 => bitmap_size(code, self.lengths[i]),
             1 => first_size(code, node.element_width(), self.lengths[i]),
             _ => second_size(code, self.spans[i]),
         }
+    }
+
+    // Where the names end, which stand one after the other behind the tables.
+    fn names_end(&self) -> usize
+        ensures { Read (name_start self.now.image.now (node_count self.now.image.now)) 17 result }
+    {
+        let mut end = tables_end(self.image);
+        for k in 0..node_count(self.image) {
+            end += self.node(k).name_length();
+        }
+        end
     }
 
     // Whether a node has more rows than a node may have.
@@ -151,8 +157,8 @@ impl Plan<'_> {
         any_above(&self.lengths[..node_count(self.image) as usize])
     }
 
-    // Gives each part its place, and answers how long the image is; None where it is too long for the buffer, or for an image.
-    // Sums stop at the first that is longer than an image may be.
+    // Gives each part its place, and answers how long the image is; None where a node would have too many rows, or where it is
+    // too long for the buffer, or for an image. Sums stop at the first that is longer than an image may be.
     pub(crate) fn give_places(&mut self, room: usize) -> Option<usize>
         ensures image { self.new.image.now ≡ self.old.image.now }
         ensures lengths { self.new.lengths ≡ self.old.lengths }
@@ -163,7 +169,7 @@ impl Plan<'_> {
             return None;
         }
         let end = PARTS * node_count(self.image) as usize;
-        let mut place = names_end(self.image);
+        let mut place = self.names_end();
         let mut places = [0; MOST_PLACES];
         places[0] = place;
         for q in 0..end {

@@ -13,8 +13,8 @@ const BLOCK: usize = 4096;
 
 const SEVERAL: usize = 8;
 
-// The children that the type ids at places x and y name, which stand at one place among the children of each: none where
-// the ids differ, or name none.
+// The children that the type ids at places x and y name, which stand at one place among the children of each; `None` where
+// the ids differ or name no child.
 fn named_at<'a>(pair: &Pair<'a>, x: usize, y: usize) -> Option<Pair<'a>>
     ensures { NamedAt pair.now x y result }
 {
@@ -54,7 +54,7 @@ pub fn dense(pair: &Pair, rows: Rows, depth: usize) -> bool
 }
 
 // A block of a sparse union: the type ids, and the row of the child that each id names; the other children do not count.
-// Where all rows of all children are equal, those are. A single row is not tried so, which bounds what unions in unions cost.
+// Where all rows of all children are equal, those are. Few rows are not tried so, which bounds what unions in unions cost.
 #[cycle(rows)]
 fn block(pair: &Pair, rows: Rows, depth: usize) -> bool
     requires { PartsIn SparseUnion pair.now rows depth }

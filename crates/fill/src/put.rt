@@ -30,9 +30,9 @@ struct Tally {
 }
 
 // What an image is filled by: where its parts stand, what each node has got, and the buffer.
-// Kept: no image, and no ghost field of what is known, which speaks of the image too. A method has the image in its `Node`; with
-// the image here seven methods would have to make their `Node` of it and a number, as `self.node(k)`, and give the number of a
-// child on, as `node.child(c).number`.
+// Kept: no image, and no ghost field of what is known, which speaks of the image too. The walk goes from node to child, so that
+// each method is given a `Node`, which has the image; here it would be said twice, and each method would have to ask that both
+// are the same.
 #[derive(Drop)]
 pub(crate) struct Filling<'a> {
     places: &'a [usize; MOST_PLACES],
@@ -66,16 +66,16 @@ fn has_offsets(layout: Layout) -> bool
     matches!(layout, Layout::VariableSize | Layout::List)
 }
 
-// The end of the next row's text or list, behind the offsets that stand at a place.
-fn put_end(node: Node, first: usize, row: usize, end: usize, out: &mut [u8])
-    requires row_bound { (row < 2 ^ 40) × ((element_width of node) ≤ 8) }
-    requires node_in_bounds { first + (row + 1) * (element_width of node) + (element_width of node) ≤ length out.old }
-    ensures { out.new ≡ over out.old (first + (row + 1) * (element_width of node.entry)) (number_bytes (element_width of node.entry) end) }
+// The end of the text or list of the row that goes to a spot, behind the offsets that stand there.
+fn put_end(node: Node, spot: Spot, end: usize, out: &mut [u8])
+    requires row_bound { (spot.row < 2 ^ 40) × ((element_width of node) ≤ 8) }
+    requires node_in_bounds { spot.first + (spot.row + 1) * (element_width of node) + (element_width of node) ≤ length out.old }
+    ensures { out.new ≡ over out.old (spot.first + (spot.row + 1) * (element_width of node.entry)) (number_bytes (element_width of node.entry) end) }
 {
     let width = node.element_width();
     let mut ends = Output {
         bytes: out,
-        at: first + (row + 1) * width,
+        at: spot.first + (spot.row + 1) * width,
     };
     ends.put_number(end, width);
 }
@@ -93,6 +93,7 @@ impl<'a> Filling<'a> {
         }
     }
 
+    // Where the next row of a node goes.
     fn spot_of(&self, node: Node) -> Spot
         requires { node.number < 256 }
         ensures { result ≡ spot_of self.now.places.now (state self.now).rows (state self.now).spans node.entry.number }
@@ -125,7 +126,7 @@ impl<'a> Filling<'a> {
     {
         let spot = self.spot_of(node);
         if has_offsets(node.layout()) {
-            put_end(node, spot.first, spot.row, spot.span, self.out);
+            put_end(node, spot, spot.span, self.out);
         }
         self.count_row(node, spot.row, spot.span);
     }
@@ -179,7 +180,7 @@ impl<'a> Filling<'a> {
         let spot = self.spot_of(node);
         let end = spot.span + text.len();
         set_bit(&mut self.out[spot.bitmap..], spot.row);
-        put_end(node, spot.first, spot.row, end, self.out);
+        put_end(node, spot, end, self.out);
         let place = spot.second + spot.span;
         self.out[place..place + text.len()].copy_from_slice(text);
         self.count_row(node, spot.row, end);
@@ -194,7 +195,7 @@ impl<'a> Filling<'a> {
         let spot = self.spot_of(node);
         let end = spot.span + n;
         set_bit(&mut self.out[spot.bitmap..], spot.row);
-        put_end(node, spot.first, spot.row, end, self.out);
+        put_end(node, spot, end, self.out);
         self.count_row(node, spot.row, end);
     }
 }

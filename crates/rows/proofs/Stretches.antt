@@ -7,18 +7,22 @@ use native.Mathlib.Omega.{arith}
 use lib.ListN.{length, length-append}
 use Rattle.std.specs.Prelude.{Option, Some, None}
 use Rattle.image.specs.declared.record.Node.{Node}
-use Rattle.image.specs.Record.{offset_of}
+use Rattle.image.specs.Record.{code_of, offset_of}
 use Rattle.image.specs.Ranges.{pieces}
 use Rattle.image.specs.Bytes.{bytes_at}
+use Rattle.image.specs.declared.type_code.Layout.TheVariants.{Runs}
+use Rattle.image.specs.TypeCode.{layout_of}
+use Rattle.image.specs.Element.{run_at}
 use Rattle.image.specs.Row.{row_at, range}
 use Rattle.image.specs.RowBytes.{row_bytes, rows_bytes}
 use Rattle.accepted.specs.declared.column.Column.{Column}
 use Rattle.accepted.specs.declared.column.Cursor.{Cursor}
 use Rattle.accepted.specs.declared.column.Stay.{Stay}
 use Rattle.accepted.specs.declared.column.KeptRun.{KeptRun}
-use Rattle.accepted.specs.Parts.{Side}
-use Rattle.accepted.specs.Runs.{kept_run, Stays, Remembered, remembering}
-use Rattle.accepted.proofs.Columns.{node_few, behind_kept, remembered_now, same_row_lem}
+use Rattle.accepted.specs.Parts.{Side, Part}
+use Rattle.accepted.specs.Runs.{Stays, Remembered, remembering}
+use Rattle.accepted.proofs.Columns.{layout_runs, node_few, remembered_now, same_row_lem}
+use Rattle.accepted.proofs.RunEnds.{run_first}
 use Rattle.rows.proofs.RowParts.{side_few}
 use Rattle.rows.specs.Output.{over, repeated, room_after, Fits}
 use Rattle.rows.proofs.Joined.{joined_start, joined_first, rows_joined}
@@ -64,9 +68,11 @@ module _ (depth : ℕ) (node : Node) (i n : ℕ) (none : n ≡ 0) where
       let e : room ≡ room - length (stretch_of depth node i n) = omega (arith, ap length none_bytes) in
       ap Some e ∙ fits_left room (length (stretch_of depth node i n)) (omega (arith, ap length none_bytes))
 
--- the run that is kept at a row that is there
-pub row_run : (c : Cursor) → Side c.column.now.node.image.now c.column.now.node.number c.row 1 → c.run ≡ kept_run c.column.now.node.image.now c.column.now.node.number (c.column.now.offset + c.row)
-row_run c r = rw c.column.now.read.offset.value (behind_kept r (omega arith) c.behind).same
+-- the run that is kept at a row in runs whose element is part of what is shown
+pub row_run : (c : Cursor) → Part c.column.now.node.image.now c.column.now.node.number (c.column.now.offset + c.row) 1 → layout_of (code_of c.column.now.node.image.now c.column.now.node.number) ≡ Runs → c.run ≡ run_at c.column.now.node.image.now c.column.now.node.number (c.column.now.offset + c.row)
+row_run c part runs =
+    let place = c.column.now.read.offset.value in
+    rw place (c.behind.held (layout_runs _ _ runs) (rw place at (run_first part runs (omega arith))))
 
 -- Of n rows from row i on, those before a cursor's row are done.
 pub record Walking (node : Node) (i n : ℕ) (c : Cursor) : Type 0 where

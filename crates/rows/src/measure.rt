@@ -28,14 +28,10 @@ fn measure_row(cursor: Cursor, depth: usize, runs: &mut KeptRuns, room: usize) -
     ensures value { result ≡ room_after room (length (row_bytes ((row_at depth of cursor.entry.column.now.node) cursor.entry.row))) }
     ensures remembered_after { Remembered cursor.entry.column.now.node.image.now runs.new }
 {
-    if is_null(cursor.column.node, cursor.row, depth) {
+    if is_null(cursor, depth) {
         return room.checked_sub(MARK_WIDTH);
     }
-    let v = value_at(
-        cursor.column.node,
-        cursor.column.offset + cursor.row,
-        cursor.run,
-    );
+    let v = value_at(cursor);
     let mut left = room.checked_sub(MARK_WIDTH + v.width + v.bytes.len())?;
     let Some(rows) = v.rows else {
         return Some(left);
@@ -50,6 +46,10 @@ fn measure_row(cursor: Cursor, depth: usize, runs: &mut KeptRuns, room: usize) -
 // The room that is left after n rows of a node from row i on. The rows of one run are the same row, and take as much
 // each.
 // Kept: no `for`, since a step is as long as a run.
+// Kept: node, rows and depth are four arguments, and no struct, here and in `write_rows`. What does one row takes a cursor and
+// the depth, so that nothing would hand the struct on; each call on children would make it anew, `Range { node: child,
+// start: rows.start, count: rows.count, depth: depth - 1 }` for `child, rows.start, rows.count, depth - 1`. The runs would stay
+// beside it: they change, and what is known of them is said before and after each call.
 #[cycle(measure_row_measure_rows)]
 pub fn measure_rows(
     node: Node,

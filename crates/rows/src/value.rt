@@ -7,12 +7,12 @@ ghost use Rattle.image.specs.Record.{code_of, first_child};
 ghost use Rattle.image.specs.TypeCode.{layout_of};
 ghost use Rattle.image.specs.Element.{type_id_at};
 ghost use Rattle.accepted.specs.Parts.{Part};
-ghost use Rattle.accepted.specs.Runs.{kept_run};
 ghost use Rattle.rows.specs.Value.{content, leaf_value, nested_value, is_null};
 ghost use Rattle.rows.specs.ValueOf.{text_value, rows_value, union_value, value_of};
 
 use accepted::byte_view::View;
-use image::bytes::{bit, byte, le};
+use accepted::column::Cursor;
+use image::bytes::{bit, byte};
 use image::element::VIEW_SIZE;
 use image::record::Node;
 use image::row_bytes::COUNT_WIDTH;
@@ -108,10 +108,8 @@ impl<'a> Element<'a> {
     fn boolean_value(self) -> Value<'a>
         ensures { content result ≡ (value_of Boolean of self.entry.node) self.entry.j }
     {
-        if bit(self.node.image, self.node.buffer_place(0), self.j) {
-            return leaf(1, ID_WIDTH, &[]);
-        }
-        leaf(0, ID_WIDTH, &[])
+        let value = bit(self.node.image, self.node.buffer_place(0), self.j);
+        leaf(usize::from(value), ID_WIDTH, &[])
     }
 
     // "Fixed widths: the bytes."
@@ -209,7 +207,7 @@ impl<'a> Element<'a> {
     fn dense_value(self) -> Value<'a>
         ensures { content result ≡ (value_of DenseUnion of self.entry.node) self.entry.j }
     {
-        self.union_value(le::<4>(self.node.image, self.node.buffer_place(1) + self.j * 4))
+        self.union_value(self.node.numbers(1, 4).at(self.j))
     }
 
     fn sparse_value(self) -> Value<'a>
@@ -237,24 +235,28 @@ impl<'a> Element<'a> {
     }
 }
 
-// Row i of a node is null: its bitmap bit is 0, or no depth is left.
-pub fn is_null(node: Node, i: usize, depth: usize) -> bool
-    requires { i < 2 ^ 34 }
-    ensures { result ≡ (is_null depth of node.entry) i }
+// A cursor's row is null: its bitmap bit is 0, or no depth is left.
+pub(crate) fn is_null(cursor: Cursor, depth: usize) -> bool
+    requires { cursor.row < 2 ^ 34 }
+    ensures { result ≡ (is_null depth of cursor.entry.column.now.node) cursor.entry.row }
 {
     if depth == 0 {
         return true;
     }
-    !node.is_kept(node.bitmap(), i)
+    let node = cursor.column.node;
+    !node.is_kept(node.bitmap(), cursor.row)
 }
 
-// The value at element j of a node, beside which a run is kept.
-pub fn value_at(node: Node, j: usize, run: usize) -> Value<'_>
-    requires part { (Part of node) j 1 }
-    requires run_value { run ≡ (kept_run of node) j }
-    ensures { content result ≡ (value_of (layout_of (code_of of node.entry)) of node.entry) j }
+// The value of a cursor's row, whose element is part of what is shown.
+pub(crate) fn value_at(cursor: Cursor<'_>) -> Value<'_>
+    requires { (Part of cursor.column.now.node) (cursor.column.now.offset + cursor.row) 1 }
+    ensures { content result ≡ (value_of (layout_of (code_of of cursor.entry.column.now.node)) of cursor.entry.column.now.node) (cursor.entry.column.now.offset + cursor.entry.row) }
 {
-    let element = Element { node, j };
+    let node = cursor.column.node;
+    let element = Element {
+        node,
+        j: cursor.column.offset + cursor.row,
+    };
     let layout = node.layout();
     match layout {
         Layout::Null => leaf(0, 0, &[]),
@@ -269,6 +271,6 @@ pub fn value_at(node: Node, j: usize, run: usize) -> Value<'_>
         Layout::DenseUnion => element.dense_value(),
         Layout::SparseUnion => element.sparse_value(),
         Layout::Dictionary => element.dictionary_value(),
-        Layout::Runs => element.run_value(run),
+        Layout::Runs => element.run_value(cursor.run),
     }
 }

@@ -32,15 +32,11 @@ fn write_row(cursor: Cursor, depth: usize, runs: &mut KeptRuns, out: &mut Output
     ensures put { Put out.old out.new (row_bytes ((row_at depth of cursor.entry.column.now.node) cursor.entry.row)) }
     ensures remembered_after { Remembered cursor.entry.column.now.node.image.now runs.new }
 {
-    if is_null(cursor.column.node, cursor.row, depth) {
+    if is_null(cursor, depth) {
         out.put_number(usize::from(NULL_MARK), MARK_WIDTH);
         return;
     }
-    let v = value_at(
-        cursor.column.node,
-        cursor.column.offset + cursor.row,
-        cursor.run,
-    );
+    let v = value_at(cursor);
     put_own(v, out);
     let Some(rows) = v.rows else {
         return;

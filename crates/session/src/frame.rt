@@ -14,8 +14,7 @@ pub enum Frame<'a> {
     Close(Side),
     Compare,
     // left start, right start, count
-    // Kept: numbers by themselves, here and in a write: what they are rows of is not known here, and `api` makes `Rows` of them
-    // once they are found to lie within.
+    // Kept: numbers by themselves, here and in a write, as the calls of `api` take them.
     CompareRange(usize, usize, usize),
     // side, start, count
     Write(Side, usize, usize),

@@ -1,4 +1,4 @@
-// The sizes of what is lent to a session.
+// The sizes of what a session holds and of what is lent to it.
 
 // "two image stores of 24,576 bytes each and an output of 64"
 pub const STORE: usize = 24576;

@@ -2,7 +2,7 @@
 ghost use Rattle.std.specs.Prelude.{◌≡◌, ◌&&◌, not, ◌+◌, ◌*◌, ◌<◌, ◌^◌, ltb};
 ghost use Rattle.image.specs.Of.{◌of◌};
 ghost use Rattle.image.specs.Ranges.{any};
-ghost use Rattle.image.specs.Record.{code_of, bitmap_place, bitmap_length, first_bit, length_of, buffer_count, buffer_length, has_bitmap};
+ghost use Rattle.image.specs.Record.{code_of, bitmap_place, bitmap_length, first_bit, length_of, buffer_count, buffer_length, elements_of, has_bitmap};
 ghost use Rattle.image.specs.TypeCode.{layout_of};
 ghost use Rattle.image.specs.Faults.{fault14, fault15, outside, buffer_outside, whole, not_whole, under, too_few_elements};
 
@@ -101,10 +101,10 @@ fn bitmap_under(node: Node) -> bool
 }
 
 // A buffer of the node is under e elements.
-fn any_under(node: Node, e: usize) -> bool
-    requires { e < 2 ^ 33 }
-    ensures { result ≡ too_few_elements (layout_of (code_of of node.entry)) node.entry.image.now node.entry.number e }
+fn any_under(node: Node) -> bool
+    ensures { result ≡ too_few_elements (layout_of (code_of of node.entry)) node.entry.image.now node.entry.number (elements_of of node.entry) }
 {
+    let e = node.elements();
     let width = node.element_width();
     match node.layout() {
         Layout::Boolean => 8 * node.buffer_length(0) < e,
@@ -121,5 +121,5 @@ fn any_under(node: Node, e: usize) -> bool
 pub fn fault_15(node: Node) -> bool
     ensures { result ≡ fault15 of node.entry }
 {
-    bitmap_under(node) || any_under(node, node.elements())
+    bitmap_under(node) || any_under(node)
 }

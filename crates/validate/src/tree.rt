@@ -154,7 +154,7 @@ impl<'a> Walk<'a> {
     }
 }
 
-// Node 0 stands for the total: the counts of all nodes make what the header or the tables say.
+// Node 0 stands for the total: the counts of all nodes do not make what the header or the tables say.
 pub fn total_wrong(node: u32, all: usize, total: u32) -> bool
     ensures { result ≡ (eqb node 0 && not (eqb all total)) }
 {

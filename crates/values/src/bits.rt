@@ -143,6 +143,13 @@ fn first_unequal_tail(x: Bits, y: Bits, k: usize, n: usize) -> usize
     first_apart(u, v, n)
 }
 
+// A number, where it is below n.
+pub(crate) fn below(k: usize, n: usize) -> Option<usize>
+    ensures { result ≡ then_some (ltb k n) k }
+{
+    (k < n).then_some(k)
+}
+
 // Of n pairs of bits the number of the first that are not the same, if there is one: 64 at a time, and the rest.
 pub fn first_unequal_bit(x: Bits, y: Bits, n: usize) -> Option<usize>
     requires { Near x n × Near y n }
@@ -155,5 +162,5 @@ pub fn first_unequal_bit(x: Bits, y: Bits, n: usize) -> Option<usize>
         return Some(r);
     }
     let k = whole + first_unequal_tail(x, y, whole, n - whole);
-    (k < n).then_some(k)
+    below(k, n)
 }

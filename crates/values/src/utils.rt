@@ -6,7 +6,7 @@ ghost use Rattle.image.specs.Types.{types_agree};
 ghost use Rattle.values.specs.Pairs.{all, same_byte};
 ghost use Rattle.values.specs.Pair.{same_masks, first_null, FewRows};
 
-use crate::bits::first_unequal_bit;
+use crate::bits::{below, first_unequal_bit};
 use crate::data::validity;
 use crate::pair::{Pair, Rows};
 use crate::types::same_types;
@@ -25,13 +25,6 @@ pub fn number_same<const W: usize>(a: &[u8], b: &[u8], at: usize, bt: usize) -> 
     }
     let end = W - 8;
     (load::<8>(a, at) == load::<8>(b, bt)) & (load::<8>(a, at + end) == load::<8>(b, bt + end))
-}
-
-// A number, where it is below n.
-fn below(k: usize, n: usize) -> Option<usize>
-    ensures { result ≡ then_some (ltb k n) k }
-{
-    (k < n).then_some(k)
 }
 
 // Of the pairs of rows the number of the first of which one is null and the other is not, if there is one.

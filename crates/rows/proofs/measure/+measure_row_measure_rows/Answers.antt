@@ -7,7 +7,7 @@ use mathlib.Core.Path.{sym, ◌∙◌}
 use Rattle.rows.proofs.RowParts.{row_null, side_few, row_part, value_of_lem, below}
 use Rattle.rows.proofs.Rooms.{measuring_start, measuring_more, measuring_short, measuring_done, null_left, value_short, leaf_left, nested_left}
 use native.Mathlib.Omega.{arith}
-use Rattle.rows.proofs.Stretches.{none_measured, row_run, remember_asks, remembered_behind, row_short, row_took, others_short, measured_more, measured_done}
+use Rattle.rows.proofs.Stretches.{none_measured, remember_asks, remembered_behind, row_short, row_took, others_short, measured_more, measured_done}
 use Rattle.rows.proofs.measure.+measure_row_measure_rows.Goals as goal
 
 pub measure_row-is_null-requires : goal.measure_row-is_null-requires
@@ -16,11 +16,8 @@ measure_row-is_null-requires t c = omega (arith, side_few c.requires.side)
 pub measure_row-returns-then-is_null : goal.measure_row-returns-then-is_null
 measure_row-returns-then-is_null t c = record { value = null_left _ (row_null _ _ _ _ (sym c.is_null.ensures ∙ c.if-is_null.true)) c.checked_sub.ensures; remembered_after = c.requires.remembered }
 
-pub measure_row-overflow_add-cursor : goal.measure_row-overflow_add-cursor
-measure_row-overflow_add-cursor t c = omega (arith, side_few c.requires.side, c.args.cursor.column.now.read.offset.value)
-
 pub measure_row-value_at-v-requires : goal.measure_row-value_at-v-requires
-measure_row-value_at-v-requires t c = record { part = row_part _ c.requires.side c.is_null.ensures c.if-is_null.false c.args.cursor.column.now.read.offset; run_value = row_run c.args.cursor c.requires.side }
+measure_row-value_at-v-requires t c = row_part _ c.requires.side c.is_null.ensures c.if-is_null.false c.args.cursor.column.now.read.offset
 
 pub measure_row-returns-in_err-left : goal.measure_row-returns-in_err-left
 measure_row-returns-in_err-left t c = record { value = c.from_residual.ensures ∙ value_short (value_of_lem _ c.requires.side c.is_null.ensures c.if-is_null.false c.args.cursor.column.now.read.offset c.value_at-v.ensures) c.args.room c.in_err-left.ensures; remembered_after = c.requires.remembered }

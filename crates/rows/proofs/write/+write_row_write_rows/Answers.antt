@@ -4,7 +4,7 @@
 -- The loop keeps that the rows before row k are put, the run that is kept there, and the runs that are remembered.
 use mathlib.Core.Path.{refl, sym, ap, ◌∙◌}
 use Rattle.rows.proofs.RowParts.{row_null, side_few, row_part, value_of_lem, below}
-use Rattle.rows.proofs.Stretches.{none_written, row_run, remember_asks, remembered_behind, row_asks, writing_start, row_fits, others_fit, writing_more, writing_done}
+use Rattle.rows.proofs.Stretches.{none_written, remember_asks, remembered_behind, row_asks, writing_start, row_fits, others_fit, writing_more, writing_done}
 use Rattle.rows.proofs.Over.{put_last, pieces_from, pieces_fit, pieces_more, pieces_place, pieces_done, null_fits, null_put, value_fits, leaf_put, nested_put}
 use native.Mathlib.Omega.{arith}
 use Rattle.rows.proofs.write.+write_row_write_rows.Goals as goal
@@ -18,11 +18,8 @@ write_row-put_number-requires t c = null_fits c.requires.fits (row_null _ _ _ _ 
 pub write_row-returns-then-is_null : goal.write_row-returns-then-is_null
 write_row-returns-then-is_null t c = let p = rw c.from.ensures at c.put_number.ensures in let both = null_put c.requires.fits (row_null _ _ _ _ (sym c.is_null.ensures ∙ c.if-is_null.true)) p.at p.bytes in record { put = record { lent = p.lent; long = p.long; at = both.0; bytes = both.1 }; remembered_after = c.requires.remembered }
 
-pub write_row-overflow_add-cursor : goal.write_row-overflow_add-cursor
-write_row-overflow_add-cursor t c = omega (arith, side_few c.requires.side, c.args.cursor.column.now.read.offset.value)
-
 pub write_row-value_at-v-requires : goal.write_row-value_at-v-requires
-write_row-value_at-v-requires t c = record { part = row_part _ c.requires.side c.is_null.ensures c.if-is_null.false c.args.cursor.column.now.read.offset; run_value = row_run c.args.cursor c.requires.side }
+write_row-value_at-v-requires t c = row_part _ c.requires.side c.is_null.ensures c.if-is_null.false c.args.cursor.column.now.read.offset
 
 pub write_row-put_own-requires : goal.write_row-put_own-requires
 write_row-put_own-requires t c = value_fits (value_of_lem _ c.requires.side c.is_null.ensures c.if-is_null.false c.args.cursor.column.now.read.offset c.value_at-v.ensures) c.requires.fits

@@ -9,4 +9,4 @@ returns-then-bitmap_under c = rw (← c.bitmap_under.ensures, c.if-bitmap_under.
 
 pub returns-else-bitmap_under : goal.returns-else-bitmap_under
 unfolding fault15
-returns-else-bitmap_under c = rw (← c.bitmap_under.ensures, c.if-bitmap_under.false, ← c.elements.ensures.value) c.any_under.ensures
+returns-else-bitmap_under c = rw (← c.bitmap_under.ensures, c.if-bitmap_under.false) c.any_under.ensures

@@ -12,4 +12,4 @@ pub overflow_add-k : goal.overflow_add-k
 overflow_add-k c = omega (arith, unequal_most _ _ _ _ c.first_unequal_tail.ensures)
 
 pub returns : goal.returns
-returns c = c.then_some.ensures ∙ unequal_below _ _ _ _ (unequal_rest _ _ _ _ _ (unequal_passed _ _ _ _ _ (omega arith) c.first_unequal_whole-r.ensures c.if-r-whole.false) c.first_unequal_tail.ensures)
+returns c = c.below.ensures ∙ unequal_below _ _ _ _ (unequal_rest _ _ _ _ _ (unequal_passed _ _ _ _ _ (omega arith) c.first_unequal_whole-r.ensures c.if-r-whole.false) c.first_unequal_tail.ensures)

@@ -2,7 +2,6 @@
 -- The loop keeps the places up to part q; a refusal needs no table.
 use mathlib.Core.Path.{sym, ◌∙◌}
 use lib.ListN.{replicate, length-replicate}
-use Rattle.laws.proofs.Accepted.{accepted}
 use Rattle.builder.proofs.Planning.{many_refused, few_rows, planning_start, planning_more, planning_long, planning_room, planning_done, planning_rise}
 use Prim.Native.Nat.{ℕ}
 use native.Mathlib.Omega.{arith}
@@ -10,9 +9,6 @@ use Rattle.builder.proofs.plan.Plan.give_places.Goals as goal
 
 pub returns-then-too_many-clause-places : goal.returns-then-too_many-clause-places
 returns-then-too_many-clause-places c = many_refused _ _ _ (sym c.too_many.ensures ∙ c.if-too_many.true)
-
-pub names_end-place-requires : goal.names_end-place-requires
-names_end-place-requires c = (accepted _ c.args.self.now.accepted).tables
 
 pub loop-q-init : goal.loop-q-init
 loop-q-init c = planning_start _ _ _ (replicate {A = ℕ} 769 0) _ (length-replicate {A = ℕ} 769 0) c.names_end-place.ensures

@@ -9,15 +9,22 @@ use Rattle.builder.proofs.plan.Plan.part_size.Goals as goal
 
 pub returns-in-0 : goal.returns-in-0
 unfolding part_size size_of
-returns-in-0 c = rw (c.in-0.is, ← c.code-code.ensures.value) c.bitmap_size.ensures
+returns-in-0 c =
+    let code = rw (c.node-node.ensures.image, c.node-node.ensures.number) at c.code-code.ensures.value in
+    rw (c.in-0.is, ← code) c.bitmap_size.ensures
 
 pub first_size-requires : goal.first_size-requires
-first_size-requires c = (rw c.element_width.ensures (width_most _ _ ((accepted _ c.args.self.now.accepted).node _ (omega (arith, c.requires.part))).known), c.requires.few)
+first_size-requires c = (rw (c.element_width.ensures, c.node-node.ensures.image, c.node-node.ensures.number) (width_most _ _ ((accepted _ c.args.self.now.accepted).node _ (omega (arith, c.requires.part))).known), c.requires.few)
 
 pub returns-in-1 : goal.returns-in-1
 unfolding part_size size_of
-returns-in-1 c = rw (c.in-1.is, ← c.code-code.ensures.value, ← c.element_width.ensures) c.first_size.ensures
+returns-in-1 c =
+    let code = rw (c.node-node.ensures.image, c.node-node.ensures.number) at c.code-code.ensures.value in
+    let width = rw (c.node-node.ensures.image, c.node-node.ensures.number) at c.element_width.ensures in
+    rw (c.in-1.is, ← code, ← width) c.first_size.ensures
 
 pub returns-in_default : goal.returns-in_default
 unfolding part_size size_of
-returns-in_default c = rw (ne_eqb _ _ c.in_default.in_default-own.rest.0.1, ne_eqb _ _ c.in_default.in_default-own.rest.1, ← c.code-code.ensures.value) c.second_size.ensures
+returns-in_default c =
+    let code = rw (c.node-node.ensures.image, c.node-node.ensures.number) at c.code-code.ensures.value in
+    rw (ne_eqb _ _ c.in_default.in_default-own.rest.0.1, ne_eqb _ _ c.in_default.in_default-own.rest.1, ← code) c.second_size.ensures

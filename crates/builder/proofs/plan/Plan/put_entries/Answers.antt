@@ -13,11 +13,17 @@ unfolding entries_from
 loop-j-init c = (refl, pieces_start _ _ _ c.requires.fits)
 
 pub put_entry-requires : goal.put_entry-requires
-put_entry-requires c = record { part = omega (arith, c.requires.node, few_buffers _ (accepted _ c.args.self.now.accepted) c.args.self.now.coded _ c.requires.node, c.loop-j-test.true, c.buffer_count-n.ensures.value); fits = pieces_fit c.loop-j.invariant.1 (omega (arith, c.loop-j-test.true, c.buffer_count-n.ensures.value)) }
+put_entry-requires c =
+    let n = rw (c.node.ensures.image, c.node.ensures.number) at c.buffer_count-n.ensures.value in
+    record { part = omega (arith, c.requires.node, few_buffers _ (accepted _ c.args.self.now.accepted) c.args.self.now.coded _ c.requires.node, c.loop-j-test.true, n); fits = pieces_fit c.loop-j.invariant.1 (omega (arith, c.loop-j-test.true, n)) }
 
 pub loop-j-preserved : goal.loop-j-preserved
-loop-j-preserved c = (c.put_entry.ensures.lent ∙ c.loop-j.invariant.0, pieces_more c.loop-j.invariant.1 (omega (arith, c.loop-j-test.true, c.buffer_count-n.ensures.value)) c.put_entry.ensures.bytes c.put_entry.ensures.at)
+loop-j-preserved c =
+    let n = rw (c.node.ensures.image, c.node.ensures.number) at c.buffer_count-n.ensures.value in
+    (c.put_entry.ensures.lent ∙ c.loop-j.invariant.0, pieces_more c.loop-j.invariant.1 (omega (arith, c.loop-j-test.true, n)) c.put_entry.ensures.bytes c.put_entry.ensures.at)
 
 pub returns : goal.returns
 unfolding entries_from
-returns c = record { lent = c.loop-j.invariant.0; long = c.loop-j.invariant.1.put.long; at = pieces_place c.loop-j.invariant.1 (omega (arith, c.loop-j-test.false, c.buffer_count-n.ensures.value)); bytes = pieces_done c.loop-j.invariant.1 (omega (arith, c.loop-j-test.false, c.buffer_count-n.ensures.value)) }
+returns c =
+    let n = rw (c.node.ensures.image, c.node.ensures.number) at c.buffer_count-n.ensures.value in
+    record { lent = c.loop-j.invariant.0; long = c.loop-j.invariant.1.put.long; at = pieces_place c.loop-j.invariant.1 (omega (arith, c.loop-j-test.false, n)); bytes = pieces_done c.loop-j.invariant.1 (omega (arith, c.loop-j-test.false, n)) }

@@ -15,7 +15,7 @@ pub put_record-requires : goal.put_record-requires
 put_record-requires c = record { node = omega (arith, c.loop-k-test.true, c.node_count-k-end.ensures.value); name = c.loop-k.invariant.1.1.start; fits = piece_fits c.loop-k.invariant.1.0 (omega (arith, c.loop-k-test.true, c.node_count-k-end.ensures.value)) }
 
 pub loop-k-preserved : goal.loop-k-preserved
-loop-k-preserved c = (c.put_record.ensures.lent ∙ c.loop-k.invariant.0, (piece_put c.loop-k.invariant.1.0 (omega (arith, c.loop-k-test.true, c.node_count-k-end.ensures.value)) (c.put_record.ensures.at, c.put_record.ensures.bytes), names_more c.loop-k.invariant.1.1 c.name_length-name.ensures))
+loop-k-preserved c = (c.put_record.ensures.lent ∙ c.loop-k.invariant.0, (piece_put c.loop-k.invariant.1.0 (omega (arith, c.loop-k-test.true, c.node_count-k-end.ensures.value)) (c.put_record.ensures.at, c.put_record.ensures.bytes), names_more c.loop-k.invariant.1.1 (rw (c.node.ensures.image, c.node.ensures.number) at c.name_length-name.ensures)))
 
 pub returns : goal.returns
 returns c = record { lent = c.loop-k.invariant.0; long = c.loop-k.invariant.1.0.put.long; at = pieces_place c.loop-k.invariant.1.0 (omega (arith, c.loop-k-test.false, c.node_count-k-end.ensures.value)); bytes = pieces_done c.loop-k.invariant.1.0 (omega (arith, c.loop-k-test.false, c.node_count-k-end.ensures.value)) }

@@ -30,4 +30,7 @@ put_number-requires-6 c = omega (arith, fits_sized (row_length _ _ _ _) c.requir
 
 pub returns : goal.returns
 unfolding row_fields
-returns c = let both = number_last _ _ _ refl (c.put_number-6.ensures.at, c.put_number-6.ensures.bytes) (number_put _ _ _ c.length_from.ensures (c.put_number-5.ensures.at, c.put_number-5.ensures.bytes) (number_put _ _ _ c.bitmap_from.ensures (c.put_number-4.ensures.at, c.put_number-4.ensures.bytes) (number_put _ _ _ c.built_name.ensures (c.put_number-3.ensures.at, c.put_number-3.ensures.bytes) (number_put _ _ _ refl (c.put_number-2.ensures.at, c.put_number-2.ensures.bytes) (number_put _ _ _ refl (c.put_number.ensures.at, c.put_number.ensures.bytes) (put_start c.requires.fits)))))) in record { lent = c.put_number-6.ensures.lent ∙ c.put_number-5.ensures.lent ∙ c.put_number-4.ensures.lent ∙ c.put_number-3.ensures.lent ∙ c.put_number-2.ensures.lent ∙ c.put_number.ensures.lent; long = c.put_number-6.ensures.long ∙ c.put_number-5.ensures.long ∙ c.put_number-4.ensures.long ∙ c.put_number-3.ensures.long ∙ c.put_number-2.ensures.long ∙ c.put_number.ensures.long; at = both.0; bytes = both.1 }
+returns c =
+    let name = rw (c.node-node.ensures.image, c.node-node.ensures.number) at c.built_name.ensures in
+    let bitmap = rw (c.node-node.ensures.image, c.node-node.ensures.number) at c.bitmap_from.ensures in
+    let both = number_last _ _ _ refl (c.put_number-6.ensures.at, c.put_number-6.ensures.bytes) (number_put _ _ _ c.length_from.ensures (c.put_number-5.ensures.at, c.put_number-5.ensures.bytes) (number_put _ _ _ bitmap (c.put_number-4.ensures.at, c.put_number-4.ensures.bytes) (number_put _ _ _ name (c.put_number-3.ensures.at, c.put_number-3.ensures.bytes) (number_put _ _ _ refl (c.put_number-2.ensures.at, c.put_number-2.ensures.bytes) (number_put _ _ _ refl (c.put_number.ensures.at, c.put_number.ensures.bytes) (put_start c.requires.fits)))))) in record { lent = c.put_number-6.ensures.lent ∙ c.put_number-5.ensures.lent ∙ c.put_number-4.ensures.lent ∙ c.put_number-3.ensures.lent ∙ c.put_number-2.ensures.lent ∙ c.put_number.ensures.lent; long = c.put_number-6.ensures.long ∙ c.put_number-5.ensures.long ∙ c.put_number-4.ensures.long ∙ c.put_number-3.ensures.long ∙ c.put_number-2.ensures.long ∙ c.put_number.ensures.long; at = both.0; bytes = both.1 }

@@ -3,4 +3,6 @@ use Rattle.accepted.proofs.Nodes.{dense_offset_read}
 use Rattle.rows.proofs.value.Element.dense_value.Goals as goal
 
 pub returns : goal.returns
-returns c = rw (← dense_offset_read _ _ _ c.buffer_place.ensures c.le.ensures) c.union_value.ensures
+returns c =
+    let offset = rw (c.numbers.ensures.bytes, c.numbers.ensures.width) at c.at.ensures in
+    rw (← dense_offset_read _ _ _ c.numbers.ensures.place offset) c.union_value.ensures
