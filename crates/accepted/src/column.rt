@@ -51,6 +51,7 @@ impl<'a> Column<'a> {
     ghost use Rattle.accepted.specs.Runs.{Kept, Remembered};
 
     // What is read once of a node.
+    #[inline(always)]
     pub fn new(node: Node<'a>) -> Column<'a>
         ensures { result.node ≡ node.entry }
     {
@@ -64,6 +65,7 @@ impl<'a> Column<'a> {
 
     // The run of row i, the first of a range: the one that is remembered, where the range of the node before it ended at row i;
     // else it is found by bisection.
+    #[inline(always)]
     fn first_run(self, i: usize, runs: &KeptRuns) -> usize
         requires side { (Side of self.node) i 1 }
         requires remembered { Remembered self.node.image.now runs.now }
@@ -83,7 +85,7 @@ impl<'a> Column<'a> {
 
     // Row i, the first of a range, and its run. Where it is compiled into its caller, the column's node is taken apart, and put
     // together again for each row: rows took 1.3 times as long.
-    #[inline(never)]
+    #[inline(always)]
     pub fn first(&'a self, i: usize, runs: &KeptRuns) -> Cursor<'a>
         requires side { (Side of self.now.node) i 1 }
         requires remembered { Remembered self.now.node.image.now runs.now }
@@ -103,6 +105,7 @@ impl<'a> Cursor<'a> {
     ghost use Rattle.accepted.specs.Runs.{Stays, remembering};
 
     // How many of the n rows from here on are in the run, and the row behind them: of run ends only that of this run is read.
+    #[inline(always)]
     pub fn stay(self, n: usize) -> Stay<'a>
         requires { (Side of self.column.now.node) self.row n × (0 < n) }
         ensures { Stays self.entry n result }
@@ -133,6 +136,7 @@ impl<'a> Cursor<'a> {
     }
 
     // The run is remembered, where the node has runs.
+    #[inline(always)]
     pub fn remember(self, runs: &mut KeptRuns)
         requires { (self.column.now.node.number < 256) × (self.column.now.offset + self.row < 2 ^ 34) }
         ensures { runs.new ≡ (remembering runs.old) self.entry }

@@ -203,12 +203,12 @@ pub fn write(
     }
     let room = out.len();
     let mut runs: KeptRuns = [None; MOST_NODES];
-    let table = Node::root(image);
-    let Some(rest) = measure_rows(table, start, count, MAX_DEPTH, &mut runs, room) else {
+    let root = Node::root(image).number;
+    let Some(rest) = measure_rows(image, root, start, count, MAX_DEPTH, &mut runs, room) else {
         return Err(WriteRefusal::TooLong);
     };
     let mut rows = Output { bytes: out, at: 0 };
-    write_rows(table, start, count, MAX_DEPTH, &mut runs, &mut rows);
+    write_rows(image, root, start, count, MAX_DEPTH, &mut runs, &mut rows);
     Ok(rows.at)
 }
 

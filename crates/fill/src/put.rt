@@ -14,7 +14,7 @@ ghost use Rattle.fill.specs.Filling.{has_offsets, spot_of, state, Counted, CanTa
 
 use image::record::{MOST_NODES, Node};
 use image::type_code::{Layout, TypeCode};
-use rows::output::Output;
+use rows::output::{Output, copy_bytes};
 
 // The parts of a node: its bitmap, its first and its second buffer.
 pub const PARTS: usize = 3;
@@ -167,7 +167,7 @@ impl<'a> Filling<'a> {
         let spot = self.spot_of(node);
         set_bit(&mut self.out[spot.bitmap..], spot.row);
         let place = spot.first + spot.row * value.len();
-        self.out[place..place + value.len()].copy_from_slice(value);
+        copy_bytes(&mut self.out[place..place + value.len()], value);
         self.count_row(node, spot.row, spot.span);
     }
 
@@ -182,7 +182,7 @@ impl<'a> Filling<'a> {
         set_bit(&mut self.out[spot.bitmap..], spot.row);
         put_end(node, spot, end, self.out);
         let place = spot.second + spot.span;
-        self.out[place..place + text.len()].copy_from_slice(text);
+        copy_bytes(&mut self.out[place..place + text.len()], text);
         self.count_row(node, spot.row, end);
     }
 

@@ -1,11 +1,11 @@
 -- Bytes put over a buffer piece by piece: what is still to be put, put at the place that is reached, gives the whole.
 -- A piece that is put first leaves the rest for the place after it; nothing is left in the end.
 use mathlib.Core.Path.{◌≡◌, refl, sym, ap, ◌∙◌}
-use mathlib.Core.List.{List, [], ◌∷◌, ◌++◌, append_assoc}
+use mathlib.Core.List.{List, [], ◌∷◌, ◌++◌, append_assoc, append-nil}
 use Prim.Native.Nat.{ℕ, zero, suc, ◌+◌, ◌-◌, ◌/◌, ◌%◌, ◌≤◌, ◌<◌}
 use native.Mathlib.Omega.{arith}
 use lib.ListN.{length, take, drop, set, length-append, length-drop, take-append-drop, get_or-append}
-use lib.Seq.{paste, length-take-le, take_at, drop_at, drop-drop, take-append_seam, get_or-take, set_split}
+use lib.Seq.{take-length, drop-length, length-take-le, take_at, drop_at, drop-drop, take-append_seam, get_or-take, set_split}
 use borrow.Rule.Slice.PartMut.{put_mid}
 use Rattle.image.specs.Ranges.{pieces}
 use Rattle.image.specs.Bytes.{byte_at, number_bytes, bytes_at}
@@ -133,6 +133,13 @@ module _ {out₀ whole out : List ℕ} {at next : ℕ} where
     pub put_done : out ≡ over out₀ at whole
     put_done = sym (over_none out next) ∙ t.same
 
+-- what stood before the bytes that are put stays
+before_kept : {out₀ whole out rest : List ℕ} {at next : ℕ} → ToPut out₀ at whole out next rest → (p : ℕ) → p < at → at ≤ next → byte_at out p ≡ byte_at out₀ p
+before_kept {out₀} {whole} {out} {rest} {at} {next} t p lt le =
+    sym (over_before out next rest t.fits p (omega arith))
+    ∙ ap (λ (b : List ℕ). byte_at b p) t.same
+    ∙ over_before out₀ at whole (omega (arith, t.ends, t.long, t.fits)) p lt
+
 -- Of n pieces from piece i on, those from piece k on are still to be put.
 pub record PiecesToPut (p : ℕ → List ℕ) (i n : ℕ) (out₀ : List ℕ) (at : ℕ) (out : List ℕ) (next k : ℕ) : Type 0 where
   pub put : ToPut out₀ at (pieces p i n) out next (pieces p (i + k) (n - k))
@@ -199,13 +206,40 @@ part_over out at bytes e =
     let a : at + length bytes - at ≡ length bytes = omega arith in
     rw (e, a, drop-drop (length bytes) at out)
 
--- Bytes of the buffer itself, as the library copies them.
-module _ (s : List ℕ) (place n : ℕ) (inside : place + n ≤ length s) where
-  pub pasted : (out : List ℕ) (at : ℕ) {after : List ℕ} → after ≡ paste out at (drop place s) (place + n - place) → after ≡ over out at (bytes_at s place n)
-  unfolding over
-  pasted out at e =
-      let b : place + n - place ≡ n = omega arith in
-      rw (e, b, bytes_length s place n, ← bytes_taken s place n inside) (append_assoc (take at out) (take n (drop place s)) (drop (at + n) out))
+-- Of n bytes of an image from a place on, those from byte k on are still to be put.
+pub record BytesToPut (s : List ℕ) (place n : ℕ) (out₀ : List ℕ) (at : ℕ) (out : List ℕ) (k : ℕ) : Type 0 where
+  pub put : PiecesToPut (one_byte_lem s) place n out₀ at out (at + k) k
+
+pub bytes_start : {s : List ℕ} {place n at : ℕ} {out : List ℕ} → at + n ≤ length out → BytesToPut s place n out at out 0
+bytes_start {s} {place} {n} {at} {out} fits =
+    let a : at + 0 ≡ at = omega arith in
+    let b : length (pieces (one_byte_lem s) place n) ≡ n = sym (ap length (bytes_joined s place n)) ∙ bytes_length s place n in
+    record { put = rw a (pieces_start (one_byte_lem s) place n (record { within = omega arith })) }
+
+module _ {s : List ℕ} {place n : ℕ} {out₀ : List ℕ} {at : ℕ} {out : List ℕ} {k : ℕ} (t : BytesToPut s place n out₀ at out k) where
+  pub bytes_more : k < n → BytesToPut s place n out₀ at (set out (at + k) (byte_at s (place + k))) (k + 1)
+  bytes_more lt = record { put = pieces_more t.put lt (over_one out (at + k) _ (omega (arith, (pieces_fit t.put lt).within))) (omega arith) }
+
+  pub bytes_done : n ≤ k → out ≡ over out₀ at (bytes_at s place n)
+  bytes_done le = pieces_done t.put le ∙ ap (over out₀ at) (sym (bytes_joined s place n))
+
+-- Bytes over as many are those bytes.
+pub whole_over : (out s : List ℕ) → length out ≡ length s → over out 0 (bytes_at s 0 (length s)) ≡ s
+unfolding over
+whole_over out s e =
+    let bytes : bytes_at s 0 (length s) ≡ s = sym (bytes_taken s 0 (length s) (omega arith)) ∙ take-length s in
+    let rest : drop (length s) out ≡ [] = rw e at (drop-length out) in
+    let none : 0 + length s ≡ length s = omega arith in
+    rw (bytes, none, rest) (append-nil s)
+
+-- The same of bytes of the buffer itself, which stand before the place where they are put.
+module _ {place n : ℕ} {out₀ : List ℕ} {at : ℕ} {out : List ℕ} {k : ℕ} (t : BytesToPut out₀ place n out₀ at out k) where
+  pub again_more : k < n → place + n ≤ at → BytesToPut out₀ place n out₀ at (set out (at + k) (byte_at out (place + k))) (k + 1)
+  again_more lt le = rw (before_kept t.put.put (place + k) (omega arith) (omega arith)) (bytes_more t lt)
+
+-- the place that is reached once bytes of the buffer itself are put
+pub put_reached : {x y : Output} (place n : ℕ) → Put x y (bytes_at x.bytes.now place n) → y.at ≡ x.at + n
+put_reached {x} {y} place n p = omega (arith, p.at, bytes_length x.bytes.now place n)
 
 -- a null, one byte
 module _ {out bytes : List ℕ} {at : ℕ} (fits : Fits out at bytes) (e : bytes ≡ 0 ∷ []) where

@@ -13,7 +13,7 @@ use Rattle.image.specs.Record.{code_of, offset_of}
 use Rattle.image.specs.TypeCode.{layout_of}
 use Rattle.image.specs.Element.{valid}
 use Rattle.image.specs.Reads.{Read}
-use Rattle.image.specs.Row.{Row, range, value_at, row_at}
+use Rattle.image.specs.Row.{Row, null, fixed, sized, joined, counted, tagged, range, value_at, row_at}
 use Rattle.image.specs.RowBytes.{row_bytes, rows_bytes}
 use Rattle.laws.proofs.Lengths.{number_length}
 use Rattle.accepted.specs.Parts.{Side, Part}
@@ -26,6 +26,16 @@ use Rattle.rows.specs.ValueOf.{value_of}
 use Rattle.rows.proofs.Joined.{parts_joined}
 use Rattle.rows.proofs.ValueRows.{value_written}
 use Rattle.rows.proofs.ValuePlaces.{PlacedRows, Placed, value_placed}
+
+-- every row has a byte
+pub row_some : (r : Row) → 0 < length (row_bytes r)
+unfolding row_bytes
+row_some null = omega arith
+row_some (fixed b) = omega arith
+row_some (sized b) = omega arith
+row_some (joined rs) = omega arith
+row_some (counted rs) = omega arith
+row_some (tagged id r) = omega arith
 
 -- whether a row is null
 pub ended_null : (depth : ℕ) (s : List ℕ) (k i : ℕ) → depth ≡ 0 → true ≡ is_null depth s k i

@@ -1,8 +1,8 @@
 -- The value at an element of an accepted image has its bytes inside the image, and its child rows are rows of nodes.
 -- Acceptance gives it for each layout: the element of a row that is not null names only what is there.
-use mathlib.Core.Path.{◌≡◌, refl}
+use mathlib.Core.Path.{◌≡◌, refl, sym, ap}
 use mathlib.Core.Bool.{Bool, true, false}
-use mathlib.Core.List.{List}
+use mathlib.Core.List.{List, []}
 use Prim.Native.Nat.{ℕ, suc, ◌+◌, ◌*◌, ◌-◌, ◌≤◌, ◌<◌, ◌^◌}
 use native.Mathlib.Nat.{one-mul}
 use native.Mathlib.Numerals.{add-one}
@@ -41,26 +41,36 @@ abbrev pub RowsPlaced : List ℕ → Option ChildRows → Type 0
 RowsPlaced s None = ⊤
 RowsPlaced s (Some v) = PlacedRows s v
 
--- the number in front takes at most four bytes, the bytes are no more than the image's, and the child rows are rows of nodes
+-- bytes that stand in the image, from a place on, and lie inside
+pub record Inside (s bytes : List ℕ) : Type 0 where
+  pub place : ℕ
+  pub stand : bytes ≡ bytes_at s place (length bytes)
+  pub within : place + length bytes ≤ length s
+
+-- the number in front takes at most four bytes, the bytes lie inside, and the child rows are rows of nodes
 pub record Placed (s : List ℕ) (v : Content) : Type 0 where
   pub narrow : v.width ≤ 4
-  pub inside : length v.bytes ≤ length s
+  pub inside : Inside s v.bytes
   pub rows : RowsPlaced s v.rows
 
 -- bytes
-leaf_placed : {s : List ℕ} (head width : ℕ) {bytes : List ℕ} → width ≤ 4 → length bytes ≤ length s → Placed s (leaf_value head width bytes)
+leaf_placed : {s : List ℕ} (head width : ℕ) {bytes : List ℕ} → width ≤ 4 → Inside s bytes → Placed s (leaf_value head width bytes)
 leaf_placed head width narrow inside = record { narrow = narrow; inside = inside; rows = tt }
 
--- those of the image from a place on
-within : (s : List ℕ) (place size : ℕ) → place + size ≤ length s → length (bytes_at s place size) ≤ length s
-within s place size inside = omega (arith, inside, bytes_length s place size)
+-- those of the image from a place on, and none
+within : (s : List ℕ) (place size : ℕ) → place + size ≤ length s → Inside s (bytes_at s place size)
+within s place size inside = record { place = place; stand = ap (bytes_at s place) (sym (bytes_length s place size)); within = omega (arith, inside, bytes_length s place size) }
+
+none_within : (s : List ℕ) → Inside s []
+unfolding bytes_at
+none_within s = record { place = 0; stand = refl; within = omega arith }
 
 -- child rows
 nested_placed : {s : List ℕ} (head width child parts start count : ℕ) → AcceptedImage s → width ≤ 4
     → child + parts ≤ node_count s → ((c : ℕ) → c < parts → start + count ≤ length_of s (child + c)) → Placed s (nested_value head width child parts start count)
-nested_placed head width child parts start count image narrow nodes rows = record {
+nested_placed {s} head width child parts start count image narrow nodes rows = record {
   narrow = narrow;
-  inside = omega arith;
+  inside = none_within s;
   rows = record {
     parts = λ c lt. record { image = image; node = omega arith; rows = rows c lt };
     few = omega (arith, image.tables.few_nodes);
@@ -170,8 +180,8 @@ module _ {s : List ℕ} {k j : ℕ} (r : Part s k j 1) where
       child_placed 0 0 (first_child s k + 1) (run_at s k j) 1 r.image (omega arith) (child_node s k 1 r.image r.node (omega arith)) (omega (arith, (runs_cover part).value j part.element))
 
   by_layout : (x : Layout) → layout_of (code_of s k) ≡ x → Placed s (value_of x s k j)
-  by_layout Null e = leaf_placed 0 0 (omega arith) (omega arith)
-  by_layout Boolean e = leaf_placed _ 1 (omega arith) (omega arith)
+  by_layout Null e = leaf_placed 0 0 (omega arith) (none_within s)
+  by_layout Boolean e = leaf_placed _ 1 (omega arith) (none_within s)
   by_layout FixedWidth e = leaf_placed 0 0 (omega arith) (within s _ _ (fixed_inside e))
   by_layout VariableSize e = leaf_placed _ 4 (omega arith) (within s _ _ (omega (arith, text_up e, text_ends e)))
   by_layout View e = leaf_placed _ 4 (omega arith) (within s _ _ (view_inside e))

@@ -28,17 +28,18 @@ fn measure_row(cursor: Cursor, depth: usize, runs: &mut KeptRuns, room: usize) -
     ensures value { result ≡ room_after room (length (row_bytes ((row_at depth of cursor.entry.column.now.node) cursor.entry.row))) }
     ensures remembered_after { Remembered cursor.entry.column.now.node.image.now runs.new }
 {
-    if is_null(cursor, depth) {
+    let node = cursor.column.node;
+    if is_null(node, cursor.row, depth) {
         return room.checked_sub(MARK_WIDTH);
     }
-    let v = value_at(cursor);
+    let v = value_at(node, cursor.column.offset + cursor.row, cursor.run);
     let mut left = room.checked_sub(MARK_WIDTH + v.width + v.bytes.len())?;
     let Some(rows) = v.rows else {
         return Some(left);
     };
     for c in 0..rows.parts {
-        let child = cursor.column.node.other(rows.child + c);
-        left = measure_rows(child, rows.start, rows.count, depth - 1, runs, left)?;
+        let child = rows.child + c;
+        left = measure_rows(node.image, child, rows.start, rows.count, depth - 1, runs, left)?;
     }
     Some(left)
 }
@@ -52,23 +53,24 @@ fn measure_row(cursor: Cursor, depth: usize, runs: &mut KeptRuns, room: usize) -
 // beside it: they change, and what is known of them is said before and after each call.
 #[cycle(measure_row_measure_rows)]
 pub fn measure_rows(
-    node: Node,
+    image: &[u8],
+    number: u32,
     i: usize,
     n: usize,
     depth: usize,
     runs: &mut KeptRuns,
     room: usize,
 ) -> Option<usize>
-    requires side { (Side of node) i n }
-    requires remembered { Remembered node.image.now runs.old }
-    ensures value { result ≡ room_after room (length (rows_bytes (range (row_at depth of node.entry) i n))) }
-    ensures remembered_after { Remembered node.entry.image.now runs.new }
+    requires side { Side image.now number i n }
+    requires remembered { Remembered image.now runs.old }
+    ensures value { result ≡ room_after room (length (rows_bytes (range (row_at depth image.now number) i n))) }
+    ensures remembered_after { Remembered image.now runs.new }
 {
     if n == 0 {
         return Some(room);
     }
     let end = i + n;
-    let column = Column::new(node);
+    let column = Column::new(Node { image, number });
     let mut cursor = column.first(i, runs);
     let mut left = room;
     while cursor.row < end {

@@ -3,6 +3,18 @@ ghost use Rattle.std.specs.Prelude.{◌≡◌, ◌+◌, ◌*◌, ◌-◌, ◌<�
 ghost use Rattle.image.specs.Bytes.{number_bytes, bytes_at};
 ghost use Rattle.rows.specs.Output.{repeated, Put};
 
+// Bytes put over a part of a buffer that is as long.
+// Kept: byte by byte, and not the library's `copy_from_slice`, which would ask every C host for a `memmove`.
+pub fn copy_bytes(part: &mut [u8], bytes: &[u8])
+    requires { length part.old ≡ length bytes.now }
+    ensures len { length part.new ≡ length part.old }
+    ensures after { part.new ≡ bytes.now }
+{
+    for k in 0..bytes.len() {
+        part[k] = bytes[k];
+    }
+}
+
 // A buffer that bytes are put into, and the place that is reached.
 #[derive(Drop)]
 pub struct Output<'a> {
@@ -33,8 +45,21 @@ impl Output<'_> {
         ensures { Put self.old self.new bytes.now }
     {
         let end = self.at + bytes.len();
-        self.bytes[self.at..end].copy_from_slice(bytes);
+        copy_bytes(&mut self.bytes[self.at..end], bytes);
         self.at = end;
+    }
+
+    // The n bytes from an earlier place of the buffer on, once more.
+    // Kept: byte by byte, and not the library's `copy_within`, which would ask every C host for a `memmove`.
+    fn put_again(&mut self, from: usize, n: usize)
+        requires { (from + n ≤ self.old.at) × (self.old.at + n ≤ length self.old.bytes.now) }
+        ensures { Put self.old self.new (bytes_at self.old.bytes.now from n) }
+    {
+        let at = self.at;
+        for k in 0..n {
+            self.bytes[at + k] = self.bytes[from + k];
+        }
+        self.at = at + n;
     }
 
     // The n bytes before the place that is reached so many times more, behind them. Each time as many are put as stand, or as
@@ -50,8 +75,7 @@ impl Output<'_> {
         // Kept: no `for`, since each turn puts as much as all before it.
         while left > 0 {
             let m = there.min(left);
-            self.bytes.copy_within(from..from + m * n, self.at);
-            self.at += m * n;
+            self.put_again(from, m * n);
             there += m;
             left -= m;
         }

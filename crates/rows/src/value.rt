@@ -7,11 +7,11 @@ ghost use Rattle.image.specs.Record.{code_of, first_child};
 ghost use Rattle.image.specs.TypeCode.{layout_of};
 ghost use Rattle.image.specs.Element.{type_id_at};
 ghost use Rattle.accepted.specs.Parts.{Part};
+ghost use Rattle.accepted.specs.Runs.{kept_run};
 ghost use Rattle.rows.specs.Value.{content, leaf_value, nested_value, is_null};
 ghost use Rattle.rows.specs.ValueOf.{text_value, rows_value, union_value, value_of};
 
 use accepted::byte_view::View;
-use accepted::column::Cursor;
 use image::bytes::{bit, byte};
 use image::element::VIEW_SIZE;
 use image::record::Node;
@@ -235,28 +235,26 @@ impl<'a> Element<'a> {
     }
 }
 
-// A cursor's row is null: its bitmap bit is 0, or no depth is left.
-pub(crate) fn is_null(cursor: Cursor, depth: usize) -> bool
-    requires { cursor.row < 2 ^ 34 }
-    ensures { result ≡ (is_null depth of cursor.entry.column.now.node) cursor.entry.row }
+// Row i of a node is null: its bitmap bit is 0, or no depth is left.
+#[inline(always)]
+pub fn is_null(node: Node, i: usize, depth: usize) -> bool
+    requires { i < 2 ^ 34 }
+    ensures { result ≡ (is_null depth of node.entry) i }
 {
     if depth == 0 {
         return true;
     }
-    let node = cursor.column.node;
-    !node.is_kept(node.bitmap(), cursor.row)
+    !node.is_kept(node.bitmap(), i)
 }
 
-// The value of a cursor's row, whose element is part of what is shown.
-pub(crate) fn value_at(cursor: Cursor<'_>) -> Value<'_>
-    requires { (Part of cursor.column.now.node) (cursor.column.now.offset + cursor.row) 1 }
-    ensures { content result ≡ (value_of (layout_of (code_of of cursor.entry.column.now.node)) of cursor.entry.column.now.node) (cursor.entry.column.now.offset + cursor.entry.row) }
+// The value at element j of a node, beside which a run is kept.
+#[inline(always)]
+pub fn value_at(node: Node<'_>, j: usize, run: usize) -> Value<'_>
+    requires part { (Part of node) j 1 }
+    requires run { run ≡ (kept_run of node) j }
+    ensures { content result ≡ (value_of (layout_of (code_of of node.entry)) of node.entry) j }
 {
-    let node = cursor.column.node;
-    let element = Element {
-        node,
-        j: cursor.column.offset + cursor.row,
-    };
+    let element = Element { node, j };
     let layout = node.layout();
     match layout {
         Layout::Null => leaf(0, 0, &[]),
@@ -271,6 +269,6 @@ pub(crate) fn value_at(cursor: Cursor<'_>) -> Value<'_>
         Layout::DenseUnion => element.dense_value(),
         Layout::SparseUnion => element.sparse_value(),
         Layout::Dictionary => element.dictionary_value(),
-        Layout::Runs => element.run_value(cursor.run),
+        Layout::Runs => element.run_value(run),
     }
 }

@@ -32,18 +32,19 @@ fn write_row(cursor: Cursor, depth: usize, runs: &mut KeptRuns, out: &mut Output
     ensures put { Put out.old out.new (row_bytes ((row_at depth of cursor.entry.column.now.node) cursor.entry.row)) }
     ensures remembered_after { Remembered cursor.entry.column.now.node.image.now runs.new }
 {
-    if is_null(cursor, depth) {
+    let node = cursor.column.node;
+    if is_null(node, cursor.row, depth) {
         out.put_number(usize::from(NULL_MARK), MARK_WIDTH);
         return;
     }
-    let v = value_at(cursor);
+    let v = value_at(node, cursor.column.offset + cursor.row, cursor.run);
     put_own(v, out);
     let Some(rows) = v.rows else {
         return;
     };
     for c in 0..rows.parts {
-        let child = cursor.column.node.other(rows.child + c);
-        write_rows(child, rows.start, rows.count, depth - 1, runs, out);
+        let child = rows.child + c;
+        write_rows(node.image, child, rows.start, rows.count, depth - 1, runs, out);
     }
 }
 
@@ -53,24 +54,25 @@ fn write_row(cursor: Cursor, depth: usize, runs: &mut KeptRuns, out: &mut Output
 // and writing lends a buffer and cannot stop; a trait over both would have three methods with laws, and two impls.
 #[cycle(write_row_write_rows)]
 pub fn write_rows(
-    node: Node,
+    image: &[u8],
+    number: u32,
     i: usize,
     n: usize,
     depth: usize,
     runs: &mut KeptRuns,
     out: &mut Output,
 )
-    requires side { (Side of node) i n }
-    requires remembered { Remembered node.image.now runs.old }
-    requires fits { Fits out.old.bytes.now out.old.at (rows_bytes (range (row_at depth of node) i n)) }
-    ensures put { Put out.old out.new (rows_bytes (range (row_at depth of node.entry) i n)) }
-    ensures remembered_after { Remembered node.entry.image.now runs.new }
+    requires side { Side image.now number i n }
+    requires remembered { Remembered image.now runs.old }
+    requires fits { Fits out.old.bytes.now out.old.at (rows_bytes (range (row_at depth image.now number) i n)) }
+    ensures put { Put out.old out.new (rows_bytes (range (row_at depth image.now number) i n)) }
+    ensures remembered_after { Remembered image.now runs.new }
 {
     if n == 0 {
         return;
     }
     let end = i + n;
-    let column = Column::new(node);
+    let column = Column::new(Node { image, number });
     let mut cursor = column.first(i, runs);
     while cursor.row < end {
         let stay = cursor.stay(end - cursor.row);

@@ -16,18 +16,18 @@ pub returns-then-out_of_range : goal.returns-then-out_of_range
 returns-then-out_of_range c = let both = write_out_of_range _ _ _ _ (sym c.check.ensures ∙ c.in_ok-check.was) (sym c.out_of_range.ensures ∙ c.if-out_of_range.true) in record { value = both.0; out_after = both.1 }
 
 pub measure_rows-requires : goal.measure_rows-requires
-measure_rows-requires c = rw (c.root-table.ensures.image, c.root-table.ensures.number) (record { side = table_side _ _ _ (sym c.check.ensures ∙ c.in_ok-check.was) (sym c.out_of_range.ensures ∙ c.if-out_of_range.false); remembered = none_remembered _ })
+measure_rows-requires c = rw c.root-root.ensures.number (record { side = table_side _ _ _ (sym c.check.ensures ∙ c.in_ok-check.was) (sym c.out_of_range.ensures ∙ c.if-out_of_range.false); remembered = none_remembered _ })
 
 pub returns-in_default : goal.returns-in_default
 returns-in_default c =
-    let measured = rw (c.root-table.ensures.image, c.root-table.ensures.number) at c.measure_rows.ensures.value in
+    let measured = rw c.root-root.ensures.number at c.measure_rows.ensures.value in
     let both = write_too_long _ _ _ _ (sym c.check.ensures ∙ c.in_ok-check.was) (sym c.out_of_range.ensures ∙ c.if-out_of_range.false) (sym measured ∙ c.in_default.is) in
     record { value = both.0; out_after = both.1 }
 
 pub write_rows-requires : goal.write_rows-requires
 write_rows-requires c =
-    let measured = rw (c.root-table.ensures.image, c.root-table.ensures.number) at c.measure_rows.ensures in
-    rw (c.root-table.ensures.image, c.root-table.ensures.number)
+    let measured = rw c.root-root.ensures.number at c.measure_rows.ensures in
+    rw c.root-root.ensures.number
     (record {
       side = table_side _ _ _ (sym c.check.ensures ∙ c.in_ok-check.was) (sym c.out_of_range.ensures ∙ c.if-out_of_range.false);
       remembered = measured.remembered_after;
@@ -36,7 +36,7 @@ write_rows-requires c =
 
 pub returns : goal.returns
 returns c =
-    let measured = rw (c.root-table.ensures.image, c.root-table.ensures.number) at c.measure_rows.ensures.value in
-    let put = rw (c.root-table.ensures.image, c.root-table.ensures.number) at c.write_rows.ensures.put in
+    let measured = rw c.root-root.ensures.number at c.measure_rows.ensures.value in
+    let put = rw c.root-root.ensures.number at c.write_rows.ensures.put in
     let both = write_bytes _ _ _ _ (sym c.check.ensures ∙ c.in_ok-check.was) (sym c.out_of_range.ensures ∙ c.if-out_of_range.false) (sym measured ∙ c.in-Some.is) put.at (c.out-1.given.1.1 (sym put.lent) ∙ put.bytes) in
     record { value = both.0; out_after = both.1 }

@@ -19,4 +19,4 @@ pub count_row-requires : goal.count_row-requires
 count_row-requires c = count_requires c.requires.getting c.spot_of-spot.ensures
 
 pub returns : goal.returns
-returns c = record { same = search rules; filled = fixed_filled c.requires.getting c.spot_of-spot.ensures c.requires.layout c.requires.width (state_sized c.args.self.now (omega (arith, c.well_formed))) _ refl (bit_over _ _ _ c.set_bit.ensures) (c.count_row.ensures.out ∙ part_over _ _ _ c.copy_from_slice.ensures.after) (c.count_row.ensures.rows, c.count_row.ensures.spans) }
+returns c = record { same = search rules; filled = fixed_filled c.requires.getting c.spot_of-spot.ensures c.requires.layout c.requires.width (state_sized c.args.self.now (omega (arith, c.well_formed))) _ refl (bit_over _ _ _ c.set_bit.ensures) (c.count_row.ensures.out ∙ part_over _ _ _ c.copy_bytes.ensures.after) (c.count_row.ensures.rows, c.count_row.ensures.spans) }
