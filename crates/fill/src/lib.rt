@@ -53,7 +53,8 @@ impl Filling<'_> {
     {
         let n = le::<COUNT_WIDTH>(b, MARK_WIDTH);
         self.put_list(node, n);
-        self.fill_rows(node.child(0), n, depth - 1, &b[HEAD..])
+        let child = node.child(0);
+        self.fill_rows(child.image, child.number, n, depth - 1, &b[HEAD..])
     }
 
     // A row of a Struct that is not null: a row of each child.
@@ -66,17 +67,27 @@ impl Filling<'_> {
         self.put_struct(node);
         let mut rest = &b[MARK_WIDTH..];
         for c in 0..node.child_count() {
-            rest = self.fill_row(node.child(c), depth - 1, rest);
+            let child = node.child(c);
+            rest = self.fill_row(child.image, child.number, depth - 1, rest);
         }
         rest
     }
 
     // A row of a node, with which the string begins.
+    // Kept: an image and a number, here and in `fill_rows`, and no `Node`: one is lent in memory, and a row of a Struct in a Struct
+    // took 1.6 times as long.
     #[cycle(fill)]
-    fn fill_row<'b>(&mut self, node: Node, depth: usize, b: &'b [u8]) -> &'b [u8]
-        requires { (AtRow of node) depth b.now self.old }
-        ensures { (PastRow of node.entry) depth b.now self.old self.new result.now }
+    fn fill_row<'b>(
+        &mut self,
+        image: &[u8],
+        number: u32,
+        depth: usize,
+        b: &'b [u8],
+    ) -> &'b [u8]
+        requires { AtRow image.now number depth b.now self.old }
+        ensures { PastRow image.now number depth b.now self.old self.new result.now }
     {
+        let node = Node { image, number };
         if b[0] == NULL_MARK {
             self.fill_gap(node, depth);
             return &b[MARK_WIDTH..];
@@ -107,13 +118,20 @@ impl Filling<'_> {
 
     // n rows of a node, one after the other.
     #[cycle(fill)]
-    fn fill_rows<'b>(&mut self, node: Node, n: usize, depth: usize, b: &'b [u8]) -> &'b [u8]
-        requires { (AtRows of node) n depth b.now self.old }
-        ensures { (PastRows of node.entry) n depth b.now self.old self.new result.now }
+    fn fill_rows<'b>(
+        &mut self,
+        image: &[u8],
+        number: u32,
+        n: usize,
+        depth: usize,
+        b: &'b [u8],
+    ) -> &'b [u8]
+        requires { AtRows image.now number n depth b.now self.old }
+        ensures { PastRows image.now number n depth b.now self.old self.new result.now }
     {
         let mut rest = b;
         for i in 0..n {
-            rest = self.fill_row(node, depth, rest);
+            rest = self.fill_row(image, number, depth, rest);
         }
         rest
     }
@@ -125,5 +143,6 @@ pub fn fill(s: &[u8], count: usize, b: &[u8], places: &[usize; MOST_PLACES], out
     ensures { out.new ≡ over out.old (part_start s.now (the_rows (rows_in s.now count b.now)) 0) (pieces (part_at s.now (the_rows (rows_in s.now count b.now))) 0 (3 * node_count s.now)) }
 {
     let mut filling = Filling::new(places, out);
-    filling.fill_rows(Node::root(s), count, MAX_DEPTH, b);
+    let root = Node::root(s);
+    filling.fill_rows(root.image, root.number, count, MAX_DEPTH, b);
 }

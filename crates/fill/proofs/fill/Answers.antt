@@ -6,7 +6,7 @@ use Rattle.fill.proofs.Whole.{whole_walk, parts_filled}
 use Rattle.fill.proofs.fill.Goals as goal
 
 pub fill_rows-requires : goal.fill_rows-requires
-fill_rows-requires c = rw (c.root.ensures.image, c.root.ensures.number) (whole_walk (rw (c.new-filling.ensures.lent.0, c.new-filling.ensures.lent.2) c.requires) (λ k. omega (arith, c.type_inv.b k)) c.new-filling.ensures.none_yet.0 c.new-filling.ensures.none_yet.1)
+fill_rows-requires c = rw (c.root-root.ensures.image, c.root-root.ensures.number) (whole_walk (rw (c.new-filling.ensures.lent.0, c.new-filling.ensures.lent.2) c.requires) (λ k. omega (arith, c.type_inv.b k)) c.new-filling.ensures.none_yet.0 c.new-filling.ensures.none_yet.1)
 
 pub returns : goal.returns
-returns c = c.out-1.given.1.1 (sym (c.fill_rows.ensures.same.out ∙ c.new-filling.ensures.lent.1)) ∙ (rw c.new-filling.ensures.lent.2 at (parts_filled (rw (c.new-filling.ensures.lent.0, c.new-filling.ensures.lent.2) c.requires) (λ k. omega (arith, c.type_inv.b k)) c.new-filling.ensures.none_yet.0 c.new-filling.ensures.none_yet.1 (rw (c.root.ensures.image, c.root.ensures.number) at c.fill_rows.ensures.walked)))
+returns c = c.out-1.given.1.1 (sym (c.fill_rows.ensures.same.out ∙ c.new-filling.ensures.lent.1)) ∙ (rw c.new-filling.ensures.lent.2 at (parts_filled (rw (c.new-filling.ensures.lent.0, c.new-filling.ensures.lent.2) c.requires) (λ k. omega (arith, c.type_inv.b k)) c.new-filling.ensures.none_yet.0 c.new-filling.ensures.none_yet.1 (rw (c.root-root.ensures.image, c.root-root.ensures.number) at c.fill_rows.ensures.walked)))

@@ -19,7 +19,7 @@ abbrev pub decreases-fill_struct : goal.decreases-fill_struct
 decreases-fill_struct l = 3 * l.depth + 1
 
 abbrev pub invariant-fill_rows-loop-i : goal.invariant-fill_rows-loop-i
-invariant-fill_rows-loop-i l = SameLent l.fn.self l.self × RowsLeft l.node.image.now l.fn.self.places.now l.b l.depth l.node.number l.n (state l.fn.self) (state l.self) l.rest l.i
+invariant-fill_rows-loop-i l = SameLent l.fn.self l.self × RowsLeft l.image l.fn.self.places.now l.b l.depth l.number l.n (state l.fn.self) (state l.self) l.rest l.i
 
 abbrev pub invariant-fill_struct-loop-c : goal.invariant-fill_struct-loop-c
 invariant-fill_struct-loop-c l = SameLent l.fn.self l.self × FieldsLeft l.node.image.now l.fn.self.places.now l.b l.depth l.node.number (first_child l.node.image.now l.node.number) l.c-end (state l.initial.self) (state l.self) l.rest l.c
