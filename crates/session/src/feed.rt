@@ -1,5 +1,5 @@
 // Lines out of the chunks that the input arrives in.
-ghost use Rattle.std.specs.Prelude.{◌≡◌, ◌≤◌};
+ghost use Rattle.std.specs.Prelude.{◌≡◌};
 ghost use Rattle.session.specs.Feeds.{feed_at};
 
 use crate::line::LINE_FEED;
@@ -15,13 +15,12 @@ pub fn line_feed(chunk: &[u8]) -> Option<usize>
 // The first characters of a line: all that have come, or 195 where there are more.
 // Kept: a store is an array and how much of it is used, too. One struct for both, over the size, would save two lines of code
 // and add a clause: both still add in their own way, since of what does not fit a line takes a part and a store nothing.
-#[derive(Drop)]
+#[derive(Clone, Copy)]
 pub struct Line {
-    chars: [u8; KEPT],
-    // how many of them are kept; none where no line has begun
+    pub chars: [u8; KEPT],
+    // how many of them are kept, all where it says more; none where no line has begun
     // Kept: 0 stands for nothing else: a line has begun exactly where a character is kept.
     pub len: usize,
-    ghost within: { len ≤ 195 },
 }
 
 impl Line {
@@ -30,7 +29,7 @@ impl Line {
     ghost use Rattle.session.specs.Stores.{kept_in};
 
     // No line has begun.
-    pub fn new() -> Line
+    pub(crate) fn new() -> Line
         ensures chars { result.chars ≡ replicate 195 0 }
         ensures len { result.len ≡ 0 }
     {
@@ -41,25 +40,25 @@ impl Line {
     }
 
     // The characters that are kept.
-    pub fn kept(&self) -> &[u8]
+    pub(crate) fn kept(&self) -> &[u8]
         ensures { result.now ≡ kept_in self.now }
     {
-        &self.chars[..self.len]
+        &self.chars[..self.len.min(KEPT)]
     }
 
     // More characters of the line, kept as long as there is room.
-    pub fn add(&mut self, more: &[u8])
+    pub(crate) fn add(&mut self, more: &[u8])
         ensures len { self.new.len ≡ length (kept_with (kept_in self.old) more.now) }
         ensures chars { self.new.chars ≡ kept_with (kept_in self.old) more.now ++ drop (length (kept_with (kept_in self.old) more.now)) self.old.chars }
     {
-        let at = self.len;
+        let at = self.kept().len();
         let n = more.len().min(KEPT - at);
         self.chars[at..at + n].copy_from_slice(&more[..n]);
         self.len = at + n;
     }
 
     // The line was answered.
-    pub fn clear(&mut self)
+    pub(crate) fn clear(&mut self)
         ensures len { self.new.len ≡ 0 }
         ensures chars { self.new.chars ≡ self.old.chars }
     {

@@ -16,10 +16,10 @@ use api::{compare, compare_range};
 use image::answer::Side;
 
 // Both sides' stores.
-#[derive(Drop)]
+#[derive(Clone, Copy)]
 pub struct Stores {
-    left: Store,
-    right: Store,
+    pub left: Store,
+    pub right: Store,
 }
 
 impl Stores {
@@ -52,15 +52,15 @@ impl Stores {
 }
 
 // Both stores, and the output of what is written.
-#[derive(Drop)]
+#[derive(Clone, Copy)]
 pub struct Session {
-    stores: Stores,
+    pub stores: Stores,
     pub out: [u8; OUTPUT],
 }
 
 impl Session {
     // "Both start empty and open"
-    pub fn new() -> Session
+    pub(crate) fn new() -> Session
         ensures { after_of (Ok Done) result ≡ fresh }
     {
         Session {
@@ -90,7 +90,7 @@ impl Session {
     }
 
     // One line: what it is answered with. What it does to the stores, to the sides and to the output, it does here.
-    pub fn step(&mut self, line: &[u8]) -> Result<Reply, Refusal>
+    pub(crate) fn step(&mut self, line: &[u8]) -> Result<Reply, Refusal>
         ensures { after_of result self.new ≡ after_line_of line.now self.old }
     {
         let mut buffer = [0u8; LONGEST_FRAME];

@@ -1,20 +1,17 @@
 // One side's store.
-ghost use Rattle.std.specs.Prelude.{◌≤◌};
-
 use crate::reply::{Refusal, Reply, written_reply};
 use crate::sizes::STORE;
 use api::{check, write};
 use image::answer::Side;
 
 // Kept: an array of its own, as the documents have it; `Line` says why the two are not one struct.
-#[derive(Drop)]
+#[derive(Clone, Copy)]
 pub struct Store {
-    bytes: [u8; STORE],
-    // how many of them are used
-    used: usize,
+    pub bytes: [u8; STORE],
+    // how many of them are used; where it says more than there are, all are, and no piece fits
+    pub used: usize,
     // Kept: open or closed, a store has the same fields; an enum would say them twice.
-    closed: bool,
-    ghost within: { used ≤ 24576 },
+    pub closed: bool,
 }
 
 impl Store {
@@ -23,7 +20,7 @@ impl Store {
     ghost use Rattle.session.specs.Stores.{side_of_store, lent_of};
 
     // A store that is empty and open.
-    pub fn new() -> Store
+    pub(crate) fn new() -> Store
         ensures side { side_of_store result ≡ emptied }
         ensures bytes { result.bytes ≡ replicate 24576 0 }
     {
@@ -38,11 +35,11 @@ impl Store {
     fn image(&self) -> &[u8]
         ensures { result.now ≡ image_of (side_of_store self.now) self.now.bytes }
     {
-        &self.bytes[..self.used]
+        &self.bytes[..self.used.min(STORE)]
     }
 
     // The image of a side that is closed: refused where it is open.
-    pub fn accepted(&self) -> Result<&[u8], Refusal>
+    pub(crate) fn accepted(&self) -> Result<&[u8], Refusal>
         ensures { lent_of result ≡ accepted_of (side_of_store self.now) self.now.bytes }
     {
         if !self.closed {
@@ -52,7 +49,7 @@ impl Store {
     }
 
     // A piece: refused where the side is closed, or where the piece does not fit into the store.
-    pub fn piece(&mut self, piece: &[u8]) -> Result<Reply, Refusal>
+    pub(crate) fn piece(&mut self, piece: &[u8]) -> Result<Reply, Refusal>
         ensures side_after { side_stepped (side_of_store self.new) result ≡ piece_side self.old.bytes (side_of_store self.old) piece.now }
         ensures bytes_after { self.new.bytes ≡ piece_store self.old.bytes (side_of_store self.old) piece.now }
     {
@@ -69,7 +66,7 @@ impl Store {
     }
 
     // The side's close: refused where it is closed; a side whose image is refused is emptied.
-    pub fn close(&mut self) -> Result<Reply, Refusal>
+    pub(crate) fn close(&mut self) -> Result<Reply, Refusal>
         ensures side_after { side_stepped (side_of_store self.new) result ≡ close_side self.old.bytes (side_of_store self.old) }
         ensures bytes_after { self.new.bytes ≡ self.old.bytes }
     {
@@ -89,7 +86,13 @@ impl Store {
     }
 
     // A write of rows: refused where the side is open.
-    pub fn write(&self, side: Side, i: usize, n: usize, out: &mut [u8]) -> Result<Reply, Refusal>
+    pub(crate) fn write(
+        &self,
+        side: Side,
+        i: usize,
+        n: usize,
+        out: &mut [u8],
+    ) -> Result<Reply, Refusal>
         ensures value { result ≡ write_reply self.now.bytes (side_of_store self.now) side i n out.old }
         ensures out_after { out.new ≡ write_out self.now.bytes (side_of_store self.now) i n out.old }
     {
@@ -97,7 +100,7 @@ impl Store {
     }
 
     // Empty and open.
-    pub fn empty(&mut self)
+    pub(crate) fn empty(&mut self)
         ensures side_after { side_of_store self.new ≡ emptied }
         ensures bytes_after { self.new.bytes ≡ self.old.bytes }
     {

@@ -3,16 +3,19 @@ ghost use Rattle.std.specs.Prelude.{◌≡◌, []};
 ghost use Rattle.session.specs.Input.{fresh};
 ghost use Rattle.session.specs.Turns.{reader_at, line_at, held_in, answered, turn_of, end_of, Told, Turned};
 
-use crate::feed::{Line, line_feed};
+pub use crate::feed::Line;
+use crate::feed::line_feed;
 use crate::reply::render;
 use crate::sizes::LONGEST_REPLY;
-use crate::step::Session;
+pub use crate::step::{Session, Stores};
+pub use crate::store::Store;
 
-// How far an input was taken: what is kept of a line that has begun, and the session.
-#[derive(Drop)]
+// How far an input was taken: what is kept of a line that has begun, and the session. A caller may look at it, keep a copy,
+// and go on from any value.
+#[derive(Clone, Copy)]
 pub struct Progress {
-    line: Line,
-    session: Session,
+    pub line: Line,
+    pub session: Session,
 }
 
 // What a turn did.

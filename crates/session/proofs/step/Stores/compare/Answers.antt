@@ -21,8 +21,8 @@ pub returns-in_err-equal : goal.returns-in_err-equal
 unfolding compares_reply
 returns-in_err-equal c =
     let p = err_from_is_err_and c.from_residual-in_err-equal.result c.from_residual-in_err-equal.ensures.1 in
-    let both = both_lent c.args.self.now c.accepted.ensures c.in_ok-accepted.was c.accepted-2.ensures c.in_ok-accepted-2.was in
-    rw (p.1, p.2, ← both.0, ← both.1, ← c.compare.ensures, c.in_err-equal.was) (both.2 _)
+    let lent = both_lent c.args.self.now c.accepted.ensures c.in_ok-accepted.was c.accepted-2.ensures c.in_ok-accepted-2.was in
+    rw (p.1, p.2, ← lent.0, ← lent.1, ← c.compare.ensures, c.in_err-equal.was) (lent.2 _)
 
 pub returns : goal.returns
 unfolding compares_reply
