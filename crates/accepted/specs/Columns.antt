@@ -1,10 +1,12 @@
--- What is read once of a node whose rows are asked one after another, and what a run is that is kept beside a row.
-use Rattle.std.specs.Prelude.{◌≡◌, Bool, true, false, Option, None, Some, List, ℕ, ◌+◌, eqb}
+-- What is read once of a node whose rows are asked one after another, what a run is that is kept beside a row, and the runs that
+-- are remembered.
+use Rattle.std.specs.Prelude.{◌≡◌, Bool, true, false, Option, None, Some, List, ℕ, ◌+◌, eqb, set}
 use Rattle.image.specs.Record.{code_of, offset_of}
 use Rattle.image.specs.Element.{run_at}
 use Rattle.image.specs.Reads.{Read, EndsOf}
 use Rattle.image.specs.declared.bytes.Numbers.{Numbers}
 use Rattle.accepted.specs.Parts.{RunPart}
+use Rattle.accepted.specs.declared.column.KeptRun.{KeptRun}
 
 -- the rows of node k are in runs
 unfoldable pub in_runs : List ℕ → ℕ → Bool
@@ -25,3 +27,8 @@ pub record ColumnRead (s : List ℕ) (k first : ℕ) (read : Option Numbers) : T
 pub record Behind (s : List ℕ) (k i run : ℕ) : Type 0 where
   pub alone : in_runs s k ≡ false → run ≡ offset_of s k + i
   pub held : in_runs s k ≡ true → RunPart s k (offset_of s k + i) → run ≡ run_at s k (offset_of s k + i)
+
+-- the runs that are remembered, one for each node, and with them run `run` as that of element j of node k, where the node has runs
+abbrev pub remembering_by : Option Numbers → List (Option KeptRun) → ℕ → ℕ → ℕ → List (Option KeptRun)
+remembering_by None runs k j run = runs
+remembering_by (Some ends) runs k j run = set runs k (Some (record { element = j; run = run }))

@@ -1,10 +1,10 @@
 -- The run that is kept beside an element, for rows that are asked one after another.
-use Rattle.std.specs.Prelude.{◌≡◌, cond, Option, None, Some, List, ℕ, ◌+◌, ◌≤◌, ◌<◌, ltb, length, get_or, set}
+use Rattle.std.specs.Prelude.{◌≡◌, cond, Option, None, Some, List, ℕ, ◌+◌, ◌≤◌, ◌<◌, ltb, length, get_or}
 use Rattle.image.specs.Record.{offset_of}
 use Rattle.image.specs.Element.{run_at}
-use Rattle.image.specs.declared.bytes.Numbers.{Numbers}
 use Rattle.accepted.specs.Parts.{RunPart}
 use Rattle.accepted.specs.Columns.{in_runs}
+pub use Rattle.accepted.specs.Columns.{remembering_by}
 use Rattle.accepted.specs.declared.column.Cursor.{Cursor}
 use Rattle.accepted.specs.declared.column.KeptRun.{KeptRun}
 use Rattle.accepted.specs.declared.column.Stay.{Stay}
@@ -40,10 +40,6 @@ pub record Remembered (s : List ℕ) (runs : List (Option KeptRun)) : Type 0 whe
   pub sized : length runs ≡ 256
   pub of : (k : ℕ) → k < 256 → RememberedOf s k (get_or runs k None)
 
--- they, and the run that is kept at a row, where the rows are in runs
-abbrev pub remembering_by : Option Numbers → List (Option KeptRun) → ℕ → ℕ → ℕ → List (Option KeptRun)
-remembering_by None runs k j run = runs
-remembering_by (Some ends) runs k j run = set runs k (Some (record { element = j; run = run }))
-
+-- the runs that are remembered, and the one that is kept at a row, where the rows are in runs
 abbrev pub remembering : List (Option KeptRun) → Cursor → List (Option KeptRun)
 remembering runs c = remembering_by c.column.now.ends runs c.column.now.node.number (c.column.now.offset + c.row) c.run

@@ -1,7 +1,7 @@
 // A node whose rows are asked one after another: what is read of it once, and the run that is kept beside the row.
 ghost use Rattle.std.specs.Prelude.{◌≡◌, ◌+◌, ◌<◌, ◌^◌};
 ghost use Rattle.image.specs.Of.{◌of◌};
-ghost use Rattle.accepted.specs.Columns.{ColumnRead, Behind};
+ghost use Rattle.accepted.specs.Columns.{ColumnRead, Behind, remembering_by};
 
 use crate::runs::{next_run, run_of};
 use image::bytes::Numbers;
@@ -45,6 +45,16 @@ pub struct KeptRun {
 // Kept: an array, and no struct that says of which image: each function would then ask that it is the node's, and ensure that it
 // still is.
 pub type KeptRuns = [Option<KeptRun>; MOST_NODES];
+
+// The run of an element of a node is remembered, where the node has runs, whose ends these are.
+pub fn remember(ends: Option<Numbers>, node: u32, element: usize, run: usize, runs: &mut KeptRuns)
+    requires { node < 256 }
+    ensures { runs.new ≡ remembering_by ends.entry runs.old node element run }
+{
+    if ends.is_some() {
+        runs[node as usize] = Some(KeptRun { element, run });
+    }
+}
 
 impl<'a> Column<'a> {
     ghost use Rattle.accepted.specs.Parts.{Side};
@@ -141,11 +151,12 @@ impl<'a> Cursor<'a> {
         requires { (self.column.now.node.number < 256) × (self.column.now.offset + self.row < 2 ^ 34) }
         ensures { runs.new ≡ (remembering runs.old) self.entry }
     {
-        if self.column.ends.is_some() {
-            runs[self.column.node.number as usize] = Some(KeptRun {
-                element: self.column.offset + self.row,
-                run: self.run,
-            });
-        }
+        remember(
+            self.column.ends,
+            self.column.node.number,
+            self.column.offset + self.row,
+            self.run,
+            runs,
+        );
     }
 }

@@ -1,6 +1,6 @@
 // The numbers of an answer, and these as one number of 64 bits.
 // Kept: refusals are numbers here, since docs/FORMAT.md numbers them and C hosts are given the numbers.
-ghost use Rattle.std.specs.Prelude.{◌≡◌, ℕ, ◌<◌, ◌^◌};
+ghost use Rattle.std.specs.Prelude.{◌≡◌, ℕ, ◌<◌, ◌^◌, IfOk};
 ghost use Rattle.image.specs.declared.answer.Side.TheVariants.{Left};
 ghost use Rattle.answers.specs.declared.numbers.Numbers.{Numbers};
 ghost use Rattle.answers.specs.Numbers.{numbers, fault_numbers, side_fault_numbers, range_refusal_numbers, digits_refusal_numbers, write_refusal_numbers, build_refusal_numbers, unit_value, yes_value, row_value, answer_numbers, packed};
@@ -44,7 +44,7 @@ pub trait Found: Drop {
     ghost found_value: { Self → ℕ };
 
     fn value(self) -> usize
-        requires { found_value self < 2 ^ 56 }
+        requires { found_value self < 2 ^ 64 }
         ensures { result ≡ found_value self };
 }
 
@@ -183,9 +183,9 @@ impl Found for Option<usize> {
     }
 }
 
-// The numbers of an answer.
+// The numbers of an answer, for whatever value a usize can hold: of what the calls find only a row can be one too high.
 pub fn answer_numbers<T: Found, E: Refusal>(answer: Result<T, E>) -> Numbers
-    requires { (answer_numbers T.found_value E.refusal_numbers answer).value < 2 ^ 56 }
+    requires { IfOk answer (λ found. T.found_value found < 2 ^ 64) }
     ensures { result ≡ answer_numbers T.found_value E.refusal_numbers answer }
 {
     match answer {

@@ -49,6 +49,14 @@ pub record Filled (s : List ℕ) (f n k : ℕ) (table : List (Option ℕ)) : Typ
   pub entry : (id : ℕ) → id < 256 → FoundFrom s f n k id (get_or table id None)
 
 module _ (s : List ℕ) (f n : ℕ) where
+  -- the search from one child further down, whose id is x
+  pub search_down : (k x id : ℕ) → 0 < k → k ≤ n → x ≡ id_of s (f + (k - 1)) → first (has_id s id) (f + (k - 1)) (n - (k - 1)) ≡ cond (eqb x id) (f + (k - 1)) (first (has_id s id) (f + k) (n - k))
+  unfolding first has_id
+  search_down k x id pos most e =
+      let more : n - (k - 1) ≡ suc (n - k) = omega arith in
+      let next : suc (f + (k - 1)) ≡ f + k = omega arith in
+      rw (more, next, e)
+
   pub filled_none : Filled s f n n (replicate 256 None)
   unfolding first
   filled_none =
@@ -59,24 +67,17 @@ module _ (s : List ℕ) (f n : ℕ) where
       }
 
   pub filled_more : (k x child : ℕ) (table : List (Option ℕ)) → 0 < k → k ≤ n → Filled s f n k table → x ≡ id_of s (f + (k - 1)) → x < 256 → child ≡ f + (k - 1) → child < 2 ^ 17 → Filled s f n (k - 1) (set table x (Some child))
-  unfolding first has_id
   filled_more k x child table pos most r e byte at small =
       record {
         sized = length-set table x _ ∙ r.sized;
         entry = λ id h. own id h (eqb x id) refl;
       }
     where
-      more : n - (k - 1) ≡ suc (n - k)
-      more = omega arith
-
-      next : suc (f + (k - 1)) ≡ f + k
-      next = omega arith
-
       inside : x < length table
       inside = omega (arith, r.sized, byte)
 
       searched : (id : ℕ) → first (has_id s id) (f + (k - 1)) (n - (k - 1)) ≡ cond (eqb x id) (f + (k - 1)) (first (has_id s id) (f + k) (n - k))
-      searched id = rw (more, next, e)
+      searched id = search_down k x id pos most e
 
       later : (id : ℕ) (o : Option ℕ) → eqb x id ≡ false → FoundFrom s f n k id o → FoundFrom s f n (k - 1) id o
       later id None q p = searched id ∙ rw q p

@@ -87,9 +87,10 @@ pub fn le<const W: usize>(s: &[u8], i: usize) -> usize
     by_bytes(s, i, W)
 }
 
-// The same, of w bytes.
+// The same, of w bytes. It is part of what calls it, as `Numbers::at` is: as a function of its own it is called for each number.
 // Kept: a match on a number: the width is known only when the program runs, and each arm names one that is known where it is
 // compiled.
+#[inline(always)]
 pub fn number(s: &[u8], i: usize, w: usize) -> usize
     requires { w ≤ 8 }
     ensures { Read (number_at w s.now i) (8 * w) result }

@@ -79,8 +79,9 @@ impl<'a> Node<'a> {
         ensures { (ChildrenById of self.entry) result }
     {
         let mut table = [None; 256];
+        let first = self.first_child();
         for c in (0..self.child_count()).rev() {
-            let child = self.child(c);
+            let child = self.other(first + c);
             let id = usize::from(child.type_id());
             table[id] = Some(child.number);
         }
@@ -91,8 +92,9 @@ impl<'a> Node<'a> {
     pub fn child_with_id(self, id: u8) -> Option<u32>
         ensures { (NamedChild of self.entry) id result }
     {
+        let first = self.first_child();
         for c in 0..self.child_count() {
-            let child = self.child(c);
+            let child = self.other(first + c);
             if child.type_id() == id {
                 return Some(child.number);
             }

@@ -1,7 +1,7 @@
 -- Of a text the last m bytes answer for all, where what stands before them has been looked at; some are looked at once more.
 -- Where none of them is above 7F, none of the text is; and they are bytes of the text.
 use mathlib.Core.Path.{◌≡◌, refl, sym, ap, ◌∙◌}
-use mathlib.Core.Bool.{Bool, true, false, ◌||◌, or-true}
+use mathlib.Core.Bool.{Bool, true, false, ◌||◌, or-true, false≢true}
 use mathlib.Core.List.{List, ◌++◌}
 use Prim.Native.Nat.{ℕ, ◌+◌, ◌-◌, ◌≤◌}
 use native.Mathlib.Omega.{arith}
@@ -12,8 +12,18 @@ use Rattle.std.proofs.Math.Seq.{drop-append_seam}
 use Rattle.std.proofs.Common.{length-append}
 use Rattle.std.proofs.lemmas.List.{take-append-drop, take-take}
 use Rattle.std.proofs.lemmas.List.Folds.{list_any-append}
+use Rattle.image.specs.Ranges.{any}
 use Rattle.image.proofs.Bools.{tests_same}
+use Rattle.image.proofs.Ranges.{any_false, any_none}
 use Rattle.utf8.specs.Ascii.{any_high}
+
+-- a part of a range of which one passes
+pub part_found : (p : ℕ → Bool) (i n j m : ℕ) → i ≤ j → j + m ≤ i + n → any p j m ≡ true → true ≡ any p i n
+part_found p i n j m from upto e = cases (any p i n) refl
+  where
+    cases : (b : Bool) → any p i n ≡ b → true ≡ b
+    cases true eb = refl
+    cases false eb = absurd (false≢true (sym (any_none p j m (λ k low high. any_false p i n eb k (omega arith) (omega arith))) ∙ e))
 
 high_joined : (x t : List ℕ) → any_high (x ++ t) ≡ any_high x || any_high t
 unfolding any_high

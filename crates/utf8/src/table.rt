@@ -1,6 +1,6 @@
 // The table of next states, nine states by 256 bytes.
 ghost use Rattle.std.specs.Prelude.{◌≡◌, ◌<◌};
-ghost use Rattle.image.specs.Utf8.{next_state};
+ghost use Rattle.image.specs.Utf8.{next_state, next_states};
 
 // Eight lines of 32 entries for each state: 0 between characters; 1 to 3 where so many tails are to come; 4 after E0,
 // 5 after ED, 6 after F0, 7 after F4; 8 ill-formed.
@@ -77,6 +77,13 @@ static NEXT: [u8; 2304] = *b"\
     \x08\x08\x08\x08\x08\x08\x08\x08\x08\x08\x08\x08\x08\x08\x08\x08\x08\x08\x08\x08\x08\x08\x08\x08\x08\x08\x08\x08\x08\x08\x08\x08\
     \x08\x08\x08\x08\x08\x08\x08\x08\x08\x08\x08\x08\x08\x08\x08\x08\x08\x08\x08\x08\x08\x08\x08\x08\x08\x08\x08\x08\x08\x08\x08\x08\
     \x08\x08\x08\x08\x08\x08\x08\x08\x08\x08\x08\x08\x08\x08\x08\x08\x08\x08\x08\x08\x08\x08\x08\x08\x08\x08\x08\x08\x08\x08\x08\x08";
+
+// The table.
+pub fn next_states() -> [u8; 2304]
+    ensures { result ≡ next_states }
+{
+    NEXT
+}
 
 // The state after byte b in state q.
 pub(crate) fn next(q: u8, b: u8) -> u8

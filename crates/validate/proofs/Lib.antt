@@ -7,5 +7,6 @@ pub mod Parents
 pub mod Rises
 pub mod RunEnds
 pub mod TextRows
+pub mod UnionRows
 pub mod Unions
 pub mod ViewRows

@@ -1,4 +1,5 @@
 pub mod Numbers
 pub mod Texts
+pub mod Unions
 pub mod Views
 pub mod Walks

@@ -8,6 +8,7 @@ ghost use Rattle.image.specs.Element.{element_width};
 ghost use Rattle.image.specs.Faults.{fault18, dense_row_fault, sparse_row_fault, key_row_fault, view_row_fault, view_fault, nonzero, run_ends_rise, last_end_below};
 ghost use Rattle.laws.specs.Accepted.{NoneBelow};
 ghost use Rattle.validate.specs.Numbers.{KeyLimit, Holds, EndsInside, number_in, reaches};
+ghost use Rattle.validate.specs.Unions.{RowsById};
 ghost use Rattle.validate.specs.Views.{ViewAt, ViewsInside, is_nonzero};
 ghost use Rattle.std.specs.List.{list_any};
 
@@ -18,21 +19,33 @@ use image::element::{INLINE_LENGTH, VIEW_SIZE};
 use image::record::{ENTRY_SIZE, Node};
 use image::type_code::{Layout, TypeCode};
 
-// A row of a dense union has a type id without a child, or an offset outside the child that its id names.
+// How many rows a union's children have, by their type ids: entry id has the rows of the child that has it, or 0 where none has.
+fn rows_by_id(node: Node) -> [u32; 256]
+    ensures { (RowsById of node.entry) result }
+{
+    let mut rows = [0; 256];
+    let first = node.first_child();
+    for c in (0..node.child_count()).rev() {
+        let child = node.other(first + c);
+        let id = usize::from(child.type_id());
+        rows[id] = child.length() as u32;
+    }
+    rows
+}
+
+// A row of a dense union has a type id without a child, or an offset outside the child that its id names. A child without rows
+// has none inside either, so that a row asks its id's entry alone, and no node's record.
 fn dense_fault(node: Node) -> bool
     requires { (Holds of node) 0 1 (elements_of of node) × (Holds of node) 1 4 (elements_of of node) }
     ensures { result ≡ any (dense_row_fault of node.entry) 0 (length_of of node.entry) }
 {
-    let children = node.children_by_id();
+    let rows = rows_by_id(node);
     let ids = node.numbers(0, 1);
     let offsets = node.numbers(1, 4);
     let from = node.offset();
     for i in 0..node.length() {
         let id = ids.inside(from + i);
-        let Some(number) = children[id] else {
-            return true;
-        };
-        if node.other(number).length() <= offsets.inside(from + i) {
+        if rows[id] as usize <= offsets.inside(from + i) {
             return true;
         }
     }

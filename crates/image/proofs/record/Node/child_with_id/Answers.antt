@@ -7,14 +7,14 @@ use Rattle.image.proofs.record.Node.child_with_id.Goals as goal
 
 pub returns-then-type_id-id : goal.returns-then-type_id-id
 returns-then-type_id-id c =
-    let read = rw (c.child-child.ensures.image, c.child-child.ensures.number) at c.type_id.ensures in
+    let read = rw (c.other-child.ensures.image, c.other-child.ensures.number, c.first_child-first.ensures.value) at c.type_id.ensures in
     let lt = rw c.child_count-c-end.ensures.value at c.loop-c-test.true in
-    named_some _ _ _ _ c.child-child.ensures.number lt (omega (arith, c.child-child.ensures.near, c.child_count-c-end.ensures.small, c.loop-c-test.true))
+    named_some _ _ _ _ (rw c.first_child-first.ensures.value at c.other-child.ensures.number) lt (omega (arith, c.other-child.ensures.number, c.first_child-first.ensures.small, c.child_count-c-end.ensures.small, c.loop-c-test.true))
     (first_found _ _ _ _ lt c.loop-c.invariant (has_it _ _ _ read c.if-type_id-id.true))
 
 pub loop-c-preserved : goal.loop-c-preserved
 loop-c-preserved c =
-    let read = rw (c.child-child.ensures.image, c.child-child.ensures.number) at c.type_id.ensures in
+    let read = rw (c.other-child.ensures.image, c.other-child.ensures.number, c.first_child-first.ensures.value) at c.type_id.ensures in
     first_more _ _ _ _ (rw c.child_count-c-end.ensures.value at c.loop-c-test.true) c.loop-c.invariant (has_not _ _ _ read c.if-type_id-id.false)
 
 pub returns : goal.returns
