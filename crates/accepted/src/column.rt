@@ -112,7 +112,9 @@ impl<'a> Cursor<'a> {
     ghost use Rattle.accepted.specs.Parts.{Side};
     ghost use Rattle.accepted.specs.Runs.{Stays, remembering};
 
-    // How many of the n rows from here on are in the run, and the row behind them: of run ends only that of this run is read.
+    // How many of the n rows from here on are in the run, and the row behind them: of run ends only that of this run is read. It is
+    // part of what calls it: as a function of its own it gives its answer through memory, for each row.
+    #[inline(always)]
     pub fn stay(self, n: usize) -> Stay<'a>
         requires { (Side of self.column.now.node) self.row n × (0 < n) }
         ensures { Stays self.entry n result }
