@@ -60,7 +60,8 @@ impl<'a> Column<'a> {
     ghost use Rattle.accepted.specs.Parts.{Side};
     ghost use Rattle.accepted.specs.Runs.{Kept, Remembered};
 
-    // What is read once of a node.
+    // What is read once of a node. It is part of what calls it, here and below, so that neither a column nor a cursor is lent in
+    // memory for each range of rows.
     #[inline(always)]
     pub fn new(node: Node<'a>) -> Column<'a>
         ensures { result.node ≡ node.entry }
@@ -93,8 +94,7 @@ impl<'a> Column<'a> {
         run_of(self.node, j)
     }
 
-    // Row i, the first of a range, and its run. Where it is compiled into its caller, the column's node is taken apart, and put
-    // together again for each row: rows took 1.3 times as long.
+    // Row i, the first of a range, and its run.
     #[inline(always)]
     pub fn first(&'a self, i: usize, runs: &KeptRuns) -> Cursor<'a>
         requires side { (Side of self.now.node) i 1 }
@@ -114,7 +114,8 @@ impl<'a> Cursor<'a> {
     ghost use Rattle.accepted.specs.Parts.{Side};
     ghost use Rattle.accepted.specs.Runs.{Stays, remembering};
 
-    // How many of the n rows from here on are in the run, and the row behind them: of run ends only that of this run is read.
+    // How many of the n rows from here on are in the run, and the row behind them: of run ends only that of this run is read. It is
+    // part of what calls it: as a function of its own it gives its answer through memory, for each row.
     #[inline(always)]
     pub fn stay(self, n: usize) -> Stay<'a>
         requires { (Side of self.column.now.node) self.row n × (0 < n) }

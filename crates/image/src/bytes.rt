@@ -61,7 +61,10 @@ pub fn load<const W: usize>(s: &[u8], i: usize) -> usize
     x
 }
 
-// The number that the w bytes at a place make, a byte at a time.
+// The number that the w bytes at a place make, a byte at a time: of a width that integers do not have, and at a slice's end. It is
+// no part of what calls it, so that the readers are small enough to be part of their callers.
+#[cold]
+#[inline(never)]
 fn by_bytes(s: &[u8], i: usize, w: usize) -> usize
     requires { w ≤ 8 }
     ensures { Read (number_at w s.now i) (8 * w) result }
@@ -98,6 +101,8 @@ pub fn number(s: &[u8], i: usize, w: usize) -> usize
     match w {
         4 => le::<4>(s, i),
         8 => le::<8>(s, i),
+        2 => le::<2>(s, i),
+        1 => le::<1>(s, i),
         _ => by_bytes(s, i, w),
     }
 }
