@@ -249,7 +249,7 @@ dictionary::long_equal-loop-row-preserved t c =
           (kept_more c.loop-row.invariant.0 _ _ (sym (one_row _ _ _ _) ∙ sym same ∙ w.if-not-equal_row.false), rows_more c.loop-row.invariant.1 c.loop-row-test.true (sym (key_answer c.requires.parts c.requires.layout c.loop-row.row c.loop-row-test.true (add-zero _) (add-zero _) (left_key c.new-keys.ensures c.at-x.ensures) (right_key c.new-keys.ensures (widths_same c.requires.parts) c.at-x.ensures)) ∙ sym same ∙ w.if-not-equal_row.false))
       | dictionary::long_equal-else-ne w ↦
           rw w.kept-is
-          (c.loop-row.invariant.0, rows_more c.loop-row.invariant.1 c.loop-row-test.true (sym (key_same c.requires.parts c.requires.layout c.loop-row.row c.loop-row-test.true (add-zero _) (add-zero _) (left_key c.new-keys.ensures c.at-x.ensures) (right_key c.new-keys.ensures (widths_same c.requires.parts) c.at-x.ensures)) ∙ kept_equal c.loop-row.invariant.0 _ _ c.ne.ensures w.if-ne.false))
+          (c.loop-row.invariant.0, rows_more c.loop-row.invariant.1 c.loop-row-test.true (sym (key_same c.requires.parts c.requires.layout c.loop-row.row c.loop-row-test.true (add-zero _) (add-zero _) (left_key c.new-keys.ensures c.at-x.ensures) (right_key c.new-keys.ensures (widths_same c.requires.parts) c.at-x.ensures)) ∙ kept_equal c.loop-row.invariant.0 _ _ (key_small c.requires.parts c.requires.layout c.loop-row.row c.loop-row-test.true (add-zero _) (add-zero _) (left_key c.new-keys.ensures c.at-x.ensures) (right_key c.new-keys.ensures (widths_same c.requires.parts) c.at-x.ensures)).0 c.ne.ensures w.if-ne.false))
     ]
 
 pub fixed_list::equal-equal_range-requires : goal.fixed_list::equal-equal_range-requires
