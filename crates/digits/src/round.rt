@@ -10,10 +10,10 @@ const POWERS: [usize; 10] = [
     1, 10, 100, 1000, 10000, 100000, 1000000, 10000000, 100000000, 1000000000,
 ];
 
-// A power of ten, which numbers are divided by.
+// What numbers are divided by: a power of ten, of so many digits (`new`), or any other number from 1 to 10 to the 9.
 #[derive(Clone, Copy)]
 pub struct Power {
-    value: usize,
+    pub value: usize,
     ghost divides: { Divisor value },
 }
 

@@ -8,9 +8,6 @@ use native.Mathlib.Omega.{arith}
 use native.Mathlib.Decide.{ℕ_discrete}
 use lib.ListN.{length, get_or, set, replicate, length-set, length-replicate, get_or-replicate}
 use lib.Seq.{get_or-set_same, get_or-set_other}
-use Rattle.std.specs.Prelude.{Option, None, Some}
-use Rattle.std.specs.Option.{option_eq}
-use Rattle.std.proofs.lemmas.Option.{none-some}
 use lib.Dec.{eqb}
 use borrow.Author.Tests.{eqb-true, not-false}
 use Rattle.image.specs.declared.type_code.Layout.TheVariants.{Dictionary}
@@ -78,46 +75,46 @@ module _ {p : Pair} {v : Keys} {i j : ℕ} {r : ℕ × ℕ} (k : KeysOf p v) whe
   pub right_key : element_width p.left.image.now p.left.number ≡ element_width p.right.image.now p.right.number → KeyPair v i j r → r.1 ≡ element_at p.right.image.now p.right.number j
   right_key same y = element_from p.right v.right j (k.right_width ∙ same) k.right_bytes k.right_place y.right
 
-held : Option (ℕ × ℕ) → ℕ × ℕ
-held None = (0, 0)
-held (Some x) = x
-
 -- two pairs of keys are the same
 abbrev pub pair_same : (u v : ℕ × ℕ) → Bool
 pair_same u v = eqb u.0 v.0 && eqb u.1 v.1
 
-same_option : (o : Option (ℕ × ℕ)) (x y : ℕ) → option_eq pair_same o (Some (x, y)) ≡ true → o ≡ Some (x, y)
-same_option None x y e = cc
-same_option (Some (u, v)) x y e =
+same_pair : (u : ℕ × ℕ) (x y : ℕ) → pair_same u (x, y) ≡ true → u ≡ (x, y)
+same_pair (u, v) x y e =
     let eu : u ≡ x = eqb-true u x (and_left (eqb u x) (eqb v y) e) in
     let ev : v ≡ y = eqb-true v y (and_right (eqb u x) (eqb v y) e) in
     rw (eu, ev)
 
--- The table of pairs: the rows of a pair that stands in it are equal.
-pub record KeptPairs (g h : ℕ → Row) (table : List (Option (ℕ × ℕ))) : Type 0 where
-  pub sized : length table ≡ 1024
-  pub equal : (p x y : ℕ) → p < 1024 → get_or table p None ≡ Some (x, y) → same_row g h x y ≡ true
+-- what stands in the table where no pair of keys does
+abbrev pub no_keys : ℕ × ℕ
+no_keys = (4294967295, 4294967295)
 
-pub kept_none : (g h : ℕ → Row) → KeptPairs g h (replicate 1024 None)
+-- The table of pairs: the rows of a pair that stands in it are equal.
+pub record KeptPairs (g h : ℕ → Row) (table : List (ℕ × ℕ)) : Type 0 where
+  pub sized : length table ≡ 1024
+  pub equal : (p x y : ℕ) → p < 1024 → x < 1073741824 → get_or table p (0, 0) ≡ (x, y) → same_row g h x y ≡ true
+
+pub kept_none : (g h : ℕ → Row) → KeptPairs g h (replicate 1024 no_keys)
 kept_none g h = record {
-  sized = length-replicate {A = Option (ℕ × ℕ)} 1024 None;
-  equal = λ p x y lt e. absurd (none-some _ (sym (get_or-replicate {A = Option (ℕ × ℕ)} 1024 p None None lt) ∙ e));
+  sized = length-replicate {A = ℕ × ℕ} 1024 no_keys;
+  equal = λ p x y lt small e.
+      let none : 4294967295 ≡ x = ap (λ (o : ℕ × ℕ). o.0) (sym (get_or-replicate {A = ℕ × ℕ} 1024 p no_keys (0, 0) lt) ∙ e) in
+      absurd (omega arith);
 }
 
-module _ {g h : ℕ → Row} {table : List (Option (ℕ × ℕ))} (r : KeptPairs g h table) (x y : ℕ) where
+module _ {g h : ℕ → Row} {table : List (ℕ × ℕ)} (r : KeptPairs g h table) (x y : ℕ) where
   -- a pair that stands in the table
-  pub kept_equal : {other : Bool} → other ≡ not (option_eq pair_same (get_or table (x % 1024) None) (Some (x, y))) → other ≡ false → same_row g h x y ≡ true
-  kept_equal e f = r.equal (x % 1024) x y (omega arith) (same_option _ x y (not-false _ (sym e ∙ f)))
+  pub kept_equal : {other : Bool} → x < 1073741824 → other ≡ not (pair_same (get_or table (x % 1024) (0, 0)) (x, y)) → other ≡ false → same_row g h x y ≡ true
+  kept_equal small e f = r.equal (x % 1024) x y (omega arith) small (same_pair _ x y (not-false _ (sym e ∙ f)))
 
   -- one pair more
-  pub kept_more : same_row g h x y ≡ true → KeptPairs g h (set table (x % 1024) (Some (x, y)))
-  unfolding held
-  kept_more same = record { sized = length-set table (x % 1024) _ ∙ r.sized; equal = λ p u v lt e. cases p u v lt e (ℕ_discrete p (x % 1024)) }
+  pub kept_more : same_row g h x y ≡ true → KeptPairs g h (set table (x % 1024) (x, y))
+  kept_more same = record { sized = length-set table (x % 1024) _ ∙ r.sized; equal = λ p u v lt small e. cases p u v lt small e (ℕ_discrete p (x % 1024)) }
     where
-      cases : (p u v : ℕ) → p < 1024 → get_or (set table (x % 1024) (Some (x, y))) p None ≡ Some (u, v) → Dec (p ≡ x % 1024) → same_row g h u v ≡ true
-      cases p u v lt e (yes q) =
-          let stored : Some (x, y) ≡ Some (u, v) = sym (rw q (get_or-set_same table (x % 1024) (Some (x, y)) None (omega (arith, r.sized)))) ∙ e in
-          let eu : u ≡ x = sym (ap (λ o. (held o).0) stored) in
-          let ev : v ≡ y = sym (ap (λ o. (held o).1) stored) in
+      cases : (p u v : ℕ) → p < 1024 → u < 1073741824 → get_or (set table (x % 1024) (x, y)) p (0, 0) ≡ (u, v) → Dec (p ≡ x % 1024) → same_row g h u v ≡ true
+      cases p u v lt small e (yes q) =
+          let stored : (x, y) ≡ (u, v) = sym (rw q (get_or-set_same table (x % 1024) (x, y) (0, 0) (omega (arith, r.sized)))) ∙ e in
+          let eu : u ≡ x = sym (ap (λ (o : ℕ × ℕ). o.0) stored) in
+          let ev : v ≡ y = sym (ap (λ (o : ℕ × ℕ). o.1) stored) in
           rw (eu, ev) same
-      cases p u v lt e (no ne) = r.equal p u v lt (sym (get_or-set_other table (x % 1024) p (Some (x, y)) None ne) ∙ e)
+      cases p u v lt small e (no ne) = r.equal p u v lt small (sym (get_or-set_other table (x % 1024) p (x, y) (0, 0) ne) ∙ e)

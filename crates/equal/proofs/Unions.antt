@@ -25,6 +25,8 @@ use Rattle.laws.specs.Accepted.{IdKnown}
 use Rattle.laws.proofs.Codes.{dense_code, sparse_code}
 use Rattle.values.specs.Pairs.{same_row, range_equal, same_byte}
 use Rattle.values.specs.Parts.{Sides, Parts}
+use Rattle.values.specs.declared.pair.Pair.{Pair}
+use Rattle.values.specs.Pair.{children}
 use Rattle.accepted.specs.Parts.{Part}
 use Rattle.values.proofs.Steps.{by_rows, by_bytes, all_by}
 use Rattle.values.proofs.Blocks.{all_at}
@@ -114,6 +116,10 @@ module _ {a b : List ℕ} {k l i j n d x y : ℕ} (r : Parts a b k l i j n d) (m
     named_answer u v =
         rw (named_right, named_left)
         (sym (ids_same (row_at d a) (row_at d b) a b k l (type_id_at a k x) (type_id_at b l y) u v m.left.high m.right.high (sym ei ∙ same ∙ ee)))
+
+-- numbers that are counted from the first children
+pub counted : (p : Pair) (c : ℕ) {first named : Pair} → first ≡ children p 0 → children p c ≡ named → (first.left.number + c ≡ named.left.number) × (first.right.number + c ≡ named.right.number)
+counted p c e f = (rw e (omega (arith, ap (λ (x : Pair). x.left.number) f)), rw e (omega (arith, ap (λ (x : Pair). x.right.number) f)))
 
 -- the id of element j, as it is read
 pub id_at : (s : List ℕ) (k j : ℕ) {p : ℕ} → Read (buffer_place s k 0) 32 p → byte_at s (p + j) ≡ type_id_at s k j

@@ -16,6 +16,9 @@ const LONG: usize = 64;
 
 const KEPT: usize = 1024;
 
+// Two keys that are none: a key is below the length of the values.
+const NO_KEYS: (u32, u32) = (u32::MAX, u32::MAX);
+
 // The keys of two dictionaries.
 #[derive(Clone, Copy)]
 struct Keys<'a> {
@@ -46,8 +49,10 @@ impl<'a> Keys<'a> {
 }
 
 // A long range: a pair of keys whose values are equal is kept at the place that its left key gives, and is not compared again
-// while it stands there. Keys are kept as `u32`, which they fit: an entry of the table takes 12 bytes so, where it would take
-// 24.
+// while it stands there. An entry of the table takes 8 bytes: two `u32`, and no `Option` of them, which would take 12. The
+// table stands on the stack, and a function of the cycle that this one was a part of would have it at every level of nested
+// rows, of whatever layout: as a function of its own it is there at the levels of Dictionaries alone.
+#[inline(never)]
 #[cycle(rows)]
 fn long_equal(pair: &Pair, rows: Rows, depth: usize) -> bool
     requires { PartsIn Dictionary pair.now rows depth }
@@ -56,16 +61,16 @@ fn long_equal(pair: &Pair, rows: Rows, depth: usize) -> bool
     let keys = Keys::new(pair);
     let child = pair.child(0);
     let leaves = leaves_of(child);
-    let mut kept = [None; KEPT];
+    let mut kept = [NO_KEYS; KEPT];
     for row in 0..rows.count {
         let (x, y) = keys.at(rows.left + row, rows.right + row);
         let both = (x as u32, y as u32);
         let place = x % KEPT;
-        if kept[place] != Some(both) {
+        if kept[place] != both {
             if !equal_row(&child, &leaves, x, y, depth) {
                 return false;
             }
-            kept[place] = Some(both);
+            kept[place] = both;
         }
     }
     true

@@ -1,8 +1,10 @@
 // Unions. Translated from src/equal/union.rs of arrow-data 60.1.0 (Apache-2.0).
-ghost use Rattle.std.specs.Prelude.{◌≡◌};
+ghost use Rattle.std.specs.Prelude.{◌≡◌, Some, ℕ, ◌<◌, ◌^◌};
 ghost use Rattle.image.specs.declared.type_code.Layout.TheVariants.{DenseUnion, SparseUnion};
 ghost use Rattle.image.specs.Row.{dense_row, sparse_row};
+ghost use Rattle.image.specs.Record.{first_child};
 ghost use Rattle.values.specs.Pair.{equal_rows, nested, PartsIn, NamedAt};
+ghost use Rattle.equal.specs.Unions.{children_at};
 
 use crate::{equal_range, structure};
 use image::bytes::byte;
@@ -13,20 +15,24 @@ const BLOCK: usize = 4096;
 
 const SEVERAL: usize = 8;
 
-// The children that the type ids at places x and y name, which stand at one place among the children of each; `None` where
-// the ids differ or name no child.
-fn named_at<'a>(pair: &Pair<'a>, x: usize, y: usize) -> Option<Pair<'a>>
-    ensures { NamedAt pair.now x y result }
+// The place that the child which the type ids at places x and y name has among the children of each, where `first` is the
+// left's first child; `None` where the ids differ or name no child.
+fn named_at(pair: &Pair, first: u32, x: usize, y: usize) -> Option<u32>
+    requires { first ≡ first_child pair.now.left.image.now pair.now.left.number }
+    ensures named { NamedAt pair.now x y (children_at pair.now result) }
+    ensures near { (c : ℕ) → result ≡ Some c → c < 2 ^ 17 }
 {
     let id = byte(pair.left.image, x);
     if id != byte(pair.right.image, y) {
         return None;
     }
     let child = pair.left.child_with_id(id)?;
-    Some(pair.child(child - pair.left.first_child()))
+    Some(child - first)
 }
 
-// Dense unions: the type ids, and the row of the child that each id names, at its offset.
+// Dense unions: the type ids, and the row of the child that each id names, at its offset. The children are one `Pair`, of which
+// a row sets the numbers, here and in `block`: a `Pair` that is made anew for each row is copied in parts, and rows of sparse
+// unions take 1.6 times as long.
 #[cycle(rows)]
 pub fn dense(pair: &Pair, rows: Rows, depth: usize) -> bool
     requires { PartsIn DenseUnion pair.now rows depth }
@@ -37,10 +43,19 @@ pub fn dense(pair: &Pair, rows: Rows, depth: usize) -> bool
     let ib = b.buffer_place(0);
     let left = a.numbers(1, 4);
     let right = b.numbers(1, 4);
+    let first = pair.child(0);
+    let mut child = first;
     for k in 0..rows.count {
-        let Some(child) = named_at(pair, ia + (rows.left + k), ib + (rows.right + k)) else {
+        let Some(place) = named_at(
+            pair,
+            first.left.number,
+            ia + (rows.left + k),
+            ib + (rows.right + k),
+        ) else {
             return false;
         };
+        child.left.number = first.left.number + place;
+        child.right.number = first.right.number + place;
         let row = Rows {
             left: left.at(rows.left + k),
             right: right.at(rows.right + k),
@@ -73,10 +88,19 @@ fn block(pair: &Pair, rows: Rows, depth: usize) -> bool
             }
         }
     }
+    let first = pair.child(0);
+    let mut child = first;
     for k in 0..n {
-        let Some(child) = named_at(pair, ia + (rows.left + k), ib + (rows.right + k)) else {
+        let Some(place) = named_at(
+            pair,
+            first.left.number,
+            ia + (rows.left + k),
+            ib + (rows.right + k),
+        ) else {
             return false;
         };
+        child.left.number = first.left.number + place;
+        child.right.number = first.right.number + place;
         if !equal_range(&child, rows.part(k, 1), depth) {
             return false;
         }

@@ -5,7 +5,9 @@ use mathlib.Core.Bool.{Bool, true, false, cond, beq, ◌&&◌}
 use mathlib.Core.List.{List}
 use Prim.Native.Nat.{ℕ, ◌+◌, ◌^◌, ◌<◌, ◌≤◌}
 use native.Mathlib.Omega.{arith}
-use lib.Dec.{eqb}
+use lib.Dec.{eqb, ltb}
+use Rattle.std.specs.Bool.{then_some}
+use Rattle.std.proofs.Common.{Option, Some, None}
 use Rattle.image.specs.Bytes.{bit_at}
 use Rattle.image.specs.Record.{has_bitmap, bitmap_place, first_bit, buffer_place, elements_of}
 use Rattle.image.specs.Element.{valid}
@@ -18,9 +20,9 @@ use Rattle.values.specs.declared.pair.Pair.{Pair}
 use Rattle.values.specs.declared.pair.Rows.{Rows}
 use Rattle.values.specs.Bits.{bits_at, Leading}
 use Rattle.values.specs.Pairs.{first_unequal, same_row, same_bit, same_mask}
-use Rattle.values.specs.Pair.{BitsOf, first_null, first_unequal_in, PartsOf}
+use Rattle.values.specs.Pair.{BitsOf, ValidityOf, first_null, first_unequal_in, PartsOf}
 use Rattle.values.proofs.Steps.{all_by}
-use Rattle.values.proofs.FirstUnequal.{unequal_none, unequal_moved, leading_first}
+use Rattle.values.proofs.FirstUnequal.{unequal_none, unequal_below, unequal_moved, leading_first}
 use Rattle.values.proofs.Leads.{leading_moved, leading_every}
 
 pub valid_none : (s : List ℕ) (k : ℕ) → has_bitmap s k ≡ false → (i : ℕ) → valid s k i ≡ true
@@ -94,6 +96,21 @@ module _ (p : Pair) (r : Rows) where
       e
       ∙ unequal_moved (same_bit x.bytes.now x.place y.bytes.now y.place) (same_mask p.left.image.now p.left.number p.right.image.now p.right.number) x.first y.first r.left r.right r.count
       (λ h lt. bits x y _ _ ∙ mask (r.left + h) (r.right + h) (sym (read_bit p.left r.left h b)) (sym (read_bit p.right r.right h d)))
+
+  -- what is answered where one of the two has no bitmap: of the other's bits, as they were read
+  pub right_alone : (x : Bits) {u v : Option Bits} {y : Bits} {m : ℕ} {o : Option ℕ} → ValidityOf p.left r.left u → u ≡ None → ValidityOf p.right r.right v → v ≡ Some y → Leading (bit_at x.bytes.now x.place) x.first r.count m
+      → o ≡ then_some (ltb m r.count) m → x ≡ y → o ≡ then_some (ltb (first_null p r) r.count) (first_null p r)
+  right_alone x e u f v l o same =
+      let left = rw u at e in
+      let right = rw v at f in
+      o ∙ unequal_below _ r.left r.right r.count (masks_right left right (rw same at l))
+
+  pub left_alone : (x : Bits) {u v : Option Bits} {y : Bits} {m : ℕ} {o : Option ℕ} → ValidityOf p.left r.left u → u ≡ Some y → ValidityOf p.right r.right v → v ≡ None → Leading (bit_at x.bytes.now x.place) x.first r.count m
+      → o ≡ then_some (ltb m r.count) m → x ≡ y → o ≡ then_some (ltb (first_null p r) r.count) (first_null p r)
+  left_alone x e u f v l o same =
+      let left = rw u at e in
+      let right = rw v at f in
+      o ∙ unequal_below _ r.left r.right r.count (masks_left left right (rw same at l))
 
 -- the bits of two ranges of elements are counted without overflow
 pub few_bits : (p : Pair) {r : Rows} {depth : ℕ} → PartsOf p r depth → (r.left + r.count < 2 ^ 35) × (r.right + r.count < 2 ^ 35)

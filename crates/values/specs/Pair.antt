@@ -8,7 +8,7 @@ use Rattle.image.specs.Record.{code_of, offset_of, has_bitmap, bitmap_place, fir
 use Rattle.image.specs.Bytes.{byte_at}
 use Rattle.image.specs.TypeCode.{layout_of}
 use Rattle.image.specs.Element.{element_width, element_at, child_end, child_with_id}
-use Rattle.image.specs.Row.{Row, row_at, value_at}
+use Rattle.image.specs.Row.{Row, row_at, value_at, boolean_row}
 use Rattle.values.specs.declared.pair.Pair.{Pair}
 use Rattle.values.specs.declared.pair.Rows.{Rows}
 use Rattle.values.specs.declared.bits.Bits.{Bits}
@@ -16,7 +16,7 @@ use Rattle.values.specs.declared.leaf.Columns.{Columns}
 use Rattle.values.specs.declared.leaf.Leaves.{Leaves}
 use Rattle.values.specs.declared.leaf.Leaves.TheVariants.{Fixed as FixedLeaves, Texts as TextLeaves}
 use Rattle.values.specs.declared.lengths.Offsets.{Offsets}
-use Rattle.values.specs.Pairs.{all, first_unequal, range_equal, same_bit, same_mask, same_span, same_distance}
+use Rattle.values.specs.Pairs.{all, first_unequal, same_row, range_equal, same_bit, same_mask, same_span, same_distance}
 use Rattle.values.specs.Parts.{Sides, Parts, Masked, Spans, Above, SameEnds, RunParts, Together, Blocks, ColumnsAt, LeafPair, TextPair}
 
 -- the roots of two images
@@ -68,6 +68,10 @@ same_masks p r = all (same_mask p.left.image.now p.left.number p.right.image.now
 
 abbrev pub first_null : Pair → Rows → ℕ
 first_null p r = first_unequal (same_mask p.left.image.now p.left.number p.right.image.now p.right.number) r.left r.right r.count
+
+-- the number of the first pair of Boolean rows that are not the same
+abbrev pub first_boolean : Pair → Rows → ℕ
+first_boolean p r = first_unequal (same_row (boolean_row p.left.image.now p.left.number) (boolean_row p.right.image.now p.right.number)) r.left r.right r.count
 
 pub record FewRows (r : Rows) : Type 0 where
   pub left : r.left + r.count < 2 ^ 34

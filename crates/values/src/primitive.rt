@@ -88,7 +88,7 @@ fn valid_bytes(x: &[u8], y: &[u8], w: usize, bits: usize, n: usize) -> bool
     true
 }
 
-// The same, with a loop of its own for each of the widths that gain by it.
+// The same, with a loop of its own for each width up to 16.
 // Kept: a match on a number: each arm names a width that is known where the loop is compiled.
 fn valid_equal(x: &[u8], y: &[u8], w: usize, bits: usize, n: usize) -> bool
     requires { (n ≤ 64) × (n * w ≤ length x.now) × (n * w ≤ length y.now) }
@@ -103,7 +103,13 @@ fn valid_equal(x: &[u8], y: &[u8], w: usize, bits: usize, n: usize) -> bool
         6 => valid_same::<6>(x, y, bits, n),
         7 => valid_same::<7>(x, y, bits, n),
         8 => valid_same::<8>(x, y, bits, n),
+        9 => valid_same::<9>(x, y, bits, n),
+        10 => valid_same::<10>(x, y, bits, n),
+        11 => valid_same::<11>(x, y, bits, n),
         12 => valid_same::<12>(x, y, bits, n),
+        13 => valid_same::<13>(x, y, bits, n),
+        14 => valid_same::<14>(x, y, bits, n),
+        15 => valid_same::<15>(x, y, bits, n),
         16 => valid_same::<16>(x, y, bits, n),
         _ => valid_bytes(x, y, w, bits, n),
     }

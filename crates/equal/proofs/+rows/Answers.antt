@@ -51,7 +51,7 @@ use Rattle.equal.proofs.ListViews.{view_differs, view_requires, view_answer}
 use Rattle.equal.proofs.Runs.{run_nodes, run_small, run_above, step_requires, step_fail, step_some, step_again, together_requires, together_answer}
 use Rattle.accepted.proofs.RunEnds.{end_nth, end_is}
 use Rattle.equal.proofs.Structs.{struct_requires, columns_more_left, columns_fail, columns_done}
-use Rattle.equal.proofs.Unions.{id_at, sparse_fails, sparse_child, sparse_row_lem, sparse_inside, whole_children, dense_fails, dense_child, dense_row_lem}
+use Rattle.equal.proofs.Unions.{id_at, sparse_fails, sparse_child, sparse_row_lem, sparse_inside, whole_children, dense_fails, dense_child, dense_row_lem, counted}
 use Rattle.equal.proofs.+rows.Goals as goal
 use Rattle.equal.proofs.+rows.Goals.{dictionary::long_equal-then-ne+else-not-equal_row, dictionary::long_equal-else-ne}
 
@@ -249,7 +249,7 @@ dictionary::long_equal-loop-row-preserved t c =
           (kept_more c.loop-row.invariant.0 _ _ (sym (one_row _ _ _ _) ∙ sym same ∙ w.if-not-equal_row.false), rows_more c.loop-row.invariant.1 c.loop-row-test.true (sym (key_answer c.requires.parts c.requires.layout c.loop-row.row c.loop-row-test.true (add-zero _) (add-zero _) (left_key c.new-keys.ensures c.at-x.ensures) (right_key c.new-keys.ensures (widths_same c.requires.parts) c.at-x.ensures)) ∙ sym same ∙ w.if-not-equal_row.false))
       | dictionary::long_equal-else-ne w ↦
           rw w.kept-is
-          (c.loop-row.invariant.0, rows_more c.loop-row.invariant.1 c.loop-row-test.true (sym (key_same c.requires.parts c.requires.layout c.loop-row.row c.loop-row-test.true (add-zero _) (add-zero _) (left_key c.new-keys.ensures c.at-x.ensures) (right_key c.new-keys.ensures (widths_same c.requires.parts) c.at-x.ensures)) ∙ kept_equal c.loop-row.invariant.0 _ _ c.ne.ensures w.if-ne.false))
+          (c.loop-row.invariant.0, rows_more c.loop-row.invariant.1 c.loop-row-test.true (sym (key_same c.requires.parts c.requires.layout c.loop-row.row c.loop-row-test.true (add-zero _) (add-zero _) (left_key c.new-keys.ensures c.at-x.ensures) (right_key c.new-keys.ensures (widths_same c.requires.parts) c.at-x.ensures)) ∙ kept_equal c.loop-row.invariant.0 _ _ (key_small c.requires.parts c.requires.layout c.loop-row.row c.loop-row-test.true (add-zero _) (add-zero _) (left_key c.new-keys.ensures c.at-x.ensures) (right_key c.new-keys.ensures (widths_same c.requires.parts) c.at-x.ensures)).0 c.ne.ensures w.if-ne.false))
     ]
 
 pub fixed_list::equal-equal_range-requires : goal.fixed_list::equal-equal_range-requires
@@ -336,42 +336,50 @@ pub union::dense-overflow_add-ib : goal.union::dense-overflow_add-ib
 union::dense-overflow_add-ib t c = omega (arith, part_small c.requires.parts.left, part_small c.requires.parts.right, c.loop-k-test.true, c.buffer_place-ia.ensures.small, c.buffer_place-ib.ensures.small)
 
 pub union::dense-returns-in_default : goal.union::dense-returns-in_default
-union::dense-returns-in_default t c = rows_fail c.loop-k.invariant c.loop-k-test.true (dense_fails c.requires.parts c.requires.layout c.loop-k.k c.loop-k-test.true (id_at _ _ _ c.buffer_place-ia.ensures) (id_at _ _ _ c.buffer_place-ib.ensures) c.in_default.ensures)
+union::dense-returns-in_default t c = rows_fail c.loop-k.invariant.1 c.loop-k-test.true (dense_fails c.requires.parts c.requires.layout c.loop-k.k c.loop-k-test.true (id_at _ _ _ c.buffer_place-ia.ensures) (id_at _ _ _ c.buffer_place-ib.ensures) c.in_default.ensures.named)
 
 pub union::dense-equal_range-requires : goal.union::dense-equal_range-requires
-union::dense-equal_range-requires t c = (search rules, rw c.in-Some.ensures.named.same (dense_child c.requires.parts c.requires.layout c.loop-k.k c.loop-k-test.true (id_at _ _ _ c.buffer_place-ia.ensures) (id_at _ _ _ c.buffer_place-ib.ensures) c.in-Some.ensures.ids (dense_from c.args.pair.now.left c.numbers-left.result _ c.numbers-left.ensures.width c.numbers-left.ensures.bytes c.numbers-left.ensures.place c.at.ensures) (dense_from c.args.pair.now.right c.numbers-right.result _ c.numbers-right.ensures.width c.numbers-right.ensures.bytes c.numbers-right.ensures.place c.at-in-loop-k.ensures)))
+union::dense-equal_range-requires t c =
+    let numbers = counted c.args.pair.now c.in-Some.place c.child-first.ensures.same c.in-Some.ensures.named.named.same in
+    (search rules, rw (c.loop-k.invariant.0.0, c.loop-k.invariant.0.1, numbers.0, numbers.1) (dense_child c.requires.parts c.requires.layout c.loop-k.k c.loop-k-test.true (id_at _ _ _ c.buffer_place-ia.ensures) (id_at _ _ _ c.buffer_place-ib.ensures) c.in-Some.ensures.named.ids (dense_from c.args.pair.now.left c.numbers-left.result _ c.numbers-left.ensures.width c.numbers-left.ensures.bytes c.numbers-left.ensures.place c.at.ensures) (dense_from c.args.pair.now.right c.numbers-right.result _ c.numbers-right.ensures.width c.numbers-right.ensures.bytes c.numbers-right.ensures.place c.at-in-loop-k.ensures)))
 
 pub union::dense-loop-k-preserved : goal.union::dense-loop-k-preserved
 union::dense-loop-k-preserved t c =
-    let same = rw c.in-Some.ensures.named.same at c.equal_range.ensures in
-    rows_more c.loop-k.invariant c.loop-k-test.true (sym (dense_row_lem c.requires.parts c.requires.layout c.loop-k.k c.loop-k-test.true (id_at _ _ _ c.buffer_place-ia.ensures) (id_at _ _ _ c.buffer_place-ib.ensures) c.in-Some.ensures.ids (dense_from c.args.pair.now.left c.numbers-left.result _ c.numbers-left.ensures.width c.numbers-left.ensures.bytes c.numbers-left.ensures.place c.at.ensures) (dense_from c.args.pair.now.right c.numbers-right.result _ c.numbers-right.ensures.width c.numbers-right.ensures.bytes c.numbers-right.ensures.place c.at-in-loop-k.ensures)) ∙ sym same ∙ c.if-not-equal_range.false)
+    let numbers = counted c.args.pair.now c.in-Some.place c.child-first.ensures.same c.in-Some.ensures.named.named.same in
+    let same = rw (c.loop-k.invariant.0.0, c.loop-k.invariant.0.1, numbers.0, numbers.1) at c.equal_range.ensures in
+    (c.loop-k.invariant.0, rows_more c.loop-k.invariant.1 c.loop-k-test.true (sym (dense_row_lem c.requires.parts c.requires.layout c.loop-k.k c.loop-k-test.true (id_at _ _ _ c.buffer_place-ia.ensures) (id_at _ _ _ c.buffer_place-ib.ensures) c.in-Some.ensures.named.ids (dense_from c.args.pair.now.left c.numbers-left.result _ c.numbers-left.ensures.width c.numbers-left.ensures.bytes c.numbers-left.ensures.place c.at.ensures) (dense_from c.args.pair.now.right c.numbers-right.result _ c.numbers-right.ensures.width c.numbers-right.ensures.bytes c.numbers-right.ensures.place c.at-in-loop-k.ensures)) ∙ sym same ∙ c.if-not-equal_range.false))
 
 pub union::dense-returns-then-not-equal_range : goal.union::dense-returns-then-not-equal_range
 union::dense-returns-then-not-equal_range t c =
-    let same = rw c.in-Some.ensures.named.same at c.equal_range.ensures in
-    rows_fail c.loop-k.invariant c.loop-k-test.true (sym (dense_row_lem c.requires.parts c.requires.layout c.loop-k.k c.loop-k-test.true (id_at _ _ _ c.buffer_place-ia.ensures) (id_at _ _ _ c.buffer_place-ib.ensures) c.in-Some.ensures.ids (dense_from c.args.pair.now.left c.numbers-left.result _ c.numbers-left.ensures.width c.numbers-left.ensures.bytes c.numbers-left.ensures.place c.at.ensures) (dense_from c.args.pair.now.right c.numbers-right.result _ c.numbers-right.ensures.width c.numbers-right.ensures.bytes c.numbers-right.ensures.place c.at-in-loop-k.ensures)) ∙ sym same ∙ c.if-not-equal_range.true)
+    let numbers = counted c.args.pair.now c.in-Some.place c.child-first.ensures.same c.in-Some.ensures.named.named.same in
+    let same = rw (c.loop-k.invariant.0.0, c.loop-k.invariant.0.1, numbers.0, numbers.1) at c.equal_range.ensures in
+    rows_fail c.loop-k.invariant.1 c.loop-k-test.true (sym (dense_row_lem c.requires.parts c.requires.layout c.loop-k.k c.loop-k-test.true (id_at _ _ _ c.buffer_place-ia.ensures) (id_at _ _ _ c.buffer_place-ib.ensures) c.in-Some.ensures.named.ids (dense_from c.args.pair.now.left c.numbers-left.result _ c.numbers-left.ensures.width c.numbers-left.ensures.bytes c.numbers-left.ensures.place c.at.ensures) (dense_from c.args.pair.now.right c.numbers-right.result _ c.numbers-right.ensures.width c.numbers-right.ensures.bytes c.numbers-right.ensures.place c.at-in-loop-k.ensures)) ∙ sym same ∙ c.if-not-equal_range.true)
 
 pub union::dense-returns : goal.union::dense-returns
-union::dense-returns t c = rows_done c.loop-k.invariant c.loop-k-test.false
+union::dense-returns t c = rows_done c.loop-k.invariant.1 c.loop-k-test.false
 
 pub union::block-returns-in_default : goal.union::block-returns-in_default
-union::block-returns-in_default t c = rows_fail c.loop-k.invariant c.loop-k-test.true (sparse_fails c.requires.parts c.requires.layout c.loop-k.k c.loop-k-test.true (id_at _ _ _ c.buffer_place-ia.ensures) (id_at _ _ _ c.buffer_place-ib.ensures) c.in_default.ensures)
+union::block-returns-in_default t c = rows_fail c.loop-k.invariant.1 c.loop-k-test.true (sparse_fails c.requires.parts c.requires.layout c.loop-k.k c.loop-k-test.true (id_at _ _ _ c.buffer_place-ia.ensures) (id_at _ _ _ c.buffer_place-ib.ensures) c.in_default.ensures.named)
 
 pub union::block-equal_range-requires : goal.union::block-equal_range-requires
-union::block-equal_range-requires t c = (search rules, rw (c.part.ensures, c.in-Some.ensures.named.same) (sparse_child c.requires.parts c.requires.layout c.loop-k.k c.loop-k-test.true (id_at _ _ _ c.buffer_place-ia.ensures) (id_at _ _ _ c.buffer_place-ib.ensures) c.in-Some.ensures.ids))
+union::block-equal_range-requires t c =
+    let numbers = counted c.args.pair.now c.in-Some.place c.child-first.ensures.same c.in-Some.ensures.named.named.same in
+    (search rules, rw (c.part.ensures, c.loop-k.invariant.0.0, c.loop-k.invariant.0.1, numbers.0, numbers.1) (sparse_child c.requires.parts c.requires.layout c.loop-k.k c.loop-k-test.true (id_at _ _ _ c.buffer_place-ia.ensures) (id_at _ _ _ c.buffer_place-ib.ensures) c.in-Some.ensures.named.ids))
 
 pub union::block-loop-k-preserved : goal.union::block-loop-k-preserved
 union::block-loop-k-preserved t c =
-    let same = rw (c.part.ensures, c.in-Some.ensures.named.same) at c.equal_range.ensures in
-    rows_more c.loop-k.invariant c.loop-k-test.true (sym (sparse_row_lem c.requires.parts c.requires.layout c.loop-k.k c.loop-k-test.true (id_at _ _ _ c.buffer_place-ia.ensures) (id_at _ _ _ c.buffer_place-ib.ensures) c.in-Some.ensures.ids) ∙ sym same ∙ c.if-not-equal_range.false)
+    let numbers = counted c.args.pair.now c.in-Some.place c.child-first.ensures.same c.in-Some.ensures.named.named.same in
+    let same = rw (c.part.ensures, c.loop-k.invariant.0.0, c.loop-k.invariant.0.1, numbers.0, numbers.1) at c.equal_range.ensures in
+    (c.loop-k.invariant.0, rows_more c.loop-k.invariant.1 c.loop-k-test.true (sym (sparse_row_lem c.requires.parts c.requires.layout c.loop-k.k c.loop-k-test.true (id_at _ _ _ c.buffer_place-ia.ensures) (id_at _ _ _ c.buffer_place-ib.ensures) c.in-Some.ensures.named.ids) ∙ sym same ∙ c.if-not-equal_range.false))
 
 pub union::block-returns-then-not-equal_range : goal.union::block-returns-then-not-equal_range
 union::block-returns-then-not-equal_range t c =
-    let same = rw (c.part.ensures, c.in-Some.ensures.named.same) at c.equal_range.ensures in
-    rows_fail c.loop-k.invariant c.loop-k-test.true (sym (sparse_row_lem c.requires.parts c.requires.layout c.loop-k.k c.loop-k-test.true (id_at _ _ _ c.buffer_place-ia.ensures) (id_at _ _ _ c.buffer_place-ib.ensures) c.in-Some.ensures.ids) ∙ sym same ∙ c.if-not-equal_range.true)
+    let numbers = counted c.args.pair.now c.in-Some.place c.child-first.ensures.same c.in-Some.ensures.named.named.same in
+    let same = rw (c.part.ensures, c.loop-k.invariant.0.0, c.loop-k.invariant.0.1, numbers.0, numbers.1) at c.equal_range.ensures in
+    rows_fail c.loop-k.invariant.1 c.loop-k-test.true (sym (sparse_row_lem c.requires.parts c.requires.layout c.loop-k.k c.loop-k-test.true (id_at _ _ _ c.buffer_place-ia.ensures) (id_at _ _ _ c.buffer_place-ib.ensures) c.in-Some.ensures.named.ids) ∙ sym same ∙ c.if-not-equal_range.true)
 
 pub union::block-returns : goal.union::block-returns
-union::block-returns t c = rows_done c.loop-k.invariant c.loop-k-test.false
+union::block-returns t c = rows_done c.loop-k.invariant.1 c.loop-k-test.false
 
 pub union::block-slice_bounds-eq-end : goal.union::block-slice_bounds-eq-end
 union::block-slice_bounds-eq-end t c = sparse_inside c.requires.parts.left c.requires.layout c.buffer_place-ia.ensures.value

@@ -78,10 +78,10 @@ abbrev pub invariant-structure::equal-loop-c : goal.invariant-structure::equal-l
 invariant-structure::equal-loop-c l = ColumnsLeft (row_at l.depth l.pair.left.image.now) (row_at l.depth l.pair.right.image.now) l.rows.left l.rows.right l.rows.count (first_child l.pair.left.image.now l.pair.left.number) (first_child l.pair.right.image.now l.pair.right.number) (child_count l.pair.left.image.now l.pair.left.number) l.c
 
 abbrev pub invariant-union::block-loop-k : goal.invariant-union::block-loop-k
-invariant-union::block-loop-k l = RowsLeft (sparse_row (row_at l.depth l.pair.left.image.now) l.pair.left.image.now l.pair.left.number) (sparse_row (row_at l.depth l.pair.right.image.now) l.pair.right.image.now l.pair.right.number) l.rows.left l.rows.right l.rows.count l.k
+invariant-union::block-loop-k l = ((l.child.left.image ≡ l.pair.left.image) × (l.child.right.image ≡ l.pair.right.image)) × RowsLeft (sparse_row (row_at l.depth l.pair.left.image.now) l.pair.left.image.now l.pair.left.number) (sparse_row (row_at l.depth l.pair.right.image.now) l.pair.right.image.now l.pair.right.number) l.rows.left l.rows.right l.rows.count l.k
 
 abbrev pub invariant-union::dense-loop-k : goal.invariant-union::dense-loop-k
-invariant-union::dense-loop-k l = RowsLeft (dense_row (row_at l.depth l.pair.left.image.now) l.pair.left.image.now l.pair.left.number) (dense_row (row_at l.depth l.pair.right.image.now) l.pair.right.image.now l.pair.right.number) l.rows.left l.rows.right l.rows.count l.k
+invariant-union::dense-loop-k l = ((l.child.left.image ≡ l.pair.left.image) × (l.child.right.image ≡ l.pair.right.image)) × RowsLeft (dense_row (row_at l.depth l.pair.left.image.now) l.pair.left.image.now l.pair.left.number) (dense_row (row_at l.depth l.pair.right.image.now) l.pair.right.image.now l.pair.right.number) l.rows.left l.rows.right l.rows.count l.k
 
 abbrev pub invariant-union::sparse-loop-h : goal.invariant-union::sparse-loop-h
 invariant-union::sparse-loop-h l = RowsLeft (sparse_row (row_at l.depth l.pair.left.image.now) l.pair.left.image.now l.pair.left.number) (sparse_row (row_at l.depth l.pair.right.image.now) l.pair.right.image.now l.pair.right.number) l.rows.left l.rows.right l.rows.count (4096 * l.h)

@@ -4,8 +4,8 @@ use mathlib.Core.Path.{◌≡◌, refl, ap, ◌∙◌}
 use borrow.Author.Rules.{rules}
 use lib.Dec.{ltb}
 use Rattle.std.specs.Bool.{then_some}
-use Rattle.values.proofs.FirstUnequal.{unequal_past, unequal_below}
-use Rattle.values.proofs.Masks.{masks_none, masks_left, masks_right, masks_both}
+use Rattle.values.proofs.FirstUnequal.{unequal_past}
+use Rattle.values.proofs.Masks.{masks_none, left_alone, right_alone, masks_both}
 use Rattle.values.proofs.utils.first_unequal_null.Goals as goal
 use Rattle.values.proofs.utils.first_unequal_null.Goals.{in-None-Some, in-None-Some-2}
 
@@ -18,18 +18,8 @@ returns-in-None-None c =
 pub returns-in-None-Some : goal.returns-in-None-Some
 returns-in-None-Some c =
     elim c.in-None-Some-1.branch [
-      | in-None-Some w ↦
-          let left = rw w.in-None-Some.is-0 at c.validity-left.ensures in
-          let right = rw w.in-None-Some.is-1 at c.validity-right.ensures in
-          let same : c.in-None-Some-1.bits ≡ w.in-None-Some.field-0-1 = search rules in
-          let set = rw same at c.leading_set.ensures in
-          c.below.ensures ∙ unequal_below _ _ _ _ (masks_right c.args.pair.now c.args.rows left right set)
-      | in-None-Some-2 w ↦
-          let left = rw w.in-None-Some.is-0 at c.validity-left.ensures in
-          let right = rw w.in-None-Some.is-1 at c.validity-right.ensures in
-          let same : c.in-None-Some-1.bits ≡ w.in-None-Some.field-0-0 = search rules in
-          let set = rw same at c.leading_set.ensures in
-          c.below.ensures ∙ unequal_below _ _ _ _ (masks_left c.args.pair.now c.args.rows left right set)
+      | in-None-Some w ↦ right_alone c.args.pair.now c.args.rows c.in-None-Some-1.bits c.validity-left.ensures w.in-None-Some.is-0 c.validity-right.ensures w.in-None-Some.is-1 c.leading_set.ensures c.below.ensures (search rules)
+      | in-None-Some-2 w ↦ left_alone c.args.pair.now c.args.rows c.in-None-Some-1.bits c.validity-left.ensures w.in-None-Some.is-0 c.validity-right.ensures w.in-None-Some.is-1 c.leading_set.ensures c.below.ensures (search rules)
     ]
 
 pub returns-in-Some-Some : goal.returns-in-Some-Some
