@@ -66,7 +66,8 @@ impl<'a> Node<'a> {
         TypeCode::width(self.code(), self.p1() as u32)
     }
 
-    // Element j of the first buffer as a number: an offset or a key.
+    // Element j of the first buffer as a number: an offset or a key. It is part of what calls it: a text of a row asks for three.
+    #[inline(always)]
     pub fn offset_at(self, j: usize) -> usize
         requires { ((element_width of self) ≤ 8) × (j < 2 ^ 40) }
         ensures { result ≡ (element_at of self.entry) j }

@@ -22,7 +22,8 @@ const CHUNK: usize = 1024;
 
 const WORD: usize = 64;
 
-// The bytes of n elements of a node from element j on.
+// The bytes of n elements of a node from element j on. They are part of what calls this: a node is lent in memory else, for each row.
+#[inline(always)]
 fn elements<'a>(node: Node<'a>, j: usize, n: usize) -> &'a [u8]
     requires { (element_place of node) j + n * (element_width of node) ≤ length node.image.now }
     ensures { result.now ≡ bytes_at node.entry.image.now (element_place node.entry.image.now node.entry.number j) (n * element_width node.entry.image.now node.entry.number) }
