@@ -50,9 +50,9 @@ impl<'a> Keys<'a> {
 }
 
 // A long range: a pair of keys whose values are equal is kept at the place that its left key gives, and is not compared again
-// while it stands there. An entry of the table takes 8 bytes: two `u32`, and no `Option` of them, which would take 12. The
-// table stands on the stack, and a function of the cycle that this one was a part of would have it at every level of nested
-// rows, of whatever layout: as a function of its own it is there at the levels of Dictionaries alone.
+// while it stands there. The table stands on the stack, and a function of the cycle that this one was a part of would have it at
+// every level of nested rows, of whatever layout: as a function of its own it is there at the levels of Dictionaries alone.
+// Kept: two `u32`, which may be no keys, and no `Option` of them: an entry of the table takes 8 bytes so, where it would take 12.
 #[inline(never)]
 #[cycle(rows)]
 fn long_equal(pair: &Pair, rows: Rows, depth: usize) -> bool

@@ -30,9 +30,9 @@ fn named_at(pair: &Pair, first: u32, x: usize, y: usize) -> Option<u32>
     Some(child - first)
 }
 
-// Dense unions: the type ids, and the row of the child that each id names, at its offset. The children are one `Pair`, of which
-// a row sets the numbers, here and in `block`: a `Pair` that is made anew for each row is copied in parts, and rows of sparse
-// unions take 1.6 times as long.
+// Dense unions: the type ids, and the row of the child that each id names, at its offset.
+// Kept: one `Pair` of children, of which a row sets the numbers, here and in `block`: one that is made anew for each row is copied
+// in parts, and rows of sparse unions take 1.6 times as long.
 #[cycle(rows)]
 pub fn dense(pair: &Pair, rows: Rows, depth: usize) -> bool
     requires { PartsIn DenseUnion pair.now rows depth }

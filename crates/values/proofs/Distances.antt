@@ -30,7 +30,7 @@ pub above_ahead : {s : List ℕ} {p w x i n h m : ℕ} → Above s p w x i n →
 above_ahead r le rest = above_part _ _ _ _ _ _ _ _ (omega arith) r
 
 -- a width of offsets is one that integers have
-is_width_lem : (w : ℕ) → (w ≡ 4) ⊎ (w ≡ 8) → is_width w ≡ true
+pub is_width_lem : (w : ℕ) → (w ≡ 4) ⊎ (w ≡ 8) → is_width w ≡ true
 unfolding is_width
 is_width_lem w (inl e) = rw e
 is_width_lem w (inr e) = rw e

@@ -83,10 +83,10 @@ pub fn leaf_equal(pair: &Pair, leaves: &Leaves, s: usize, t: usize) -> bool
             left,
             right,
         } => {
-            let from = left_offsets.at(s);
-            let len = left_offsets.at(s + 1) - from;
-            let start = right_offsets.at(t);
-            if right_offsets.at(t + 1) - start != len {
+            let from = left_offsets.inside(s);
+            let len = left_offsets.inside(s + 1) - from;
+            let start = right_offsets.inside(t);
+            if right_offsets.inside(t + 1) - start != len {
                 return false;
             }
             let x = left + from;

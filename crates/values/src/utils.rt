@@ -12,7 +12,8 @@ use crate::pair::{Pair, Rows};
 use crate::types::same_types;
 use image::bytes::load;
 
-// The W bytes at two places are the same, as numbers: one, or the first four or eight bytes and the last, which may share some.
+// The W bytes at two places are the same, as numbers: one, or the first four or eight bytes and the last of as many, which may
+// share some.
 // Kept: by numbers, and not by the library's `==` of two parts: with it in `valid_same`, elements of 2, 5, 8 and 16 bytes with
 // nulls take 4.0, 2.0, 2.4 and 4.6 times as long. Slices and places, and not two parts: a call is then
 // `number_same::<W>(&x[h * W..h * W + W], &y[h * W..h * W + W])`, no plainer than with the places.

@@ -3,7 +3,7 @@
 use mathlib.Core.Path.{◌∙◌}
 use Rattle.accepted.proofs.Nodes.{side_small}
 use Rattle.values.proofs.Slices.{parts_same}
-use Rattle.values.proofs.LeafRows.{fixed_left, fixed_right, fixed_rows, left_nth, right_nth, left_read, right_read, text_differs, text_same}
+use Rattle.values.proofs.LeafRows.{fixed_left, fixed_right, fixed_rows, left_packed, right_packed, left_read, right_read, text_differs, text_same}
 use native.Mathlib.Omega.{arith}
 use Rattle.values.proofs.leaf.leaf_equal.Goals as goal
 
@@ -34,17 +34,17 @@ slice_bounds-eq-end-in-Fixed c = let inside = fixed_right c.requires.sides (rw c
 pub returns-in-Fixed : goal.returns-in-Fixed
 returns-in-Fixed c = let leaves = rw c.in-Fixed.is at c.requires.leaves in λ depth. c.eq.ensures ∙ parts_same _ _ _ _ _ _ (fixed_left c.requires.sides leaves) (fixed_right c.requires.sides leaves) ∙ fixed_rows c.requires.sides leaves depth
 
-pub at-from-requires : goal.at-from-requires
-at-from-requires c = let leaves = rw c.in-Texts.is at c.requires.leaves in left_nth c.requires.sides leaves _ (omega arith)
+pub inside-from-requires : goal.inside-from-requires
+inside-from-requires c = let leaves = rw c.in-Texts.is at c.requires.leaves in left_packed c.requires.sides leaves _ (omega arith)
 
-pub at-requires : goal.at-requires
-at-requires c = let leaves = rw c.in-Texts.is at c.requires.leaves in left_nth c.requires.sides leaves _ (omega arith)
+pub inside-requires : goal.inside-requires
+inside-requires c = let leaves = rw c.in-Texts.is at c.requires.leaves in left_packed c.requires.sides leaves _ (omega arith)
 
-pub at-start-requires : goal.at-start-requires
-at-start-requires c = let leaves = rw c.in-Texts.is at c.requires.leaves in right_nth c.requires.sides leaves _ (omega arith)
+pub inside-start-requires : goal.inside-start-requires
+inside-start-requires c = let leaves = rw c.in-Texts.is at c.requires.leaves in right_packed c.requires.sides leaves _ (omega arith)
 
-pub at-requires-in-Texts : goal.at-requires-in-Texts
-at-requires-in-Texts c = let leaves = rw c.in-Texts.is at c.requires.leaves in right_nth c.requires.sides leaves _ (omega arith)
+pub inside-requires-in-Texts : goal.inside-requires-in-Texts
+inside-requires-in-Texts c = let leaves = rw c.in-Texts.is at c.requires.leaves in right_packed c.requires.sides leaves _ (omega arith)
 
 pub overflow_add-s : goal.overflow_add-s
 overflow_add-s c = omega (arith, side_small _ _ _ _ c.requires.sides.left)
@@ -53,31 +53,31 @@ pub overflow_add-t : goal.overflow_add-t
 overflow_add-t c = omega (arith, side_small _ _ _ _ c.requires.sides.right)
 
 pub overflow_sub-len : goal.overflow_sub-len
-overflow_sub-len c = let leaves = rw c.in-Texts.is at c.requires.leaves in (left_read c.requires.sides leaves c.at-from.ensures c.at.ensures).up
+overflow_sub-len c = let leaves = rw c.in-Texts.is at c.requires.leaves in (left_read c.requires.sides leaves c.inside-from.ensures c.inside.ensures).up
 
-pub overflow_sub-at : goal.overflow_sub-at
-overflow_sub-at c = let leaves = rw c.in-Texts.is at c.requires.leaves in (right_read c.requires.sides leaves c.at-start.ensures c.at-in-Texts.ensures).up
+pub overflow_sub-inside : goal.overflow_sub-inside
+overflow_sub-inside c = let leaves = rw c.in-Texts.is at c.requires.leaves in (right_read c.requires.sides leaves c.inside-start.ensures c.inside-in-Texts.ensures).up
 
-pub returns-then-at-start : goal.returns-then-at-start
-returns-then-at-start c = let leaves = rw c.in-Texts.is at c.requires.leaves in let left = left_read c.requires.sides leaves c.at-from.ensures c.at.ensures in let right = right_read c.requires.sides leaves c.at-start.ensures c.at-in-Texts.ensures in λ depth. text_differs c.requires.sides leaves depth left right c.if-at-start.true
+pub returns-then-inside-start : goal.returns-then-inside-start
+returns-then-inside-start c = let leaves = rw c.in-Texts.is at c.requires.leaves in let left = left_read c.requires.sides leaves c.inside-from.ensures c.inside.ensures in let right = right_read c.requires.sides leaves c.inside-start.ensures c.inside-in-Texts.ensures in λ depth. text_differs c.requires.sides leaves depth left right c.if-inside-start.true
 
 pub overflow_add-x-in-Texts : goal.overflow_add-x-in-Texts
-overflow_add-x-in-Texts c = let leaves = rw c.in-Texts.is at c.requires.leaves in let left = left_read c.requires.sides leaves c.at-from.ensures c.at.ensures in let right = right_read c.requires.sides leaves c.at-start.ensures c.at-in-Texts.ensures in omega (arith, left.up, left.inside, right.up, right.inside, c.if-at-start.false)
+overflow_add-x-in-Texts c = let leaves = rw c.in-Texts.is at c.requires.leaves in let left = left_read c.requires.sides leaves c.inside-from.ensures c.inside.ensures in let right = right_read c.requires.sides leaves c.inside-start.ensures c.inside-in-Texts.ensures in omega (arith, left.up, left.inside, right.up, right.inside, c.if-inside-start.false)
 
 pub overflow_add-y-in-Texts : goal.overflow_add-y-in-Texts
-overflow_add-y-in-Texts c = let leaves = rw c.in-Texts.is at c.requires.leaves in let left = left_read c.requires.sides leaves c.at-from.ensures c.at.ensures in let right = right_read c.requires.sides leaves c.at-start.ensures c.at-in-Texts.ensures in omega (arith, left.up, left.inside, right.up, right.inside, c.if-at-start.false)
+overflow_add-y-in-Texts c = let leaves = rw c.in-Texts.is at c.requires.leaves in let left = left_read c.requires.sides leaves c.inside-from.ensures c.inside.ensures in let right = right_read c.requires.sides leaves c.inside-start.ensures c.inside-in-Texts.ensures in omega (arith, left.up, left.inside, right.up, right.inside, c.if-inside-start.false)
 
 pub overflow_add-x-in-Texts-2 : goal.overflow_add-x-in-Texts-2
-overflow_add-x-in-Texts-2 c = let leaves = rw c.in-Texts.is at c.requires.leaves in let left = left_read c.requires.sides leaves c.at-from.ensures c.at.ensures in let right = right_read c.requires.sides leaves c.at-start.ensures c.at-in-Texts.ensures in omega (arith, left.up, left.inside, right.up, right.inside, c.if-at-start.false)
+overflow_add-x-in-Texts-2 c = let leaves = rw c.in-Texts.is at c.requires.leaves in let left = left_read c.requires.sides leaves c.inside-from.ensures c.inside.ensures in let right = right_read c.requires.sides leaves c.inside-start.ensures c.inside-in-Texts.ensures in omega (arith, left.up, left.inside, right.up, right.inside, c.if-inside-start.false)
 
 pub overflow_add-y-in-Texts-2 : goal.overflow_add-y-in-Texts-2
-overflow_add-y-in-Texts-2 c = let leaves = rw c.in-Texts.is at c.requires.leaves in let left = left_read c.requires.sides leaves c.at-from.ensures c.at.ensures in let right = right_read c.requires.sides leaves c.at-start.ensures c.at-in-Texts.ensures in omega (arith, left.up, left.inside, right.up, right.inside, c.if-at-start.false)
+overflow_add-y-in-Texts-2 c = let leaves = rw c.in-Texts.is at c.requires.leaves in let left = left_read c.requires.sides leaves c.inside-from.ensures c.inside.ensures in let right = right_read c.requires.sides leaves c.inside-start.ensures c.inside-in-Texts.ensures in omega (arith, left.up, left.inside, right.up, right.inside, c.if-inside-start.false)
 
 pub slice_bounds-eq-end-in-Texts : goal.slice_bounds-eq-end-in-Texts
-slice_bounds-eq-end-in-Texts c = let leaves = rw c.in-Texts.is at c.requires.leaves in let left = left_read c.requires.sides leaves c.at-from.ensures c.at.ensures in let right = right_read c.requires.sides leaves c.at-start.ensures c.at-in-Texts.ensures in omega (arith, left.up, left.inside, right.up, right.inside, c.if-at-start.false)
+slice_bounds-eq-end-in-Texts c = let leaves = rw c.in-Texts.is at c.requires.leaves in let left = left_read c.requires.sides leaves c.inside-from.ensures c.inside.ensures in let right = right_read c.requires.sides leaves c.inside-start.ensures c.inside-in-Texts.ensures in omega (arith, left.up, left.inside, right.up, right.inside, c.if-inside-start.false)
 
 pub slice_bounds-eq-end-in-Texts-2 : goal.slice_bounds-eq-end-in-Texts-2
-slice_bounds-eq-end-in-Texts-2 c = let leaves = rw c.in-Texts.is at c.requires.leaves in let left = left_read c.requires.sides leaves c.at-from.ensures c.at.ensures in let right = right_read c.requires.sides leaves c.at-start.ensures c.at-in-Texts.ensures in omega (arith, left.up, left.inside, right.up, right.inside, c.if-at-start.false)
+slice_bounds-eq-end-in-Texts-2 c = let leaves = rw c.in-Texts.is at c.requires.leaves in let left = left_read c.requires.sides leaves c.inside-from.ensures c.inside.ensures in let right = right_read c.requires.sides leaves c.inside-start.ensures c.inside-in-Texts.ensures in omega (arith, left.up, left.inside, right.up, right.inside, c.if-inside-start.false)
 
-pub returns-else-at-start : goal.returns-else-at-start
-returns-else-at-start c = let leaves = rw c.in-Texts.is at c.requires.leaves in let left = left_read c.requires.sides leaves c.at-from.ensures c.at.ensures in let right = right_read c.requires.sides leaves c.at-start.ensures c.at-in-Texts.ensures in λ depth. c.eq-in-Texts.ensures ∙ parts_same _ _ _ _ _ _ (omega (arith, left.up, left.inside)) (omega (arith, right.up, right.inside, c.if-at-start.false)) ∙ text_same c.requires.sides leaves depth left right c.if-at-start.false
+pub returns-else-inside-start : goal.returns-else-inside-start
+returns-else-inside-start c = let leaves = rw c.in-Texts.is at c.requires.leaves in let left = left_read c.requires.sides leaves c.inside-from.ensures c.inside.ensures in let right = right_read c.requires.sides leaves c.inside-start.ensures c.inside-in-Texts.ensures in λ depth. c.eq-in-Texts.ensures ∙ parts_same _ _ _ _ _ _ (omega (arith, left.up, left.inside)) (omega (arith, right.up, right.inside, c.if-inside-start.false)) ∙ text_same c.requires.sides leaves depth left right c.if-inside-start.false
