@@ -83,18 +83,36 @@ fn key_limit(node: Node, width: usize) -> usize
     rows.min(sign)
 }
 
+// A row that is not null has a key of so many bytes that is not below the limit.
+#[inline(always)]
+fn kept_key_outside(node: Node, width: usize, limit: usize) -> bool
+    requires held { (Holds of node) 0 (element_width of node) (elements_of of node) }
+    requires width { width ≡ element_width of node }
+    requires limit { (KeyLimit of node) limit }
+    ensures { result ≡ any (key_row_fault of node.entry) 0 (length_of of node.entry) }
+{
+    let keys = node.row_numbers(width);
+    node.any_kept(|i| limit <= keys.inside(i))
+}
+
 // A row of a Dictionary that is not null has a key outside the values. Without a bitmap it is the keys alone that tell.
+// Kept: a match on a number: each arm names a width that is known where its loop is compiled.
 fn keys_fault(node: Node) -> bool
     requires { (Holds of node) 0 (element_width of node) (elements_of of node) }
     ensures { result ≡ any (key_row_fault of node.entry) 0 (length_of of node.entry) }
 {
     let width = node.element_width();
     let limit = key_limit(node, width);
-    let keys = node.row_numbers(width);
     if !node.has_bitmap() {
+        let keys = node.row_numbers(width);
         return any_in_blocks(node.length(), |i| limit <= keys.inside(i));
     }
-    node.any_kept(|i| limit <= keys.inside(i))
+    match width {
+        1 => kept_key_outside(node, 1, limit),
+        2 => kept_key_outside(node, 2, limit),
+        4 => kept_key_outside(node, 4, limit),
+        _ => kept_key_outside(node, width, limit),
+    }
 }
 
 // One of W to 2 W bytes is not zero: the first W make a number and the last W, which may share some.

@@ -2,11 +2,10 @@
 -- Without a bitmap it is the keys alone that decide.
 use mathlib.Core.Path.{ap, sym, ◌∙◌}
 use borrow.Author.Rules.{rules}
-use Rattle.image.specs.Faults.{key_row_fault}
 use Rattle.image.proofs.Numbers.{width_most}
 use Rattle.validate.specs.Numbers.{number_in, reaches}
 use Rattle.validate.proofs.Elements.{row_inside}
-use Rattle.validate.proofs.KeyRows.{Keys, null_row, key_row, by_keys}
+use Rattle.validate.proofs.KeyRows.{Keys, by_keys}
 use native.Mathlib.Omega.{arith}
 use Rattle.validate.proofs.rows.keys_fault.Goals as goal
 
@@ -24,12 +23,3 @@ unfolding reaches number_in
 returns-then-not-has_bitmap c =
     let keys : Keys c.args.node.image.now c.args.node.number c.key_limit-limit.result c.row_numbers-keys.result = record { bytes = ap (λ b. b.now) c.row_numbers-keys.ensures.bytes; width = rw c.row_numbers-keys.ensures.width c.element_width-width.ensures; place = rw c.row_numbers-keys.ensures.width c.row_numbers-keys.ensures.place; limits = c.key_limit-limit.ensures } in
     by_keys keys (sym c.has_bitmap.ensures ∙ c.if-not-has_bitmap.true) c.length.ensures.value (c.any_in_blocks.ensures (reaches c.key_limit-limit.result (number_in c.row_numbers-keys.result.bytes.now c.row_numbers-keys.result.place c.row_numbers-keys.result.width)) (λ k b lt p. search rules))
-
-pub any_kept-requires : goal.any_kept-requires
-any_kept-requires c = λ i lt full _ _ _ _ _ _ _. row_inside _ _ i c.requires c.element_width-width.ensures c.row_numbers-keys.ensures.bytes c.row_numbers-keys.ensures.place c.row_numbers-keys.ensures.width lt
-
-pub returns : goal.returns
-unfolding reaches number_in
-returns c =
-    let keys : Keys c.args.node.image.now c.args.node.number c.key_limit-limit.result c.row_numbers-keys.result = record { bytes = ap (λ b. b.now) c.row_numbers-keys.ensures.bytes; width = rw c.row_numbers-keys.ensures.width c.element_width-width.ensures; place = rw c.row_numbers-keys.ensures.width c.row_numbers-keys.ensures.place; limits = c.key_limit-limit.ensures } in
-    c.any_kept.ensures (key_row_fault c.args.node.image.now c.args.node.number) (record { null = λ i e. null_row _ _ i e; kept = λ i b lt full told. key_row keys i full (search rules) })
