@@ -77,13 +77,7 @@ impl Filling<'_> {
     // Kept: an image and a number, here and in `fill_rows`, and no `Node`: one is lent in memory, and a row of a Struct in a Struct
     // took 1.6 times as long.
     #[cycle(fill)]
-    fn fill_row<'b>(
-        &mut self,
-        image: &[u8],
-        number: u32,
-        depth: usize,
-        b: &'b [u8],
-    ) -> &'b [u8]
+    fn fill_row<'b>(&mut self, image: &[u8], number: u32, depth: usize, b: &'b [u8]) -> &'b [u8]
         requires { AtRow image.now number depth b.now self.old }
         ensures { PastRow image.now number depth b.now self.old self.new result.now }
     {

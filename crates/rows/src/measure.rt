@@ -39,7 +39,15 @@ fn measure_row(cursor: Cursor, depth: usize, runs: &mut KeptRuns, room: usize) -
     };
     for c in 0..rows.parts {
         let child = rows.child + c;
-        left = measure_rows(node.image, child, rows.start, rows.count, depth - 1, runs, left)?;
+        left = measure_rows(
+            node.image,
+            child,
+            rows.start,
+            rows.count,
+            depth - 1,
+            runs,
+            left,
+        )?;
     }
     Some(left)
 }

@@ -44,7 +44,15 @@ fn write_row(cursor: Cursor, depth: usize, runs: &mut KeptRuns, out: &mut Output
     };
     for c in 0..rows.parts {
         let child = rows.child + c;
-        write_rows(node.image, child, rows.start, rows.count, depth - 1, runs, out);
+        write_rows(
+            node.image,
+            child,
+            rows.start,
+            rows.count,
+            depth - 1,
+            runs,
+            out,
+        );
     }
 }
 

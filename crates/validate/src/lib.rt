@@ -67,6 +67,8 @@ fn fault_10(image: &[u8]) -> bool
 
 // The node of a walk has a fault of the number, where no node has one of a lower number.
 // Kept: a number, as said above.
+// It is part of its one caller: a walk is lent in memory else, for each node and number.
+#[inline(always)]
 fn has_fault(number: u8, walk: Walk) -> bool
     requires { NoneBelow number walk.node.image.now × (11 ≤ number) × (walk.node.number < node_count walk.node.image.now) }
     ensures { result ≡ (fault number) of walk.entry.node }
