@@ -55,10 +55,10 @@ fn measure_row(cursor: Cursor, depth: usize, runs: &mut KeptRuns, room: usize) -
 // The room that is left after n rows of a node from row i on. The rows of one run are the same row, and take as much
 // each.
 // Kept: no `for`, since a step is as long as a run.
-// Kept: node, rows and depth are four arguments, and no struct, here and in `write_rows`. What does one row takes a cursor and
-// the depth, so that nothing would hand the struct on; each call on children would make it anew, `Range { node: child,
-// start: rows.start, count: rows.count, depth: depth - 1 }` for `child, rows.start, rows.count, depth - 1`. The runs would stay
-// beside it: they change, and what is known of them is said before and after each call.
+// Kept: an image and a number are two arguments, and no `Node`, here and in `write_rows`: a `Node` is lent in memory, and the child
+// rows of a Struct took 1.6 times as long. Rows and depth are three more, and no struct: what does one row takes a cursor and the
+// depth, so that nothing would hand the struct on, and each call on children would make it anew. The runs would stay beside it:
+// they change, and what is known of them is said before and after each call.
 #[cycle(measure_row_measure_rows)]
 pub fn measure_rows(
     image: &[u8],
