@@ -100,7 +100,9 @@ fn first_apart(x: usize, y: usize, n: usize) -> usize
 }
 
 // Of m times 64 pairs of bits the number of the first that are not the same, or their count. INSIDE says that all lie
-// inside, and then no word is tested for it.
+// inside, and then no word is tested for it. It is no part of what calls it, where its loop would read at each word from the
+// stack what it has in registers here.
+#[inline(never)]
 fn first_unequal_word<const INSIDE: bool>(x: Bits, y: Bits, m: usize) -> usize
     requires near { Near x (64 * m) × Near y (64 * m) }
     requires inside { INSIDE ≡ true → Inside x 0 (8 * m + 1) × Inside y 0 (8 * m + 1) }
