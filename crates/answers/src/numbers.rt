@@ -39,13 +39,32 @@ pub trait Refusal: Drop {
         ensures { result ≡ refusal_numbers self };
 }
 
-// What a call answers where it does not refuse has a value.
+// What a call answers where it does not refuse has a value. It is asked for where the 56 bits of a packed answer hold it, and there
+// alone.
 pub trait Found: Drop {
     ghost found_value: { Self → ℕ };
 
     fn value(self) -> usize
+        requires { found_value self < 2 ^ 56 }
+        ensures { result ≡ found_value self };
+}
+
+// The same of a value that is asked for wherever a usize holds it.
+pub trait WideFound: Drop {
+    ghost found_value: { Self → ℕ };
+
+    fn wide_value(self) -> usize
         requires { found_value self < 2 ^ 64 }
         ensures { result ≡ found_value self };
+}
+
+// What tells its value wherever a usize holds it tells it where 56 bits do.
+impl<T: WideFound> Found for T {
+    ghost found_value = { T.found_value };
+
+    fn value(self) -> usize {
+        T::wide_value(self)
+    }
 }
 
 // An answer without any of them.
@@ -145,37 +164,37 @@ impl Refusal for BuildRefusal {
 }
 
 // An accepted image.
-impl Found for () {
+impl WideFound for () {
     ghost found_value = { unit_value };
 
-    fn value(self) -> usize {
+    fn wide_value(self) -> usize {
         0
     }
 }
 
 // Yes is 1, no is 0.
-impl Found for bool {
+impl WideFound for bool {
     ghost found_value = { yes_value };
 
-    fn value(self) -> usize {
+    fn wide_value(self) -> usize {
         usize::from(self)
     }
 }
 
 // So many bytes.
-impl Found for usize {
+impl WideFound for usize {
     ghost found_value = { λ n. n };
 
-    fn value(self) -> usize {
+    fn wide_value(self) -> usize {
         self
     }
 }
 
 // The first unequal row: one more than the row, or 0 where there is none.
-impl Found for Option<usize> {
+impl WideFound for Option<usize> {
     ghost found_value = { row_value };
 
-    fn value(self) -> usize {
+    fn wide_value(self) -> usize {
         match self {
             Some(row) => row + 1,
             None => 0,
@@ -183,14 +202,29 @@ impl Found for Option<usize> {
     }
 }
 
-// The numbers of an answer, for whatever value a usize can hold: of what the calls find only a row can be one too high.
+// The numbers of an answer whose value 56 bits hold.
 pub fn answer_numbers<T: Found, E: Refusal>(answer: Result<T, E>) -> Numbers
-    requires { IfOk answer (λ found. T.found_value found < 2 ^ 64) }
+    requires { (answer_numbers T.found_value E.refusal_numbers answer).value < 2 ^ 56 }
     ensures { result ≡ answer_numbers T.found_value E.refusal_numbers answer }
 {
     match answer {
         Ok(found) => Numbers {
             value: found.value(),
+            ..NOTHING
+        },
+        Err(refusal) => refusal.numbers(),
+    }
+}
+
+// The same for whatever value a usize can hold: of what the calls find only a row can be one too high.
+// Kept: a twin, since one function over both traits would ask of every type what `WideFound` does.
+pub fn wide_answer_numbers<T: WideFound, E: Refusal>(answer: Result<T, E>) -> Numbers
+    requires { IfOk answer (λ found. T.found_value found < 2 ^ 64) }
+    ensures { result ≡ answer_numbers T.found_value E.refusal_numbers answer }
+{
+    match answer {
+        Ok(wide) => Numbers {
+            value: wide.wide_value(),
             ..NOTHING
         },
         Err(refusal) => refusal.numbers(),

@@ -1,2 +1,5 @@
-// Worked examples of the meaning of an image. They stand in specs/ and proofs/; there is no code here.
+// Worked examples of the meaning of an image: they stand in specs/ and proofs/. The code is tests alone.
 #![tactic(auto)]
+
+#[cfg(test)]
+mod numbers;

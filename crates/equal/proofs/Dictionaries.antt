@@ -89,32 +89,37 @@ same_pair (u, v) x y e =
 abbrev pub no_keys : ℕ × ℕ
 no_keys = (4294967295, 4294967295)
 
+abbrev pub AreKeys : ℕ → ℕ → Type 0
+AreKeys x y = (x, y) ≡ no_keys → ⊥
+
+-- keys that name values
+pub small_keys : (x y : ℕ) → x < 1073741824 → AreKeys x y
+small_keys x y small e = let none : x ≡ 4294967295 = ap (λ (o : ℕ × ℕ). o.0) e in omega arith
+
 -- The table of pairs: the rows of a pair that stands in it are equal.
 pub record KeptPairs (g h : ℕ → Row) (table : List (ℕ × ℕ)) : Type 0 where
   pub sized : length table ≡ 1024
-  pub equal : (p x y : ℕ) → p < 1024 → x < 1073741824 → get_or table p (0, 0) ≡ (x, y) → same_row g h x y ≡ true
+  pub equal : (p x y : ℕ) → p < 1024 → AreKeys x y → get_or table p (0, 0) ≡ (x, y) → same_row g h x y ≡ true
 
 pub kept_none : (g h : ℕ → Row) → KeptPairs g h (replicate 1024 no_keys)
 kept_none g h = record {
   sized = length-replicate {A = ℕ × ℕ} 1024 no_keys;
-  equal = λ p x y lt small e.
-      let none : 4294967295 ≡ x = ap (λ (o : ℕ × ℕ). o.0) (sym (get_or-replicate {A = ℕ × ℕ} 1024 p no_keys (0, 0) lt) ∙ e) in
-      absurd (omega arith);
+  equal = λ p x y lt keys e. absurd (keys (sym e ∙ get_or-replicate {A = ℕ × ℕ} 1024 p no_keys (0, 0) lt));
 }
 
 module _ {g h : ℕ → Row} {table : List (ℕ × ℕ)} (r : KeptPairs g h table) (x y : ℕ) where
   -- a pair that stands in the table
-  pub kept_equal : {other : Bool} → x < 1073741824 → other ≡ not (pair_same (get_or table (x % 1024) (0, 0)) (x, y)) → other ≡ false → same_row g h x y ≡ true
-  kept_equal small e f = r.equal (x % 1024) x y (omega arith) small (same_pair _ x y (not-false _ (sym e ∙ f)))
+  pub kept_equal : {other : Bool} → AreKeys x y → other ≡ not (pair_same (get_or table (x % 1024) (0, 0)) (x, y)) → other ≡ false → same_row g h x y ≡ true
+  kept_equal keys e f = r.equal (x % 1024) x y (omega arith) keys (same_pair _ x y (not-false _ (sym e ∙ f)))
 
   -- one pair more
   pub kept_more : same_row g h x y ≡ true → KeptPairs g h (set table (x % 1024) (x, y))
-  kept_more same = record { sized = length-set table (x % 1024) _ ∙ r.sized; equal = λ p u v lt small e. cases p u v lt small e (ℕ_discrete p (x % 1024)) }
+  kept_more same = record { sized = length-set table (x % 1024) _ ∙ r.sized; equal = λ p u v lt keys e. cases p u v lt keys e (ℕ_discrete p (x % 1024)) }
     where
-      cases : (p u v : ℕ) → p < 1024 → u < 1073741824 → get_or (set table (x % 1024) (x, y)) p (0, 0) ≡ (u, v) → Dec (p ≡ x % 1024) → same_row g h u v ≡ true
-      cases p u v lt small e (yes q) =
+      cases : (p u v : ℕ) → p < 1024 → AreKeys u v → get_or (set table (x % 1024) (x, y)) p (0, 0) ≡ (u, v) → Dec (p ≡ x % 1024) → same_row g h u v ≡ true
+      cases p u v lt keys e (yes q) =
           let stored : (x, y) ≡ (u, v) = sym (rw q (get_or-set_same table (x % 1024) (x, y) (0, 0) (omega (arith, r.sized)))) ∙ e in
           let eu : u ≡ x = sym (ap (λ (o : ℕ × ℕ). o.0) stored) in
           let ev : v ≡ y = sym (ap (λ (o : ℕ × ℕ). o.1) stored) in
           rw (eu, ev) same
-      cases p u v lt small e (no ne) = r.equal p u v lt small (sym (get_or-set_other table (x % 1024) p (x, y) (0, 0) ne) ∙ e)
+      cases p u v lt keys e (no ne) = r.equal p u v lt keys (sym (get_or-set_other table (x % 1024) p (x, y) (0, 0) ne) ∙ e)

@@ -12,3 +12,4 @@ pub mod Sides
 pub mod Takes
 pub mod Texts
 pub mod Turns
+pub mod Within

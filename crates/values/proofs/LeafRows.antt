@@ -22,7 +22,7 @@ use Rattle.image.specs.Element.{valid, element_width, element_place, element_at}
 use Rattle.image.specs.Types.{same_bytes}
 use Rattle.image.specs.Row.{fixed, sized, range, row_at, value_at, fixed_row, variable_row}
 use Rattle.image.specs.Equality.{row_equal}
-use Rattle.image.specs.Reads.{Read, Packed}
+use Rattle.image.specs.Reads.{Read, Nth, Packed}
 use Rattle.image.specs.declared.bytes.Numbers.{Numbers}
 use Rattle.values.specs.Pairs.{range_equal}
 use Rattle.accepted.specs.Parts.{Side, Part, Elements}
@@ -31,7 +31,7 @@ use Rattle.accepted.proofs.Fixed.{spanned}
 use Rattle.accepted.proofs.Nodes.{side_small}
 use Rattle.image.proofs.NameBytes.{other_length}
 use Rattle.values.proofs.Steps.{and_true}
-use Rattle.accepted.proofs.Texts.{text_offsets, text_inside}
+use Rattle.accepted.proofs.Texts.{text_narrow, text_offsets, text_inside}
 use Rattle.laws.proofs.Codes.{text_offset_width}
 use Rattle.values.proofs.Distances.{is_width_lem}
 use Rattle.values.proofs.Texts.{text_up}
@@ -127,7 +127,15 @@ module _ {s : List ℕ} {k i w p : ℕ} (r : Side s k i 1) (f : Leaf s k w p) wh
     part : Part s k (offset_of s k + i) 1
     part = side_part r f.whole
 
-    -- its offsets stand inside, and lie inside the text
+    -- its offsets are read inside, and lie inside the text
+    text_nth : (h : ℕ) → h ≤ i + 1 → Nth p w h
+    text_nth h le = record {
+      near = omega (arith, leaf_place f i, text_offsets _ _ _ _ part text, r.image.tables.size);
+      narrow = rw f.width (text_narrow _ _ _ _ part text);
+      few = omega (arith, side_small _ _ _ _ r);
+    }
+
+    -- they stand inside
     text_packed : (h : ℕ) → h ≤ i + 1 → Packed (length s) p w (h + 1)
     text_packed h le =
         let room : (h + 1) * w ≤ (i + 2) * w = mul-le-mul_right w (omega arith) in
@@ -174,6 +182,12 @@ module _ {a b : List ℕ} {k l i j d w p q : ℕ} (r : Sides a b k l i j 1 (suc 
 
 -- variable-size: the offsets of both rows, and the texts between them
 module _ {a b : List ℕ} {k l i j d t s : ℕ} {u v : Numbers} (r : Sides a b k l i j 1 (suc d)) (y : TextPair a b k l u v t s) where
+  pub left_nth : (h : ℕ) → h ≤ i + 1 → Nth u.place u.width h
+  left_nth = text_nth r.left y.offsets.left y.offsets.layout
+
+  pub right_nth : (h : ℕ) → h ≤ j + 1 → Nth v.place v.width h
+  right_nth = text_nth r.right y.offsets.right (right_layout r y.offsets)
+
   pub left_packed : (h : ℕ) → h ≤ i + 1 → Packed (length u.bytes.now) u.place u.width (h + 1)
   left_packed = rw y.left_bytes (text_packed r.left y.offsets.left y.offsets.layout)
 

@@ -39,7 +39,7 @@ use Rattle.accepted.proofs.Nodes.{part_small, layout_is}
 use Rattle.equal.proofs.Buffers.{element_from, size_from, dense_from}
 use Rattle.equal.proofs.Child.{widths_same, layout_right}
 use Rattle.equal.proofs.Rows.{rows_none, rows_more, rows_fail, rows_done, one_row, rows_jump, rows_jump_fail, rows_rest}
-use Rattle.equal.proofs.Dictionaries.{left_key, right_key, key_nodes, key_requires, key_answer, key_small, key_same, kept_none, kept_equal, kept_more}
+use Rattle.equal.proofs.Dictionaries.{left_key, right_key, key_nodes, key_requires, key_answer, key_small, key_same, small_keys, kept_none, kept_equal, kept_more}
 use Rattle.equal.proofs.Nulls.{range_once, sides_left, sides_right, range_none, range_sides, range_rows, range_masks, range_requires, range_answer, null_more, valid_requires, valid_more, valid_fail, masked_answer}
 use mathlib.Core.List.{[], ◌∷◌}
 use Rattle.image.specs.declared.type_code.Layout.TheVariants.{FixedWidth, View, Null, Boolean, VariableSize, List as Lists, ListView, FixedList, Struct, DenseUnion, SparseUnion, Dictionary, Runs}
@@ -249,7 +249,7 @@ dictionary::long_equal-loop-row-preserved t c =
           (kept_more c.loop-row.invariant.0 _ _ (sym (one_row _ _ _ _) ∙ sym same ∙ w.if-not-equal_row.false), rows_more c.loop-row.invariant.1 c.loop-row-test.true (sym (key_answer c.requires.parts c.requires.layout c.loop-row.row c.loop-row-test.true (add-zero _) (add-zero _) (left_key c.new-keys.ensures c.at-x.ensures) (right_key c.new-keys.ensures (widths_same c.requires.parts) c.at-x.ensures)) ∙ sym same ∙ w.if-not-equal_row.false))
       | dictionary::long_equal-else-ne w ↦
           rw w.kept-is
-          (c.loop-row.invariant.0, rows_more c.loop-row.invariant.1 c.loop-row-test.true (sym (key_same c.requires.parts c.requires.layout c.loop-row.row c.loop-row-test.true (add-zero _) (add-zero _) (left_key c.new-keys.ensures c.at-x.ensures) (right_key c.new-keys.ensures (widths_same c.requires.parts) c.at-x.ensures)) ∙ kept_equal c.loop-row.invariant.0 _ _ (key_small c.requires.parts c.requires.layout c.loop-row.row c.loop-row-test.true (add-zero _) (add-zero _) (left_key c.new-keys.ensures c.at-x.ensures) (right_key c.new-keys.ensures (widths_same c.requires.parts) c.at-x.ensures)).0 c.ne.ensures w.if-ne.false))
+          (c.loop-row.invariant.0, rows_more c.loop-row.invariant.1 c.loop-row-test.true (sym (key_same c.requires.parts c.requires.layout c.loop-row.row c.loop-row-test.true (add-zero _) (add-zero _) (left_key c.new-keys.ensures c.at-x.ensures) (right_key c.new-keys.ensures (widths_same c.requires.parts) c.at-x.ensures)) ∙ kept_equal c.loop-row.invariant.0 _ _ (small_keys _ _ (key_small c.requires.parts c.requires.layout c.loop-row.row c.loop-row-test.true (add-zero _) (add-zero _) (left_key c.new-keys.ensures c.at-x.ensures) (right_key c.new-keys.ensures (widths_same c.requires.parts) c.at-x.ensures)).0) c.ne.ensures w.if-ne.false))
     ]
 
 pub fixed_list::equal-equal_range-requires : goal.fixed_list::equal-equal_range-requires
